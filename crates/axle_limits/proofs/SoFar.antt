@@ -1,0 +1,60 @@
+-- The worst group so far, one group more.
+use Rattle.std.proofs.Common.{◌≡◌, ℕ, ◌+◌, ◌-◌, ◌*◌, ◌<◌, ◌≤◌, ◌⊎◌, List, length, Bool, true, false, cond, ◌&&◌, arith, inl, inr, leb, ltb}
+use Rattle.std.proofs.lemmas.Bool.{cases_lt}
+use Rattle.axle_train.specs.declared.axle.Axle.{Axle}
+use Rattle.axle_train.specs.Trains.{group_weight, spread}
+use Rattle.bridge_formula.specs.Formula.{formula_limit}
+use Rattle.axle_limits.specs.declared.group.GroupLimit.{GroupLimit}
+use Rattle.axle_limits.specs.declared.group.Rule.TheVariants.{Single, Tandem, Formula, TwoTandem}
+use Rattle.axle_limits.specs.declared.worst.WorstGroup.{WorstGroup}
+use Rattle.axle_limits.specs.Limits.{limit_of, is_two_tandem}
+use Rattle.axle_limits.specs.Worst.{IsGroup, IsNoWorse, IsWorstSoFar}
+
+chosen_some : (a b c : Bool) (f : ℕ) → 0 < f → 0 < (cond {A = GroupLimit} a (record { limit = 20000; rule = Single }) (cond b (record { limit = 34000; rule = Tandem }) (cond c (record { limit = 68000; rule = TwoTandem }) (record { limit = f; rule = Formula })))).limit
+chosen_some true b c f h = omega arith
+chosen_some false true c f h = omega arith
+chosen_some false false true f h = omega arith
+chosen_some false false false f h = h
+
+-- every limit is above 0
+pub limit_some : (axles : List Axle) (i j : ℕ) → 0 < limit_of axles i j
+limit_some axles i j = chosen_some (leb (spread axles i j) 40) (leb (spread axles i j) 96) (is_two_tandem axles i j && ltb (formula_limit (spread axles i j) (j - i + 1)) 68000) (formula_limit (spread axles i j) (j - i + 1)) (omega arith)
+
+no_worse_self : (axles : List Axle) (i j : ℕ) (next result : WorstGroup) → IsGroup axles next → next.i ≡ i → next.j ≡ j → next.weight * result.limit ≤ result.weight * next.limit → IsNoWorse axles i j result
+no_worse_self axles i j next result g ei ej met = rw (← ei, ← ej, ← g.weight_is, ← g.limit_is) met
+
+-- the same group stays
+stays : (axles : List Axle) (i j : ℕ) (best : WorstGroup) → IsWorstSoFar axles i j best → IsNoWorse axles i j best → IsWorstSoFar axles i (j + 1) best
+stays axles i j best s here = record {
+  is_group = s.is_group;
+  rows = s.rows;
+  row = λ b h k. elim (cases_lt b j) [ inl before ↦ s.row b h before | inr same ↦ (let e : j ≡ b = omega arith in rw e at here) ];
+  first_row = s.first_row;
+  first_in_row = s.first_in_row;
+}
+
+-- the next group takes its place
+takes : (axles : List Axle) (i j : ℕ) (best next : WorstGroup) → IsWorstSoFar axles i j best → IsGroup axles next → next.i ≡ i → next.j ≡ j → ((w l : ℕ) → w * best.limit ≤ best.weight * l → w * next.limit ≤ next.weight * l) → IsNoWorse axles i j next → ((w l : ℕ) → 0 < l → w * best.limit ≤ best.weight * l → w * next.limit < next.weight * l) → IsWorstSoFar axles i (j + 1) next
+takes axles i j best next s g ei ej kept here strict = record {
+  is_group = g;
+  rows = λ a b h k m. kept (group_weight axles a b) (limit_of axles a b) (s.rows a b h k m);
+  row = λ b h k. elim (cases_lt b j) [ inl before ↦ kept (group_weight axles i b) (limit_of axles i b) (s.row b h before) | inr same ↦ (let e : j ≡ b = omega arith in rw e at here) ];
+  first_row = λ a b h k m. strict (group_weight axles a b) (limit_of axles a b) (limit_some axles a b) (s.rows a b (omega arith) k m);
+  first_in_row = λ b h k. rw ei (strict (group_weight axles i b) (limit_of axles i b) (limit_some axles i b) (s.row b (omega arith) (omega arith)));
+}
+
+pub so_far_more : (axles : List Axle) (i j : ℕ) (best next result : WorstGroup) → IsWorstSoFar axles i j best → IsGroup axles next → next.i ≡ i → next.j ≡ j → ((w l : ℕ) → w * best.limit ≤ best.weight * l → w * result.limit ≤ result.weight * l) → next.weight * result.limit ≤ result.weight * next.limit → (result ≡ best) ⊎ ((result ≡ next) × ((w l : ℕ) → 0 < l → w * best.limit ≤ best.weight * l → w * next.limit < next.weight * l)) → IsWorstSoFar axles i (j + 1) result
+so_far_more axles i j best next result s g ei ej kept met (inl e) =
+    rw e (stays axles i j best s (rw e at (no_worse_self axles i j next result g ei ej met)))
+so_far_more axles i j best next result s g ei ej kept met (inr e) =
+    rw e.0 (takes axles i j best next s g ei ej (rw e.0 at kept) (rw e.0 at (no_worse_self axles i j next result g ei ej met)) e.1)
+
+-- a whole row
+pub so_far_row : (axles : List Axle) (i j : ℕ) (best : WorstGroup) → IsWorstSoFar axles i j best → length axles ≤ j → IsWorstSoFar axles (i + 1) (i + 1) best
+so_far_row axles i j best s h = record {
+  is_group = s.is_group;
+  rows = λ a b k m n. elim (cases_lt a i) [ inl before ↦ s.rows a b before m n | inr same ↦ (let e : i ≡ a = omega arith in rw e at (s.row b (omega arith) (omega arith))) ];
+  row = λ b k m. absurd (omega arith);
+  first_row = s.first_row;
+  first_in_row = s.first_in_row;
+}

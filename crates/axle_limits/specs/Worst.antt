@@ -1,0 +1,38 @@
+-- The group with the greatest weight over its limit.
+use Rattle.std.specs.Prelude.{◌≡◌, ℕ, ◌*◌, ◌<◌, ◌≤◌, List, length}
+use Rattle.axle_train.specs.declared.axle.Axle.{Axle}
+use Rattle.axle_train.specs.Trains.{group_weight}
+use Rattle.axle_limits.specs.Limits.{limit_of}
+use Rattle.axle_limits.specs.declared.worst.WorstGroup.{WorstGroup}
+
+-- a group with its weight and limit
+pub record IsGroup (axles : List Axle) (g : WorstGroup) : Type 0 where
+  pub ordered : g.i ≤ g.j
+  pub within : g.j < length axles
+  pub weight_is : g.weight ≡ group_weight axles g.i g.j
+  pub limit_is : g.limit ≡ limit_of axles g.i g.j
+  pub some : 0 < g.limit
+  pub light : g.weight ≤ 2000000
+  pub small : g.limit ≤ 2000000
+
+-- a group's weight over its limit is at most this one's, and below it
+abbrev pub IsNoWorse : List Axle → ℕ → ℕ → WorstGroup → Type 0
+IsNoWorse axles a b g = group_weight axles a b * g.limit ≤ g.weight * limit_of axles a b
+
+abbrev pub IsBetter : List Axle → ℕ → ℕ → WorstGroup → Type 0
+IsBetter axles a b g = group_weight axles a b * g.limit < g.weight * limit_of axles a b
+
+-- the first of the groups before (i, j) that none of these is worse than
+pub record IsWorstSoFar (axles : List Axle) (i j : ℕ) (g : WorstGroup) : Type 0 where
+  pub is_group : IsGroup axles g
+  pub rows : (a b : ℕ) → a < i → a ≤ b → b < length axles → IsNoWorse axles a b g
+  pub row : (b : ℕ) → i ≤ b → b < j → IsNoWorse axles i b g
+  pub first_row : (a b : ℕ) → a < g.i → a ≤ b → b < length axles → IsBetter axles a b g
+  pub first_in_row : (b : ℕ) → g.i ≤ b → b < g.j → IsBetter axles g.i b g
+
+-- the first group that no group is worse than
+pub record IsWorst (axles : List Axle) (g : WorstGroup) : Type 0 where
+  pub is_group : IsGroup axles g
+  pub greatest : (a b : ℕ) → a ≤ b → b < length axles → IsNoWorse axles a b g
+  pub first_row : (a b : ℕ) → a < g.i → a ≤ b → b < length axles → IsBetter axles a b g
+  pub first_in_row : (b : ℕ) → g.i ≤ b → b < g.j → IsBetter axles g.i b g

@@ -1,0 +1,6 @@
+pub mod Totals
+pub mod Lines
+pub mod Sections
+pub mod Lowest
+pub mod Products
+pub mod Unique

@@ -1,0 +1,10 @@
+pub mod Vertex
+pub mod Runs
+pub mod Spans
+pub mod Bound
+pub mod Cross
+pub mod SumsLemmas
+pub mod Best
+pub mod Leads
+pub mod Small
+pub mod Scale

@@ -1,0 +1,60 @@
+-- The vertices: where each axle stands when its moment under a run's loads alone is greatest.
+use Rattle.std.specs.Prelude.{◌≡◌, ℕ, ◌+◌, ◌*◌, ◌<◌, ◌≤◌, List, sum_by, pos, ◌+ℤ◌, ◌*ℤ◌}
+use Rattle.std.specs.Int.{IsGcd}
+use Rattle.axle_train.specs.declared.axle.Axle.{Axle}
+use Rattle.axle_train.specs.Trains.{axle_at}
+use Rattle.influence_line.specs.Placed.{moment_sum, placed}
+use Rattle.influence_line.specs.declared.placing.Place.{Place}
+use Rattle.moment_peak.specs.Runs.{run, run_weight, IsRun}
+
+-- weight times place, summed over the run
+abbrev pub run_moment : List Axle → ℕ → ℕ → ℕ
+run_moment axles first last = sum_by (λ a. a.weight * a.place) (run axles first last)
+
+-- the place of the vertex; it counts where its section is on the span
+pub record IsVertex (axles : List Axle) (span k first last : ℕ) (at : Place) : Type 0 where
+  pub is_run : IsRun axles k first last
+  pub scale : at.q ≡ 2 * run_weight axles first last
+  pub section : at.section + run_moment axles first last ≡ run_weight axles first last * span + run_weight axles first last * (axle_at axles k).place
+  pub lead : at.lead +ℤ pos (run_moment axles first last + run_weight axles first last * (axle_at axles k).place) ≡ pos (run_weight axles first last * span)
+  pub on : at.section ≤ at.q * span
+
+-- the true moment there is num/den
+abbrev pub Reaches : List Axle → ℕ → ℕ → ℕ → Place → Type 0
+Reaches axles span num den at = moment_sum (at.q * span) at.section (placed at.q at.lead axles) * den ≡ num * (at.q * at.q * span)
+
+abbrev pub Misses : List Axle → ℕ → ℕ → ℕ → ℕ → ℕ → ℕ → Type 0
+Misses axles span num den k first last = (at : Place) → IsVertex axles span k first last at → Reaches axles span num den at → ⊥
+
+-- the first vertex, by axle, first and last, whose true moment is num/den
+pub record IsFirstReached (axles : List Axle) (span num den k first last : ℕ) (at : Place) : Type 0 where
+  pub vertex : IsVertex axles span k first last at
+  pub reaches : Reaches axles span num den at
+  pub no_last : (l : ℕ) → l < last → Misses axles span num den k first l
+  pub no_first : (f l : ℕ) → f < first → Misses axles span num den k f l
+  pub no_axle : (i f l : ℕ) → i < k → Misses axles span num den i f l
+
+-- the same place at the coarsest scale: its three numbers over their greatest common divisor
+pub record IsLowestPlace (whole small : Place) : Type 0 where
+  pub divisor : ℕ
+  pub some : 1 ≤ divisor
+  pub scale : whole.q ≡ divisor * small.q
+  pub section : whole.section ≡ divisor * small.section
+  pub lead : whole.lead ≡ pos divisor *ℤ small.lead
+  pub coprime : IsGcd small.section small.q 1
+
+-- the place of the first vertex that reaches num/den
+pub record IsFirstPlace (axles : List Axle) (span num den k first last : ℕ) (place : Place) : Type 0 where
+  pub whole : Place
+  pub is_first : IsFirstReached axles span num den k first last whole
+  pub lowest : IsLowestPlace whole place
+  pub reaches : Reaches axles span num den place
+
+-- some vertex's true moment is num/den
+pub record IsReachedByVertex (axles : List Axle) (span num den : ℕ) : Type 0 where
+  pub k : ℕ
+  pub first : ℕ
+  pub last : ℕ
+  pub at : Place
+  pub vertex : IsVertex axles span k first last at
+  pub reaches : Reaches axles span num den at
