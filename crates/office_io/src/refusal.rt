@@ -1,0 +1,13 @@
+// Refusals that many calls share.
+
+use thiserror::Error;
+
+/// No memory was left for a call. It may come from every call that allocates, and from no other.
+#[derive(Clone, Copy, Debug, Drop, PartialEq, Eq, Error)]
+#[error("out of memory")]
+pub struct NoMemory;
+
+/// A source or a sink failed in this call. Its count of faults rose.
+#[derive(Clone, Copy, Debug, Drop, PartialEq, Eq, Error)]
+#[error("the outside failed")]
+pub struct Failed;
