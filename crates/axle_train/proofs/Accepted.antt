@@ -10,24 +10,24 @@ use Rattle.axle_train.specs.Refusals.{rise_fault, place_fault, weight_fault, wei
 use Rattle.axle_train.proofs.Places.{place_ordered}
 
 -- a choice that gives nothing went the first way
-chosen : {X : Type 0} (b : Bool) (r : Option X) (x : X) → cond b r (Some x) ≡ None → (b ≡ true) × (r ≡ None)
+pub chosen : {X : Type 0} (b : Bool) (r : Option X) (x : X) → cond b r (Some x) ≡ None → (b ≡ true) × (r ≡ None)
 chosen true r x h = (refl, h)
 chosen false r x h = cc
 
-not_chosen : {X : Type 0} (b : Bool) (r : Option X) (x : X) → cond b (Some x) r ≡ None → (b ≡ false) × (r ≡ None)
+pub not_chosen : {X : Type 0} (b : Bool) (r : Option X) (x : X) → cond b (Some x) r ≡ None → (b ≡ false) × (r ≡ None)
 not_chosen true r x h = cc
 not_chosen false r x h = (refl, h)
 
-in_range : (w : ℕ) → (leb 1 w && leb w 200000) ≡ true → (1 ≤ w) × (w ≤ 200000)
+pub in_range : (w : ℕ) → (leb 1 w && leb w 200000) ≡ true → (1 ≤ w) × (w ≤ 200000)
 in_range w h = grind (arith, nat_tests)
 
-at_least : (m n : ℕ) → leb m n ≡ true → m ≤ n
+pub at_least : (m n : ℕ) → leb m n ≡ true → m ≤ n
 at_least m n h = grind (arith, nat_tests)
 
-at_most : (m n : ℕ) → ltb m n ≡ false → n ≤ m
+pub at_most : (m n : ℕ) → ltb m n ≡ false → n ≤ m
 at_most m n h = grind (arith, nat_tests)
 
-is_zero : (n : ℕ) → eqb n 0 ≡ true → n ≡ 0
+pub is_zero : (n : ℕ) → eqb n 0 ≡ true → n ≡ 0
 is_zero n h = grind (arith, nat_tests)
 
 -- each weight is in range
@@ -46,11 +46,11 @@ less_first : (axles : List Axle) (least m : ℕ) → RisesFrom least axles → m
 less_first [] least m h k = tt
 less_first (a ∷ rest) least m h k = (omega (arith, h.0), h.1)
 
-begins : (axles : List Axle) → place_fault axles ≡ None → BeginsAtZero axles
+pub begins : (axles : List Axle) → place_fault axles ≡ None → BeginsAtZero axles
 begins [] h = tt
 begins (a ∷ rest) h = is_zero a.place (chosen (eqb a.place 0) (rise_fault 1 1 rest) 0 h).0
 
-rises_all : (axles : List Axle) → place_fault axles ≡ None → RisesFrom 0 axles
+pub rises_all : (axles : List Axle) → place_fault axles ≡ None → RisesFrom 0 axles
 rises_all [] h = tt
 rises_all (a ∷ rest) h =
     let c = chosen (eqb a.place 0) (rise_fault 1 1 rest) 0 h in

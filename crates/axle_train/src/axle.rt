@@ -1,6 +1,6 @@
 // One axle of a truck.
 
-/// One axle: inches behind the first one, and pounds.
+/// One axle: its place in inches behind the first axle, and its weight in pounds.
 #[derive(Clone, Copy, Debug, PartialEq, Eq)]
 pub struct Axle {
     pub place: u32,

@@ -1,19 +1,10 @@
-use Rattle.std.proofs.Common.{◌+◌, ◌-◌, arith}
-use Rattle.axle_train.proofs.Places.{group_more, group_light}
+use Rattle.axle_train.proofs.Weights.{group-difference}
 use Rattle.axle_train.proofs.train.Train.group_weight.Goals as goal
 
-pub overflow_add-total : goal.overflow_add-total
-overflow_add-total c =
-    let more = group_more c.args.self.now c.args.i c.loop-k.k (omega arith) (omega arith) in
-    let light = group_light c.args.self.now c.args.i (c.loop-k.k + 1 - c.args.i) in
-    grind arith
+pub overflow_sub-result : goal.overflow_sub-result
+overflow_sub-result c =
+    (group-difference c.args.self.now c.self.inside.before c.args.i c.args.j (rw c.self.view_is at c.self.invariant.2) c.requires.ordered c.requires.within).0
 
-pub loop-k-preserved : goal.loop-k-preserved
-loop-k-preserved c =
-    let more = group_more c.args.self.now c.args.i c.loop-k.k (omega arith) (omega arith) in
-    grind arith
-
-pub returns-clause-few : goal.returns-clause-few
-returns-clause-few c =
-    let light = group_light c.args.self.now c.args.i (c.loop-k.k - c.args.i) in
-    grind arith
+pub returns-clause-value : goal.returns-clause-value
+returns-clause-value c =
+    (group-difference c.args.self.now c.self.inside.before c.args.i c.args.j (rw c.self.view_is at c.self.invariant.2) c.requires.ordered c.requires.within).1
