@@ -4,3 +4,5 @@ pub mod Sections
 pub mod Lowest
 pub mod Products
 pub mod Unique
+pub mod Moves
+pub mod ReactionLines

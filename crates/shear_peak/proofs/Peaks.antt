@@ -9,7 +9,7 @@ use Rattle.influence_line.specs.Reactions.{reaction_sum}
 use Rattle.influence_line.specs.Peaks.{IsPeakShear, IsTrainPlaced}
 use Rattle.influence_line.specs.declared.placing.End.{End}
 use Rattle.influence_line.specs.declared.placing.End.TheVariants.{Left, Right}
-use Rattle.shear_peak.specs.Ends.{lead_to, reaction_to, IsFirstBest, IsFirstReach}
+use Rattle.shear_peak.specs.Ends.{lead_to, reaction_to, IsFirstBest, IsFirstToReach}
 use Rattle.shear_peak.proofs.Supports.{below_some_axle}
 
 scaled : (r q rk value num den span : ℕ) → r ≤ q * rk → rk ≤ value → num * span ≡ value * den → 0 < span → r * den ≤ num * (q * span)
@@ -30,7 +30,7 @@ below_misses : (r value num den span : ℕ) → r < value → num * span ≡ val
 below_misses r value num den span h e p k =
     let same : r ≡ value = eq_of_mul-eq-mul_right den p r value (k ∙ e) in omega arith
 
-pub is_first : (span : ℕ) (axles : List Axle) (end : End) (lead : ℤ) (k value num den : ℕ) → IsFirstBest axles span end k value → lead ≡ lead_to span end (axle_at axles k).place → num * span ≡ value * den → 1 ≤ den → (end ≡ Right → (i : ℕ) → i < length axles → reaction_to axles span Left i < value) → IsFirstReach axles span end lead num den
+pub is_first : (span : ℕ) (axles : List Axle) (end : End) (lead : ℤ) (k value num den : ℕ) → IsFirstBest axles span end k value → lead ≡ lead_to span end (axle_at axles k).place → num * span ≡ value * den → 1 ≤ den → (end ≡ Right → (i : ℕ) → i < length axles → reaction_to axles span Left i < value) → IsFirstToReach axles span end lead num den
 is_first span axles end lead k value num den best l e p left = record {
   k = k;
   within = best.within;

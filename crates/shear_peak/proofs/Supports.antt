@@ -3,8 +3,6 @@ use Rattle.std.proofs.Common.{◌≡◌, ℕ, zero, suc, ◌+◌, ◌-◌, ◌*�
 use Rattle.std.proofs.Math.Nat.{mul-le-mul_left, mul-sub}
 use Rattle.std.proofs.lemmas.Int.{ints}
 use Rattle.std.proofs.lemmas.Bool.{cases_lt}
-use Rattle.std.proofs.lemmas.Bool.Decides.{nat_tests}
-use Rattle.std.proofs.lemmas.List.Recursion.{is_sum_by}
 use Rattle.std.specs.List.{AllByRecursion}
 use Rattle.axle_train.specs.declared.axle.Axle.{Axle}
 use Rattle.axle_train.specs.Bounds.{RisesFrom}
@@ -13,28 +11,14 @@ use Rattle.influence_line.specs.Placed.{left_line, right_line, Load, placed}
 use Rattle.influence_line.specs.Reactions.{reaction_line, reaction_sum}
 use Rattle.influence_line.specs.declared.placing.End.{End}
 use Rattle.influence_line.specs.declared.placing.End.TheVariants.{Left, Right}
+use Rattle.influence_line.proofs.Totals.{total, total_is}
+use Rattle.influence_line.proofs.ReactionLines.{left_on, left_before, right_on, right_le, right_past, either_side}
 use Rattle.shear_peak.specs.Ends.{lead_to, reaction_to}
-
-pub left_on : (n x : ℕ) → left_line n (pos x) ≡ n - x
-left_on n x = elim (cases_lt n x) [ inl h ↦ (let e : n - x ≡ 0 = omega arith in rw e (grind (arith, nat_tests))) | inr h ↦ grind (arith, nat_tests) ]
-
-pub right_on : (n x : ℕ) → x ≤ n → right_line n (pos x) ≡ x
-right_on n x h = grind (arith, nat_tests)
-
-right_off : (n x : ℕ) → n < x → right_line n (pos x) ≡ 0
-right_off n x h = grind (arith, nat_tests)
-
-pub right_le : (n x : ℕ) → right_line n (pos x) ≤ x
-right_le n x = elim (cases_lt n x) [ inl h ↦ rw (right_off n x h) (omega arith) | inr h ↦ rw (right_on n x h) (omega arith) ]
 
 -- a load at x, no nearer to the left support than q times t
 left_less : (q n t : ℕ) (x : ℤ) → pos (q * t) ≤ℤ x → left_line (q * n) x ≤ q * left_line n (pos t)
 left_less q n t (pos x) h = rw (left_on (q * n) x, left_on n t, mul-sub) (omega (arith, ints, h))
 left_less q n t (negsuc x) h = omega arith
-
-pub left_before : (n : ℕ) (x : ℤ) → x <ℤ pos 0 → left_line n x ≡ 0
-left_before n (pos x) h = absurd (omega (arith, ints, h))
-left_before n (negsuc x) h = refl
 
 -- a load at x, no further than q times t before the right support
 right_less : (q n t : ℕ) (x : ℤ) → (x +ℤ pos (q * t)) ≤ℤ pos (q * n) → right_line (q * n) x ≤ q * right_line n (pos n -ℤ pos t)
@@ -49,16 +33,8 @@ right_less q n t (pos x) h =
           rw (at, right_on n (n - t) (omega arith), mul-sub) (omega (arith, ints, h, right_le (q * n) x))
     ]
 
-pub right_past : (n : ℕ) (x : ℤ) → pos n <ℤ x → right_line n x ≡ 0
-right_past n (pos x) h = right_off n x (omega (arith, ints, h))
-right_past n (negsuc x) h = refl
-
 abbrev at : ℕ → ℤ → Axle → ℤ
 at q lead a = lead +ℤ pos (q * a.place)
-
-pub either_side : (z : ℤ) (m : ℕ) → (z <ℤ pos m) ⊎ (pos m ≤ℤ z)
-either_side (pos x) m = elim (cases_lt x m) [ inl h ↦ inl (omega (arith, ints)) | inr h ↦ inr (omega (arith, ints)) ]
-either_side (negsuc x) m = inl (omega (arith, ints))
 
 -- the first axle at or right of the left support
 record FirstOn (q : ℕ) (lead : ℤ) (axles : List Axle) : Type 0 where
@@ -109,13 +85,8 @@ last_on q n least lead (a ∷ rest) rises =
       ]
     ]
 
--- sums by the recursion
-abbrev total : {X : Type 0} → (X → ℕ) → List X → ℕ
-total f [] = 0
-total f (x ∷ rest) = f x + total f rest
-
 reaction_is : (n : ℕ) (end : End) (loads : List Load) → total (λ (l : Load). l.weight * reaction_line n end l.at) loads ≡ reaction_sum n end loads
-reaction_is n end loads = is_sum_by (total (λ (l : Load). l.weight * reaction_line n end l.at)) (λ (l : Load). l.weight * reaction_line n end l.at) refl (λ _ _. refl) loads
+reaction_is n end loads = total_is (λ (l : Load). l.weight * reaction_line n end l.at) loads
 
 apart : (q a b : ℕ) → b ≤ a → q * a ≡ q * b + q * (a - b)
 apart q a b h = let e : a ≡ b + (a - b) = omega arith in omega (arith, ap (λ t. q * t) e)
