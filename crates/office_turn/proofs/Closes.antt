@@ -58,12 +58,12 @@ module _ {V E T : Type 0} (caller : E → ℕ) (story : V → List E) (terms : V
   pub closes : (s : Whole) (r : Rule s) (seat : Seat (Option V) Known) → get_elem? s.views seat.id ≡ some seat.me.0 → seat.me.0.is_spent ≡ false → seat.me.0.is_root ≡ true → length seat.me.0.receipts ≡ seat.me.0.admitted
       → (x : V) × (get_elem? s.homes 0 ≡ some (some (Some x))) × Accounts caller story terms (rooted seat) x
   closes s r seat at live root all_in = let v : Known = seat.me.0 in let id : ℕ = seat.id in let f = r.fits id v at live in let is_root = f.root root in
-      let alone : (j : ℕ) (u : Known) → get_elem? s.views j ≡ some u → j ≢ id → u.is_spent ≡ false → ⊥ = λ j u there far alive. absurd (omega (arith, two_live s.views j id u v far there at alive live, r.places, r.tally, ap {B = ℕ} length is_root.3, is_root.2, all_in)) in
+      let alone : (j : ℕ) (u : Known) → get_elem? s.views j ≡ some u → j ≢ id → u.is_spent ≡ false → ⊥ = λ j u there far alive. absurd (omega (arith, two_live s.views j id u v far there at alive live, r.numbers.places, r.numbers.tally, ap {B = ℕ} length is_root.3, is_root.2, all_in)) in
       let home : r.moment.home ≡ true = bool_cases r.moment.home (λ e. e) (λ away. let o = r.out away in let g = r.fits o.0 o.1 o.2 o.4 in absurd (alone o.0 o.1 o.2
       (λ e. some_not_none r.moment.serving (sym (g.looked o.3).0 ∙ (ap (λ (z : Known). z.ticket) (sym (one_at s.views id o.0 v o.1 at o.2 (sym e))) ∙ is_root.1))) o.4)) in
       let t = r.at_home home in let x : V = t.0 in
-      let served : r.moment.serving ≡ r.moment.next = dite (ℕ_discrete r.moment.serving r.moment.next) (λ e. e) (λ ne. let low = r.ordered in let h = r.waiting r.moment.serving (omega arith) (omega arith) in
-      absurd (bool_cases h.1.is_spent (λ e. some_not_none r.moment.serving (sym h.3 ∙ (r.blank h.0 h.1 h.2 e).0))
+      let served : r.moment.serving ≡ r.moment.next = dite (ℕ_discrete r.moment.serving r.moment.next) (λ e. e) (λ ne. let low = r.tickets.ordered in let h = r.tickets.waiting r.moment.serving (omega arith) (omega arith) in
+      absurd (bool_cases h.1.is_spent (λ e. some_not_none r.moment.serving (sym h.3 ∙ (r.numbers.blank h.0 h.1 h.2 e).0))
       (λ e. alone h.0 h.1 h.2 (λ same. some_not_none r.moment.serving (sym h.3 ∙ (ap (λ (z : Known). z.ticket) (sym (one_at s.views id h.0 v h.1 at h.2 (sym same))) ∙ is_root.1))) e))) in
       let same_receipts : (i : ℕ) (y : Receipt E) → get_elem? v.receipts i ≡ some y → get_elem? r.moment.receipts i ≡ some y = λ i y there. ap (λ l. get_elem? l i) (sym is_root.3) ∙ there in
       let low : (k : ℕ) (e : E) → get_elem? (story x) k ≡ some e → caller e < r.moment.admitted = λ k e there.
@@ -76,9 +76,9 @@ module _ {V E T : Type 0} (caller : E → ℕ) (story : V → List E) (terms : V
           own = all_of (λ y. entries_of caller y.number (story x) ≡ y.own) v.receipts (λ i y there. ap (entries_of caller y.number) t.3 ∙ sym (r.receipts i y (same_receipts i y there)).own);
           callers = all_of (λ e. caller e < v.admitted) (story x) (λ k e there. omega (arith, low k e there, is_root.2));
           others = all_of (λ e. Any (λ y. caller e ≡ y.number) v.receipts) (story x) (λ k e there.
-              let u = some_at s.views (caller e + 1) (omega (arith, r.places, low k e there)) in
+              let u = some_at s.views (caller e + 1) (omega (arith, r.numbers.places, low k e there)) in
               let gone : u.0.is_spent ≡ true = bool_cases u.0.is_spent (λ e. e) (λ alive. absurd (alone (caller e + 1) u.0 u.1 (λ same. absurd (omega (arith, is_root.0))) alive)) in
-              let h = r.heard (caller e + 1) u.0 u.1 gone in any_of (λ y. caller e ≡ y.number) v.receipts h.0 h.1 (ap (λ l. get_elem? l h.0) is_root.3 ∙ h.2) (omega (arith, h.3)));
+              let h = r.numbers.heard (caller e + 1) u.0 u.1 gone in any_of (λ y. caller e ≡ y.number) v.receipts h.0 h.1 (ap (λ l. get_elem? l h.0) is_root.3 ∙ h.2) (omega (arith, h.3)));
           worn = all_of (λ y. y.worn ≡ true → length (story x) ≡ v.most) v.receipts (λ i y there is_worn. ap {B = ℕ} length t.3 ∙ (r.count ∙ (served ∙ ((r.receipts i y (same_receipts i y there)).worn is_worn ∙ sym f.most))));
         },
       )

@@ -1,5 +1,5 @@
 -- A look at the next ticket keeps the rule.
-use Rattle.std.proofs.Common.{◌≡◌, ℕ, ◌+◌, ◌<◌, ◌≤◌, true, false, List, Option, Some, set, sym, refl, ap, ◌∙◌, subst, arith, length-set}
+use Rattle.std.proofs.Common.{◌≡◌, ℕ, false, List, Option, set, sym, refl, ap, ◌∙◌, subst, arith}
 use mathlib.Core.Option.{none, some}
 use mathlib.Core.Logic.{dite}
 use native.Mathlib.Decide.{ℕ_discrete}
@@ -7,12 +7,11 @@ use lib.ListN.{get_elem?}
 use Rattle.atomic_table.specs.Table.{State, Me, step, keeps, Allows}
 use Rattle.atomic_table.proofs.Lists.{set_here, set_else}
 use Rattle.office_turn.specs.declared.view.View.{View}
-use Rattle.office_turn.specs.declared.view.Receipt.{Receipt}
-use Rattle.office_turn.specs.Rule.{Turned, Fits, IsBlank}
+use Rattle.office_turn.specs.Rule.{Turned, Fits}
 use Rattle.office_turn.specs.Steps.{with_worn, counted}
-use Rattle.office_turn.proofs.Cases.{false_not_true, bool_cases}
+use Rattle.office_turn.proofs.Cases.{bool_cases}
 use Rattle.office_turn.proofs.Places.{one_at, within}
-use Rattle.office_turn.proofs.Seats.{seats_stay, still_has, still_once, still_gone, same_tally}
+use Rattle.office_turn.proofs.Seats.{seats_stay, tickets_stay, numbers_stay}
 use Rattle.office_turn.proofs.Unmoved.{next, next_is, unmoved}
 use lib.Seq.{set-get_or}
 
@@ -37,25 +36,19 @@ module _ {V E T : Type 0} (caller : E → ℕ) (story : V → List E) (terms : V
     slots = r.slots;
     terms_are = r.terms_are;
     most_is = r.most_is;
-    ordered = r.ordered;
     bounded = r.bounded;
+    tickets = tickets_stay _ _ s.views me v w at refl r.tickets;
     count = r.count;
-    drawn = λ j u k. seats_stay (λ j u. u.ticket ≡ Some k → (r.moment.serving ≤ k) × (k < r.moment.next)) s.views me w (r.drawn me v k at) (λ j u _ there. r.drawn j u k there) j u;
-    once = still_once s.views me w r.once (λ j u k other there a b. other (r.once j me u v k there at b a));
-    waiting = λ k low high. still_has s.views me v w k at (λ e. e) near (r.waiting k low high);
     at_home = r.at_home;
     out = λ away. let o = r.out away in dite (ℕ_discrete o.0 me)
         (λ e. let same = one_at s.views me o.0 v o.1 at o.2 (sym e) in (me, w, set_here s.views me w near, ap (λ (x : Known). x.looked) same ∙ o.3, live))
         (λ ne. (o.0, o.1, set_else s.views me o.0 w ne ∙ o.2, o.3, o.4));
-    places = length-set s.views me w ∙ r.places;
     fits = seats_stay (λ j u. u.is_spent ≡ false → Fits caller r.moment j u) s.views me w
-        (λ _. record { terms = f.terms; most = f.most; seen = f.seen; passed_over = f.passed_over; root = f.root; number = f.number; own = f.own; looked = f.looked; worn = λ _. full }) (λ j u _. r.fits j u);
-    blank = seats_stay (λ j u. u.is_spent ≡ true → IsBlank u) s.views me w (r.blank me v at) (λ j u _. r.blank j u);
-    unheard = r.unheard;
+        (λ _. record { terms = f.terms; most = f.most; seen = f.seen; passed_over = f.passed_over; root = f.root; number = f.number; own = f.own; looked = f.looked; worn = λ _. full })
+        (λ j u _. r.fits j u);
     receipts = r.receipts;
-    gone = still_gone s.views me v w r.moment.receipts at live r.gone;
-    heard = seats_stay (λ j u. u.is_spent ≡ true → (i : ℕ) × (y : Receipt E) × (get_elem? r.moment.receipts i ≡ some y) × (j ≡ y.number + 1)) s.views me w (λ e. absurd (false_not_true (sym live ∙ e))) (λ j u _. r.heard j u);
-    tally = r.tally ∙ sym (same_tally s.views me v w at live live);
+    unheard = r.unheard;
+    numbers = numbers_stay _ _ s.views me v w at live live r.numbers;
   }
 
   pub counts : (slots id : ℕ) (m : Mine) → m.0.is_spent ≡ false → Allows Rule slots id m 0 (λ x. x) (counted (step slots 0 0 0 none) m)

@@ -1,5 +1,5 @@
 -- A look at the ticket now served keeps the rule, and takes the slot where that is the seat's own.
-use Rattle.std.proofs.Common.{◌≡◌, ℕ, ◌+◌, ◌<◌, ◌≤◌, true, false, List, [], Option, Some, length, append-nil, set, sym, refl, ap, ◌∙◌, subst, arith, length-set}
+use Rattle.std.proofs.Common.{◌≡◌, ℕ, true, false, List, [], Option, Some, length, append-nil, set, sym, refl, ap, ◌∙◌, subst, arith, length-set}
 use mathlib.Core.Option.{none, some}
 use mathlib.Core.Logic.{dite}
 use native.Mathlib.Decide.{ℕ_discrete}
@@ -7,13 +7,12 @@ use lib.ListN.{get_elem?}
 use Rattle.atomic_table.specs.Table.{State, Me, step, keeps, takes, Allows}
 use Rattle.atomic_table.proofs.Lists.{set_here}
 use Rattle.office_turn.specs.declared.view.View.{View}
-use Rattle.office_turn.specs.declared.view.Receipt.{Receipt}
-use Rattle.office_turn.specs.Rule.{Turned, Moment, Fits, IsBlank}
+use Rattle.office_turn.specs.Rule.{Turned, Moment, Fits}
 use Rattle.office_turn.specs.Story.{entries_of}
 use Rattle.office_turn.specs.Steps.{with_story, looked}
 use Rattle.office_turn.proofs.Cases.{false_not_true, bool_cases, some_same, some_not_none}
 use Rattle.office_turn.proofs.Places.{one_at, within}
-use Rattle.office_turn.proofs.Seats.{seats_stay, still_has, still_once, still_gone, same_tally}
+use Rattle.office_turn.proofs.Seats.{seats_stay, tickets_stay, numbers_stay}
 use Rattle.office_turn.proofs.Unmoved.{serving, serving_is, unmoved}
 use lib.Seq.{set-get_or}
 
@@ -37,7 +36,7 @@ module _ {V E T : Type 0} (caller : E → ℕ) (story : V → List E) (terms : V
   -- where the seat has the served ticket and has not looked, the value is at home
   is_home : (s : Whole) (r : Rule s) (me : ℕ) (v : Known) → get_elem? s.views me ≡ some v → v.ticket ≡ Some r.moment.serving → v.looked ≡ false → r.moment.home ≡ true
   is_home s r me v at mine unlooked = bool_cases r.moment.home (λ e. e) (λ away. let o = r.out away in let g = r.fits o.0 o.1 o.2 o.4 in
-      let same = one_at s.views me o.0 v o.1 at o.2 (r.once me o.0 v o.1 r.moment.serving at o.2 mine (g.looked o.3).0) in
+      let same = one_at s.views me o.0 v o.1 at o.2 (r.tickets.once me o.0 v o.1 r.moment.serving at o.2 mine (g.looked o.3).0) in
       absurd (false_not_true (sym unlooked ∙ (ap (λ (y : Known). y.looked) same ∙ o.3))))
 
   takes_home : (s : Whole) (r : Rule s) (me : ℕ) (v : Known) → get_elem? s.views me ≡ some v → v.is_spent ≡ false → v.ticket ≡ Some r.moment.serving → v.looked ≡ false
@@ -49,24 +48,17 @@ module _ {V E T : Type 0} (caller : E → ℕ) (story : V → List E) (terms : V
     slots = length-set s.homes 0 none ∙ r.slots;
     terms_are = r.terms_are;
     most_is = r.most_is;
-    ordered = r.ordered;
     bounded = r.bounded;
+    tickets = tickets_stay _ _ s.views me v w at refl r.tickets;
     count = r.count;
-    drawn = λ j u k. seats_stay (λ j u. u.ticket ≡ Some k → (r.moment.serving ≤ k) × (k < r.moment.next)) s.views me w (r.drawn me v k at) (λ j u _ there. r.drawn j u k there) j u;
-    once = still_once s.views me w r.once (λ j u k other there a b. other (r.once j me u v k there at b a));
-    waiting = λ k low high. still_has s.views me v w k at (λ e. e) near (r.waiting k low high);
     at_home = λ e. absurd (false_not_true e);
     out = λ _. (me, w, set_here s.views me w near, refl, live);
-    places = length-set s.views me w ∙ r.places;
     fits = seats_stay (λ j u. u.is_spent ≡ false → Fits caller (away_moment r.moment) j u) s.views me w
         (λ _. record { terms = f.terms; most = f.most; seen = ([], sym tells ∙ sym (append-nil (story x))); passed_over = f.passed_over; root = λ e. absurd (some_not_none r.moment.serving (sym mine ∙ (f.root e).1)); number = f.number; own = f.own; looked = λ _. (mine, tells, refl); worn = f.worn })
         (λ j u _ there live. let g = r.fits j u there live in record { terms = g.terms; most = g.most; seen = g.seen; passed_over = g.passed_over; root = g.root; number = g.number; own = g.own; looked = λ e. absurd (false_not_true (sym (g.looked e).2 ∙ home)); worn = g.worn });
-    blank = seats_stay (λ j u. u.is_spent ≡ true → IsBlank u) s.views me w (λ e. absurd (false_not_true (sym live ∙ e))) (λ j u _. r.blank j u);
-    unheard = r.unheard;
     receipts = λ i y there. let g = r.receipts i y there in record { number = g.number; own = g.own; worn = g.worn };
-    gone = still_gone s.views me v w r.moment.receipts at live r.gone;
-    heard = seats_stay (λ j u. u.is_spent ≡ true → (i : ℕ) × (y : Receipt E) × (get_elem? r.moment.receipts i ≡ some y) × (j ≡ y.number + 1)) s.views me w (λ e. absurd (false_not_true (sym live ∙ e))) (λ j u _. r.heard j u);
-    tally = r.tally ∙ sym (same_tally s.views me v w at live live);
+    unheard = r.unheard;
+    numbers = numbers_stay _ _ s.views me v w at live live r.numbers;
   }
 
   pub looks : (slots id : ℕ) (m : Mine) (k : ℕ) → m.0.is_spent ≡ false → m.0.is_root ≡ false → m.0.ticket ≡ Some k → m.0.looked ≡ false
@@ -74,7 +66,7 @@ module _ {V E T : Type 0} (caller : E → ℕ) (story : V → List E) (terms : V
   looks slots id m k live pass mine unlooked s r _ at _ = let f = r.fits id m.0 at live in let now = serving_is caller story terms first most s r in
       dite (ℕ_discrete ((serving caller story terms first most s)) k)
       (λ hit. let here : m.0.ticket ≡ Some r.moment.serving = mine ∙ ap (λ (y : ℕ). Some y) (sym hit ∙ now) in let home = is_home s r id m.0 at here unlooked in let t = r.at_home home in let x : V = t.0 in
-      let range = r.drawn id m.0 k at mine in (
+      let range = r.tickets.drawn id m.0 k at mine in (
         with_story m.0 (story x),
         takes 0 (Some x),
         t.1,

@@ -1,16 +1,16 @@
 -- The views after one of them changes or one more comes.
-use Rattle.std.proofs.Common.{◌≡◌, ℕ, zero, suc, ◌+◌, ◌<◌, ◌≤◌, ◌≢◌, true, false, List, [], ◌∷◌, ◌++◌, Some, None, length, set, sym, refl, ap, ◌∙◌, subst, ⊎_elim, arith, length-set}
+use Rattle.std.proofs.Common.{◌≡◌, ℕ, zero, suc, ◌+◌, ◌<◌, ◌≤◌, ◌≢◌, true, false, List, [], ◌∷◌, ◌++◌, Some, None, length, length-append, set, sym, refl, ap, ◌∙◌, subst, ⊎_elim, arith, length-set}
 use mathlib.Core.Option.{some, some-injective, some-ne-none}
 use mathlib.Core.Logic.{dite}
 use native.Mathlib.Decide.{ℕ_discrete}
 use lib.ListN.{get_elem?}
-use Rattle.atomic_table.proofs.Lists.{at_set, set_here, set_else}
+use Rattle.atomic_table.proofs.Lists.{at_set, set_here, set_else, at_longer}
 use Rattle.office_turn.specs.declared.view.View.{View}
 use Rattle.office_turn.specs.declared.view.Receipt.{Receipt}
-use Rattle.office_turn.specs.Rule.{spent_count, one_if}
+use Rattle.office_turn.specs.Rule.{Tickets, Numbers, IsBlank, spent_count, one_if}
 use Rattle.office_turn.specs.Steps.{spent}
 use Rattle.office_turn.proofs.Cases.{false_not_true, bool_cases, some_not_none}
-use Rattle.office_turn.proofs.Places.{one_at, at_end}
+use Rattle.office_turn.proofs.Places.{one_at, at_end, within}
 
 module _ {A : Type 0} where
   -- a property of each item, after one has changed
@@ -63,12 +63,53 @@ module _ {E T : Type 0} where
   tally-append [] w = omega arith
   tally-append (x ∷ xs) w = omega (arith, tally-append xs w)
 
-  abbrev pub Gone : List (View E T) → List (Receipt E) → Type 0
+  -- a seat that keeps its ticket keeps what is said of the tickets
+  pub tickets_stay : (serving next : ℕ) (vs : List (View E T)) (me : ℕ) (v w : View E T) → get_elem? vs me ≡ some v → v.ticket ≡ w.ticket → Tickets serving next vs → Tickets serving next (set vs me w)
+  tickets_stay serving next vs me v w at same t = record {
+    ordered = t.ordered;
+    drawn = λ j u k. seats_stay (λ j u. u.ticket ≡ Some k → (serving ≤ k) × (k < next)) vs me w (λ e. t.drawn me v k at (same ∙ e)) (λ j u _ there. t.drawn j u k there) j u;
+    once = still_once vs me w t.once (λ j u k other there a b. other (t.once j me u v k there at b (same ∙ a)));
+    waiting = λ k low high. still_has vs me v w k at (λ e. sym same ∙ e) (within vs me v at) (t.waiting k low high);
+  }
+
+  -- so does one more seat that has no ticket
+  pub tickets_more : (serving next : ℕ) (vs : List (View E T)) (w : View E T) → w.ticket ≡ None → Tickets serving next vs → Tickets serving next (vs ++ w ∷ [])
+  tickets_more serving next vs w none_yet t = record {
+    ordered = t.ordered;
+    drawn = λ j u k. seats_more (λ j u. u.ticket ≡ Some k → (serving ≤ k) × (k < next)) vs w (λ a. absurd (some_not_none k (sym a ∙ none_yet))) (λ j u there. t.drawn j u k there) j u;
+    once = once_more vs w none_yet t.once;
+    waiting = λ k low high. let h = t.waiting k low high in (h.0, h.1, at_longer vs (w ∷ []) h.0 h.1 h.2, h.3);
+  }
+
+  abbrev Gone : List (View E T) → List (Receipt E) → Type 0
   Gone vs rs = (i : ℕ) (r : Receipt E) → get_elem? rs i ≡ some r → (v : View E T) × (get_elem? vs (r.number + 1) ≡ some v) × (v.is_spent ≡ true)
+
+  abbrev Heard : List (Receipt E) → ℕ → View E T → Type 0
+  Heard rs j v = v.is_spent ≡ true → (i : ℕ) × (r : Receipt E) × (get_elem? rs i ≡ some r) × (j ≡ r.number + 1)
 
   pub still_gone : (vs : List (View E T)) (me : ℕ) (v w : View E T) (rs : List (Receipt E)) → get_elem? vs me ≡ some v → v.is_spent ≡ false → Gone vs rs → Gone (set vs me w) rs
   still_gone vs me v w rs at live gone i r there = let g = gone i r there in
       (g.0, set_else vs me (r.number + 1) w (λ e. false_not_true (sym live ∙ (ap (λ (y : View E T). y.is_spent) (one_at vs me (r.number + 1) v g.0 at g.1 (sym e)) ∙ g.2))) ∙ g.1, g.2)
+
+  -- a seat that is not spent keeps what is said of the numbers
+  pub numbers_stay : (n : ℕ) (rs : List (Receipt E)) (vs : List (View E T)) (me : ℕ) (v w : View E T) → get_elem? vs me ≡ some v → v.is_spent ≡ false → w.is_spent ≡ false → Numbers n rs vs → Numbers n rs (set vs me w)
+  numbers_stay n rs vs me v w at live still t = record {
+    places = length-set vs me w ∙ t.places;
+    blank = seats_stay (λ j u. u.is_spent ≡ true → IsBlank u) vs me w (λ e. absurd (false_not_true (sym still ∙ e))) (λ j u _. t.blank j u);
+    gone = still_gone vs me v w rs at live t.gone;
+    heard = seats_stay (Heard rs) vs me w (λ e. absurd (false_not_true (sym still ∙ e))) (λ j u _. t.heard j u);
+    tally = t.tally ∙ sym (same_tally vs me v w at live still);
+  }
+
+  -- one more seat that is not spent has the next number
+  pub numbers_more : (n : ℕ) (rs : List (Receipt E)) (vs : List (View E T)) (w : View E T) → w.is_spent ≡ false → Numbers n rs vs → Numbers (n + 1) rs (vs ++ w ∷ [])
+  numbers_more n rs vs w live t = record {
+    places = length-append vs (w ∷ []) ∙ ap (λ (k : ℕ). k + 1) t.places;
+    blank = seats_more (λ j u. u.is_spent ≡ true → IsBlank u) vs w (λ e. absurd (false_not_true (sym live ∙ e))) t.blank;
+    gone = λ i y there. let g = t.gone i y there in (g.0, at_longer vs (w ∷ []) (y.number + 1) g.0 g.1, g.2);
+    heard = seats_more (Heard rs) vs w (λ e. absurd (false_not_true (sym live ∙ e))) t.heard;
+    tally = let none : one_if w.is_spent ≡ 0 = ap one_if live in omega (arith, t.tally, tally-append vs w, none);
+  }
 
   pub spent-le : (vs : List (View E T)) → spent_count vs ≤ length vs
   spent-le [] = omega arith

@@ -28,24 +28,28 @@ module _ {V E T : Type 0} (caller : E → ℕ) (story : V → List E) (terms : V
     slots = refl;
     terms_are = refl;
     most_is = refl;
-    ordered = omega arith;
     bounded = omega arith;
+    tickets = record {
+      ordered = omega arith;
+      drawn = λ j u k at a. absurd (some_not_none k (sym a ∙ only j u at (λ z. z.ticket ≡ None) refl));
+      once = λ i j u w k at there a b. absurd (some_not_none k (sym a ∙ only i u at (λ z. z.ticket ≡ None) refl));
+      waiting = λ k low high. absurd (omega arith);
+    };
     count = refl;
-    drawn = λ j u k at a. absurd (some_not_none k (sym a ∙ only j u at (λ z. z.ticket ≡ None) refl));
-    once = λ i j u w k at there a b. absurd (some_not_none k (sym a ∙ only i u at (λ z. z.ticket ≡ None) refl));
-    waiting = λ k low high. absurd (omega arith);
     at_home = λ _. (x, refl, same, empty);
     out = λ away. absurd (true≢false away);
-    places = refl;
     fits = seats_more (λ j u. u.is_spent ≡ false → Fits caller (record { next = 0; serving = 0; history = []; admitted = 0; receipts = []; home = true; terms = first; most = most }) j u) [] v
         (λ _. record { terms = refl; most = refl; seen = ([], refl); passed_over = ([], refl); root = λ _. (refl, refl, refl, refl); number = λ e. absurd (true≢false e); own = λ e. absurd (true≢false e); looked = λ e. absurd (false_not_true e); worn = λ e. absurd (false_not_true e) })
         (λ j u at. absurd (some-ne-none u (sym at)));
-    blank = λ j u at e. absurd (false_not_true (sym (only j u at (λ z. z.is_spent ≡ false) refl) ∙ e));
-    unheard = λ n _. refl;
     receipts = λ i r at. absurd (some-ne-none r (sym at));
-    gone = λ i r at. absurd (some-ne-none r (sym at));
-    heard = λ j u at e. absurd (false_not_true (sym (only j u at (λ z. z.is_spent ≡ false) refl) ∙ e));
-    tally = refl;
+    unheard = λ n _. refl;
+    numbers = record {
+      places = refl;
+      blank = λ j u at e. absurd (false_not_true (sym (only j u at (λ z. z.is_spent ≡ false) refl) ∙ e));
+      gone = λ i r at. absurd (some-ne-none r (sym at));
+      heard = λ j u at e. absurd (false_not_true (sym (only j u at (λ z. z.is_spent ≡ false) refl) ∙ e));
+      tally = refl;
+    };
   }
     where
       only : (j : ℕ) (u : Known) → get_elem? (opening_view first most ∷ []) j ≡ some u → (P : Known → Type 0) → P (opening_view first most) → P u

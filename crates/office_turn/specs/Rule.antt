@@ -56,6 +56,21 @@ abbrev pub spent_count : {E T : Type 0} → List (View E T) → ℕ
 spent_count [] = 0
 spent_count (v ∷ vs) = one_if v.is_spent + spent_count vs
 
+-- one: now serving is at most next ticket, each ticket from the one to the other is in exactly one view, and no view has another
+pub record Tickets {E T : Type 0} (serving next : ℕ) (views : List (View E T)) : Type 0 where
+  pub ordered : serving ≤ next
+  pub drawn : (j : ℕ) (v : View E T) (k : ℕ) → get_elem? views j ≡ some v → v.ticket ≡ Some k → (serving ≤ k) × (k < next)
+  pub once : (i j : ℕ) (v w : View E T) (k : ℕ) → get_elem? views i ≡ some v → get_elem? views j ≡ some w → v.ticket ≡ Some k → w.ticket ≡ Some k → i ≡ j
+  pub waiting : (k : ℕ) → serving ≤ k → k < next → (j : ℕ) × (v : View E T) × (get_elem? views j ≡ some v) × (v.ticket ≡ Some k)
+
+-- six: each number below the count of passes admitted is that of one view that is not spent, or of one receipt, and there are as many receipts as spent views
+pub record Numbers {E T : Type 0} (admitted : ℕ) (receipts : List (Receipt E)) (views : List (View E T)) : Type 0 where
+  pub places : length views ≡ admitted + 1
+  pub blank : (j : ℕ) (v : View E T) → get_elem? views j ≡ some v → v.is_spent ≡ true → IsBlank v
+  pub gone : (i : ℕ) (r : Receipt E) → get_elem? receipts i ≡ some r → (v : View E T) × (get_elem? views (r.number + 1) ≡ some v) × (v.is_spent ≡ true)
+  pub heard : (j : ℕ) (v : View E T) → get_elem? views j ≡ some v → v.is_spent ≡ true → (i : ℕ) × (r : Receipt E) × (get_elem? receipts i ≡ some r) × (j ≡ r.number + 1)
+  pub tally : length receipts ≡ spent_count views
+
 -- the rule: the table is as it is at some moment
 pub record Turned {V E T : Type 0} (caller : E → ℕ) (story : V → List E) (terms : V → T) (first : T) (most : ℕ) (s : State (Option V) (View E T)) : Type 0 where
   pub moment : Moment E T
@@ -63,12 +78,9 @@ pub record Turned {V E T : Type 0} (caller : E → ℕ) (story : V → List E) (
   pub slots : length s.homes ≡ 1
   pub terms_are : moment.terms ≡ first
   pub most_is : moment.most ≡ most
-  -- one: now serving is at most next ticket, which is at most `most`. Each ticket from the one to the other is in exactly one view, and no view has another.
-  pub ordered : moment.serving ≤ moment.next
+  -- one, with next ticket at most `most`
   pub bounded : moment.next ≤ most
-  pub drawn : (j : ℕ) (v : View E T) (k : ℕ) → get_elem? s.views j ≡ some v → v.ticket ≡ Some k → (moment.serving ≤ k) × (k < moment.next)
-  pub once : (i j : ℕ) (v w : View E T) (k : ℕ) → get_elem? s.views i ≡ some v → get_elem? s.views j ≡ some w → v.ticket ≡ Some k → w.ticket ≡ Some k → i ≡ j
-  pub waiting : (k : ℕ) → moment.serving ≤ k → k < moment.next → (j : ℕ) × (v : View E T) × (get_elem? s.views j ≡ some v) × (v.ticket ≡ Some k)
+  pub tickets : Tickets moment.serving moment.next s.views
   -- two: at home the slot has a value with the terms of the start, whose story is the history. The history has as many entries as now serving.
   pub count : length moment.history ≡ moment.serving
   pub at_home : moment.home ≡ true → (x : V) × (get_elem? s.homes 0 ≡ some (some (Some x))) × (terms x ≡ first) × (story x ≡ moment.history)
@@ -76,14 +88,10 @@ pub record Turned {V E T : Type 0} (caller : E → ℕ) (story : V → List E) (
   pub out : moment.home ≡ false → (j : ℕ) × (v : View E T) × (get_elem? s.views j ≡ some v) × (v.looked ≡ true) × (v.is_spent ≡ false)
   -- four and five: what the views and the receipts say. Numbers from the count of passes admitted on have no entries.
   pub fits : (j : ℕ) (v : View E T) → get_elem? s.views j ≡ some v → v.is_spent ≡ false → Fits caller moment j v
-  pub blank : (j : ℕ) (v : View E T) → get_elem? s.views j ≡ some v → v.is_spent ≡ true → IsBlank v
   pub receipts : (i : ℕ) (r : Receipt E) → get_elem? moment.receipts i ≡ some r → FitsReceipt caller moment r
   pub unheard : (n : ℕ) → moment.admitted ≤ n → entries_of caller n moment.history ≡ []
-  -- six: each number below that count is that of one view that is not spent, or of one receipt, and there are as many receipts as spent views
-  pub places : length s.views ≡ moment.admitted + 1
-  pub gone : (i : ℕ) (r : Receipt E) → get_elem? moment.receipts i ≡ some r → (v : View E T) × (get_elem? s.views (r.number + 1) ≡ some v) × (v.is_spent ≡ true)
-  pub heard : (j : ℕ) (v : View E T) → get_elem? s.views j ≡ some v → v.is_spent ≡ true → (i : ℕ) × (r : Receipt E) × (get_elem? moment.receipts i ≡ some r) × (j ≡ r.number + 1)
-  pub tally : length moment.receipts ≡ spent_count s.views
+  -- six
+  pub numbers : Numbers moment.admitted moment.receipts s.views
 
 -- the view of the first seat, which is the root's
 abbrev pub opening_view : {E T : Type 0} → T → ℕ → View E T
