@@ -1,0 +1,14 @@
+pub mod Cases
+pub mod Places
+pub mod Fronts
+pub mod Entries
+pub mod Seats
+pub mod Unmoved
+pub mod Counts
+pub mod Draws
+pub mod Looks
+pub mod Passes
+pub mod Admits
+pub mod Receives
+pub mod Starts
+pub mod Closes
