@@ -2,3 +2,5 @@ pub mod Rows
 pub mod Reading
 pub mod Blanks
 pub mod Numbers
+pub mod Words
+pub mod Lines

@@ -1,3 +1,5 @@
 pub mod Fields
 pub mod Loads
 pub mod Checks
+pub mod Reports
+pub mod Runs

@@ -1,14 +1,35 @@
-//! The permit office's program.
+//! The permit office's program: it reads records from standard input, and writes a report to standard output.
 #![tactic(auto)]
 
 mod check_file;
 mod fields;
 mod load;
 mod refusal;
+mod report;
+mod run;
 
+use office_io::{StdSink, StdSource};
+use run::{Alone, run_alone};
 use std::process::ExitCode;
+use std::{env, io};
 
 fn main(rt: HostRuntime) -> ExitCode {
-    let _ = check_file::read_check(rt.alloc(), b"");
-    ExitCode::from(7)
+    let Ok(words) = words_of(&rt) else {
+        return ExitCode::from(7);
+    };
+    let mut source = StdSource::new(rt.stdin());
+    let mut sink = StdSink::new(rt.stdout());
+    let Alone::Status(status) = run_alone(&rt, words.as_slice(), &mut source, &mut sink);
+    ExitCode::from(status)
+}
+
+// The words of the command line, without the program's name.
+fn words_of(rt: &HostRuntime) -> io::Result<Vec<String>> {
+    let mut words = Vec::new(rt.alloc());
+    for (i, word) in env::args(rt)?.enumerate() {
+        if i > 0 {
+            words.push(word)?;
+        }
+    }
+    Ok(words)
 }

@@ -1,0 +1,107 @@
+// The text that `check` writes.
+
+ghost use Rattle.std.specs.Prelude.{◌≡◌, ◌++◌, ◌==◌, IfOk, OnOk, codes, length};
+ghost use Rattle.std.specs.List.{flat_map};
+ghost use Rattle.std.specs.String.{string_bytes};
+ghost use Rattle.axle_limits.specs.Findings.{findings_of};
+ghost use Rattle.permit_cli.specs.Reports.{high_line, is_legal, legal_line, over_line, rule_name, truck_line, truck_text, wide_line};
+
+use crate::check_file::{CheckFile, Truck};
+use crate::load::Load;
+use axle_limits::{Finding, Rule, findings};
+use std::alloc::{AllocError, Global};
+
+/// The report on a truck.
+pub fn report(alloc: Global, file: &CheckFile) -> Result<String, AllocError>
+    ensures { IfOk result (λ text. string_bytes text ≡ truck_text file.now.truck) }
+{
+    let load = &file.truck.load;
+    let found = findings(alloc, load.train())?;
+    let mut text = String::new(alloc);
+    add_truck(&mut text, &file.truck)?;
+    add_findings(&mut text, found.as_slice())?;
+    add_height(&mut text, load)?;
+    add_width(&mut text, load)?;
+    add_legality(&mut text, load, found.is_empty())?;
+    Ok(text)
+}
+
+// What the truck is.
+fn add_truck(text: &mut String, truck: &Truck) -> Result<(), AllocError>
+    ensures { OnOk result (string_bytes text.new ≡ string_bytes text.old ++ truck_line truck.now) }
+{
+    let name = truck.name;
+    let train = truck.load.train();
+    let axles = train.len();
+    let gross = train.gross();
+    write!(text, "truck {name} axles {axles} gross {gross}\n")
+}
+
+// Each group over its limit, and the gross weight where it is over its own.
+fn add_findings(text: &mut String, found: &[Finding]) -> Result<(), AllocError>
+    ensures { OnOk result (string_bytes text.new ≡ string_bytes text.old ++ flat_map over_line found.now) }
+{
+    for finding in found {
+        add_finding(text, finding)?;
+    }
+    Ok(())
+}
+
+// One finding, with axles counted from 1.
+fn add_finding(text: &mut String, finding: &Finding) -> Result<(), AllocError>
+    ensures { OnOk result (string_bytes text.new ≡ string_bytes text.old ++ over_line finding.now) }
+{
+    let first = finding.i as u128 + 1;
+    let last = finding.j as u128 + 1;
+    let weight = finding.weight;
+    let limit = finding.limit;
+    let rule = rule_name(finding.rule);
+    write!(text, "over {first}-{last} {weight} {limit} {rule}\n")
+}
+
+// The name of a rule.
+fn rule_name(rule: Rule) -> &'static str
+    ensures { result.now ≡ rule_name rule }
+{
+    match rule {
+        Rule::Single => "single",
+        Rule::Tandem => "tandem",
+        Rule::Formula => "formula",
+        Rule::TwoTandem => "two-tandem",
+        Rule::Gross => "gross",
+    }
+}
+
+// The height, where it is over its limit.
+fn add_height(text: &mut String, load: &Load) -> Result<(), AllocError>
+    ensures { OnOk result (string_bytes text.new ≡ string_bytes text.old ++ high_line load.now) }
+{
+    let height = load.height();
+    if height > 162 {
+        return write!(text, "high {height} 162\n");
+    }
+    Ok(())
+}
+
+// The width, where it is over its limit.
+fn add_width(text: &mut String, load: &Load) -> Result<(), AllocError>
+    ensures { OnOk result (string_bytes text.new ≡ string_bytes text.old ++ wide_line load.now) }
+{
+    let width = load.width();
+    if width > 102 {
+        return write!(text, "wide {width} 102\n");
+    }
+    Ok(())
+}
+
+// Whether the load is legal.
+fn add_legality(text: &mut String, load: &Load, is_light: bool) -> Result<(), AllocError>
+    requires { is_light ≡ (length (findings_of load.now.train) == 0) }
+    ensures { OnOk result (string_bytes text.new ≡ string_bytes text.old ++ legal_line load.now) }
+{
+    if is_light && load.height() <= 162 && load.width() <= 102 {
+        text.push_str("legal yes\n")
+    } else {
+        text.push_str("legal no\n")
+    }
+}
