@@ -1,16 +1,15 @@
 -- The worst group so far, one group more.
-use Rattle.std.proofs.Common.{◌≡◌, ℕ, ◌+◌, ◌-◌, ◌*◌, ◌<◌, ◌≤◌, ◌⊎◌, List, length, Bool, true, false, cond, ◌&&◌, arith, inl, inr, leb, ltb}
+use Rattle.std.proofs.Common.{◌≡◌, ℕ, ◌+◌, ◌-◌, ◌*◌, ◌<◌, ◌≤◌, ◌⊎◌, List, length, Bool, true, false, ◌&&◌, arith, inl, inr, leb, ltb}
 use Rattle.std.proofs.lemmas.Bool.{cases_lt}
 use Rattle.axle_train.specs.declared.axle.Axle.{Axle}
 use Rattle.axle_train.specs.Trains.{group_weight, spread}
 use Rattle.bridge_formula.specs.Formula.{formula_limit}
-use Rattle.axle_limits.specs.declared.group.GroupLimit.{GroupLimit}
-use Rattle.axle_limits.specs.declared.group.Rule.TheVariants.{Single, Tandem, Formula, TwoTandem}
-use Rattle.axle_limits.specs.declared.worst.WorstGroup.{WorstGroup}
+use Rattle.axle_limits.specs.declared.worst_group.WorstGroup.{WorstGroup}
 use Rattle.axle_limits.specs.Limits.{limit_of, is_two_tandem}
+use Rattle.axle_limits.proofs.OneLimit.{chosen}
 use Rattle.axle_limits.specs.Worst.{IsGroup, IsNoWorse, IsWorstSoFar}
 
-chosen_some : (a b c : Bool) (f : ℕ) → 0 < f → 0 < (cond {A = GroupLimit} a (record { limit = 20000; rule = Single }) (cond b (record { limit = 34000; rule = Tandem }) (cond c (record { limit = 68000; rule = TwoTandem }) (record { limit = f; rule = Formula })))).limit
+chosen_some : (a b c : Bool) (f : ℕ) → 0 < f → 0 < (chosen a b c f).limit
 chosen_some true b c f h = omega arith
 chosen_some false true c f h = omega arith
 chosen_some false false true f h = omega arith
@@ -18,7 +17,7 @@ chosen_some false false false f h = h
 
 -- every limit is above 0
 pub limit_some : (axles : List Axle) (i j : ℕ) → 0 < limit_of axles i j
-limit_some axles i j = chosen_some (leb (spread axles i j) 40) (leb (spread axles i j) 96) (is_two_tandem axles i j && ltb (formula_limit (spread axles i j) (j - i + 1)) 68000) (formula_limit (spread axles i j) (j - i + 1)) (omega arith)
+limit_some axles i j = chosen_some (leb (spread axles i j) 40) (leb (spread axles i j) 96) (ltb (formula_limit (spread axles i j) (j - i + 1)) 68000 && is_two_tandem axles i j) (formula_limit (spread axles i j) (j - i + 1)) (omega arith)
 
 no_worse_self : (axles : List Axle) (i j : ℕ) (next result : WorstGroup) → IsGroup axles next → next.i ≡ i → next.j ≡ j → next.weight * result.limit ≤ result.weight * next.limit → IsNoWorse axles i j result
 no_worse_self axles i j next result g ei ej met = rw (← ei, ← ej, ← g.weight_is, ← g.limit_is) met

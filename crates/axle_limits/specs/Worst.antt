@@ -3,7 +3,7 @@ use Rattle.std.specs.Prelude.{◌≡◌, ℕ, ◌*◌, ◌<◌, ◌≤◌, List,
 use Rattle.axle_train.specs.declared.axle.Axle.{Axle}
 use Rattle.axle_train.specs.Trains.{group_weight}
 use Rattle.axle_limits.specs.Limits.{limit_of}
-use Rattle.axle_limits.specs.declared.worst.WorstGroup.{WorstGroup}
+use Rattle.axle_limits.specs.declared.worst_group.WorstGroup.{WorstGroup}
 
 -- a group with its weight and limit
 pub record IsGroup (axles : List Axle) (g : WorstGroup) : Type 0 where
@@ -36,3 +36,8 @@ pub record IsWorst (axles : List Axle) (g : WorstGroup) : Type 0 where
   pub greatest : (a b : ℕ) → a ≤ b → b < length axles → IsNoWorse axles a b g
   pub first_row : (a b : ℕ) → a < g.i → a ≤ b → b < length axles → IsBetter axles a b g
   pub first_in_row : (b : ℕ) → g.i ≤ b → b < g.j → IsBetter axles g.i b g
+
+-- every group weighs at most `allowance` thousandths of its limit
+abbrev pub AllPass : List Axle → ℕ → Type 0
+AllPass axles allowance =
+    (i j : ℕ) → i ≤ j → j < length axles → 1000 * group_weight axles i j ≤ allowance * limit_of axles i j

@@ -1,0 +1,13 @@
+use Rattle.std.proofs.Common.{sym, subst, arith}
+use Rattle.axle_limits.specs.Findings.{AreFindings}
+use Rattle.axle_limits.proofs.Listing.{are_findings, none_iff_legal, all_rows}
+use Rattle.axle_limits.proofs.finding.findings.Goals as goal
+
+pub returns-clause-computed : goal.returns-clause-computed
+returns-clause-computed c = all_rows c.args.train.now c.loop-i.i c.loop-i.list.items c.add_gross.new.list.items (omega arith) (omega arith) c.loop-i.invariant c.in_ok-add_gross.ensures
+
+pub returns-clause-listed : goal.returns-clause-listed
+returns-clause-listed c = subst (AreFindings c.args.train.now) (sym (returns-clause-computed c)) (are_findings c.args.train.now)
+
+pub returns-clause-legal : goal.returns-clause-legal
+returns-clause-legal c = none_iff_legal c.args.train.now c.add_gross.new.list.items (returns-clause-listed c)

@@ -1,0 +1,83 @@
+// The groups over their limits.
+
+ghost use Rattle.std.specs.Prelude.{◌≡◌, ◌-◌, ◌<◌, ◌≤◌, ◌++◌, ◌↔◌, [], length, IfOk};
+ghost use Rattle.axle_limits.specs.Findings.{findings_of, finding_at, gross_finding, row_of, AreFindings, IsLegalByWeight};
+
+use crate::group::{Rule, group_limit};
+use axle_train::Train;
+use std::alloc::{AllocError, Global};
+
+/// A group of axles over its limit, from axle `i` to axle `j`, or the gross weight over its limit; both in pounds.
+#[derive(Clone, Copy, Debug, PartialEq, Eq)]
+pub struct Finding {
+    pub i: usize,
+    pub j: usize,
+    pub weight: u32,
+    pub limit: u32,
+    pub rule: Rule,
+}
+
+/// All groups over their limits, by their first axle and then by their last, and then the gross weight if it is over its own.
+///
+/// Answers an error only where there is no memory for the list.
+pub fn findings(alloc: Global, train: &Train) -> Result<Vec<Finding>, AllocError>
+    ensures listed { IfOk result (λ list. AreFindings train.now list.items) }
+    ensures legal { IfOk result (λ list. (list.items ≡ []) ↔ IsLegalByWeight train.now) }
+    ensures computed { IfOk result (λ list. list.items ≡ findings_of train.now) }
+{
+    let mut list = Vec::new(alloc);
+    for i in 0..train.len() {
+        add_row(train, i, &mut list)?;
+    }
+    add_gross(train, &mut list)?;
+    Ok(list)
+}
+
+/// Adds the groups over their limits that begin with axle `i`.
+fn add_row(train: &Train, i: usize, list: &mut Vec<Finding>) -> Result<(), AllocError>
+    requires within { i < length train.now }
+    ensures { IfOk result (λ _. list.new.items ≡ list.old.items ++ row_of train.now i (length train.now - i)) }
+{
+    for j in i..train.len() {
+        add_group(train, i, j, list)?;
+    }
+    Ok(())
+}
+
+/// Adds the group from `i` to `j`, where it is over its limit.
+fn add_group(train: &Train, i: usize, j: usize, list: &mut Vec<Finding>) -> Result<(), AllocError>
+    requires ordered { i ≤ j }
+    requires within { j < length train.now }
+    ensures { IfOk result (λ _. list.new.items ≡ list.old.items ++ finding_at train.now i j) }
+{
+    let weight = train.group_weight(i, j);
+    let limit = group_limit(train, i, j);
+    if weight > limit.limit {
+        list.push(Finding {
+            i,
+            j,
+            weight,
+            limit: limit.limit,
+            rule: limit.rule,
+        })?;
+    }
+    Ok(())
+}
+
+/// Adds the gross weight, where it is over its limit.
+fn add_gross(train: &Train, list: &mut Vec<Finding>) -> Result<(), AllocError>
+    ensures { IfOk result (λ _. list.new.items ≡ list.old.items ++ gross_finding train.now) }
+{
+    let len = train.len();
+    let gross = train.gross();
+    if gross > 80000 {
+        list.push(Finding {
+            i: 0,
+            j: len - 1,
+            weight: gross,
+            limit: 80000,
+            rule: Rule::Gross,
+        })?;
+    }
+    Ok(())
+}
