@@ -11,6 +11,10 @@ use Rattle.moment_peak.proofs.Vertex.{share_below}
 abbrev pub weight_of : Axle → ℕ
 weight_of a = a.weight
 
+-- weight times place
+abbrev pub moment_of : Axle → ℕ
+moment_of a = a.weight * a.place
+
 -- weight times distance of an axle that stands in front of a place, and of one behind it
 abbrev pub front_of : ℕ → Axle → ℕ
 front_of place a = a.weight * (place - a.place)
@@ -51,3 +55,12 @@ exact_of q r s place a on =
 pub exact_all : (q r s place : ℕ) (axles : List Axle) → AllByRecursion (IsOn q r s place) axles → total (under_of q r s place) axles + q * (total (front_of place) axles * s + total (back_of place) axles * r) ≡ total weight_of axles * (r * s)
 exact_all q r s place [] on = omega arith
 exact_all q r s place (a ∷ rest) on = omega (arith, exact_of q r s place a on.0, exact_all q r s place rest on.1)
+
+balance_one : (w p y : ℕ) → w * (p - y) + w * y ≡ w * (y - p) + w * p
+balance_one w p y =
+    let e : (p - y) + y ≡ (y - p) + p = omega arith in omega (arith, ap (λ t. w * t) e)
+
+-- the sums about a place, and about the first axle
+pub balance : (p : ℕ) (axles : List Axle) → total (front_of p) axles + total moment_of axles ≡ total (back_of p) axles + total weight_of axles * p
+balance p [] = omega arith
+balance p (a ∷ rest) = omega (arith, balance_one a.weight p a.place, balance p rest)

@@ -1,38 +1,45 @@
 -- The best run so far.
-use Rattle.std.specs.Prelude.{◌≡◌, ℕ, ◌*◌, ◌<◌, ◌≤◌, ◌^◌, ◌-◌, List, take, drop}
+use Rattle.std.specs.Prelude.{◌≡◌, ℕ, ◌+◌, ◌-◌, ◌*◌, ◌<◌, ◌≤◌, ◌^◌, List}
 use Rattle.axle_train.specs.declared.axle.Axle.{Axle}
-use Rattle.moment_peak.specs.declared.Candidate.{Candidate}
-use Rattle.moment_peak.specs.declared.Sums.{Sums}
-use Rattle.moment_peak.specs.Runs.{run_value, run_weight, IsRun, weight_in, front_in, back_in}
+use Rattle.moment_peak.specs.declared.best.Candidate.{Candidate}
+use Rattle.moment_peak.specs.declared.run.Run.{Run}
+use Rattle.moment_peak.specs.declared.run.Sums.{Sums}
+use Rattle.moment_peak.specs.Runs.{run_value, run_weight, IsRun, CanBeOnSpan}
+use Rattle.moment_peak.specs.Sweeps.{IsOnSpan}
+
+-- the value of a run by its sums and by those of the axles before the one at a place: the square of where that axle stands at its vertex, less four times the weight, the span and what the axles in front of it take off
+abbrev pub value_by_sums : ℕ → Sums → Sums → ℕ → ℕ
+value_by_sums span run before place =
+    (run.weight * (span + place) - run.moment) * (run.weight * (span + place) - run.moment) - 4 * (run.weight * span) * (before.weight * place - before.moment)
+
+-- the first of the axles of a run before end under which its value is greatest
+pub record IsBestAxle (span : ℕ) (axles : List Axle) (run : Run) (end : ℕ) (best : Candidate) : Type 0 where
+  pub same : best.run ≡ run
+  pub from : run.first ≤ best.axle
+  pub to : best.axle ≤ run.last
+  pub none : end ≡ run.first → (best.value ≡ 0) × (best.axle ≡ run.first)
+  pub value : run.first < end → best.value ≡ run_value span axles best.axle run.first run.last
+  pub greatest : (k : ℕ) → run.first ≤ k → k < end → run_value span axles k run.first run.last ≤ best.value
+  pub first : (k : ℕ) → run.first ≤ k → k < best.axle → run_value span axles k run.first run.last < best.value
+
+-- the candidate is the value of an axle and a run that can be on the span
+pub record IsAttained (span : ℕ) (axles : List Axle) (best : Candidate) : Type 0 where
+  pub on : IsOnSpan span axles best.run
+  pub from : best.run.first ≤ best.axle
+  pub to : best.axle ≤ best.run.last
+  pub value : best.value ≡ run_value span axles best.axle best.run.first best.run.last
+  pub some : 0 < best.value
+  pub loaded : 0 < best.run.sums.weight
+  pub small : best.value < 2 ^ 72
 
 -- its value over its weight is no more than the candidate's
 abbrev pub IsAtMost : ℕ → ℕ → Candidate → Type 0
-IsAtMost value weight best = value * best.weight ≤ best.value * weight
+IsAtMost value weight best = value * best.run.sums.weight ≤ best.value * weight
 
--- the candidate is the value of some run
-pub record IsAttained (span : ℕ) (axles : List Axle) (best : Candidate) : Type 0 where
-  pub k : ℕ
-  pub first : ℕ
-  pub last : ℕ
-  pub is_run : IsRun axles k first last
-  pub value : best.value ≡ run_value span axles k first last
-  pub weight : best.weight ≡ run_weight axles first last
-  pub some : 0 < best.value
-  pub loaded : 0 < best.weight
-  pub small : best.value < 2 ^ 72
-  pub light : best.weight ≤ 6400000
+-- so is each axle and run that can be on the span, where the sum of its first and last is below end
+abbrev pub IsBestBefore : ℕ → List Axle → ℕ → Candidate → Type 0
+IsBestBefore span axles end best = (k first last : ℕ) → IsRun axles k first last → CanBeOnSpan span axles first last → first + last < end → IsAtMost (run_value span axles k first last) (run_weight axles first last) best
 
--- the sums of the axles from first on and before end, about a place
-pub record AreSumsSoFar (axles : List Axle) (place first end : ℕ) (sums : Sums) : Type 0 where
-  pub short : end ≤ 32
-  pub weight : sums.weight ≡ weight_in (take (end - first) (drop first axles))
-  pub front : sums.front ≡ front_in place (take (end - first) (drop first axles))
-  pub back : sums.back ≡ back_in place (take (end - first) (drop first axles))
-  pub loaded : end - first ≤ sums.weight
-  pub light : sums.weight ≤ 200000 * end
-  pub front_small : sums.front ≤ 600000000 * end
-  pub back_small : sums.back ≤ 600000000 * end
-
--- all runs are at most the candidate
+-- all axles and runs that can be on the span are at most the candidate
 abbrev pub IsBest : ℕ → List Axle → Candidate → Type 0
-IsBest span axles best = (k first last : ℕ) → IsRun axles k first last → IsAtMost (run_value span axles k first last) (run_weight axles first last) best
+IsBest span axles best = (k first last : ℕ) → IsRun axles k first last → CanBeOnSpan span axles first last → IsAtMost (run_value span axles k first last) (run_weight axles first last) best

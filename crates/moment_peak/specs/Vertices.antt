@@ -1,17 +1,13 @@
--- The vertices: where each axle stands when its moment under a run's loads alone is greatest.
-use Rattle.std.specs.Prelude.{◌≡◌, ℕ, ◌+◌, ◌*◌, ◌<◌, ◌≤◌, List, sum_by, pos, ◌+ℤ◌, ◌*ℤ◌}
+-- The vertices: where each axle stands when its moment under a run's loads alone is greatest. The absolute maximum live moment of a train is reached at one of them (Hibbeler, Structural Analysis): there the middle of the span lies halfway between the axle and the centre of weight of the loads on the span.
+use Rattle.std.specs.Prelude.{◌≡◌, ℕ, ◌+◌, ◌*◌, ◌<◌, ◌≤◌, List, pos, ◌+ℤ◌, ◌*ℤ◌}
 use Rattle.std.specs.Int.{IsGcd}
 use Rattle.axle_train.specs.declared.axle.Axle.{Axle}
 use Rattle.axle_train.specs.Trains.{axle_at}
 use Rattle.influence_line.specs.Placed.{moment_sum, placed}
 use Rattle.influence_line.specs.declared.placing.Place.{Place}
-use Rattle.moment_peak.specs.Runs.{run, run_weight, IsRun}
+use Rattle.moment_peak.specs.Runs.{run_weight, run_moment, IsRun}
 
--- weight times place, summed over the run
-abbrev pub run_moment : List Axle → ℕ → ℕ → ℕ
-run_moment axles first last = sum_by (λ a. a.weight * a.place) (run axles first last)
-
--- the place of the vertex; it counts where its section is on the span
+-- the place of the vertex of axle k and the axles first to last; it counts where its section is on the span
 pub record IsVertex (axles : List Axle) (span k first last : ℕ) (at : Place) : Type 0 where
   pub is_run : IsRun axles k first last
   pub scale : at.q ≡ 2 * run_weight axles first last
@@ -19,14 +15,15 @@ pub record IsVertex (axles : List Axle) (span k first last : ℕ) (at : Place) :
   pub lead : at.lead +ℤ pos (run_moment axles first last + run_weight axles first last * (axle_at axles k).place) ≡ pos (run_weight axles first last * span)
   pub on : at.section ≤ at.q * span
 
--- the true moment there is num/den
+-- the true moment at a place, of all axles that are on the span there, is num/den
 abbrev pub Reaches : List Axle → ℕ → ℕ → ℕ → Place → Type 0
 Reaches axles span num den at = moment_sum (at.q * span) at.section (placed at.q at.lead axles) * den ≡ num * (at.q * at.q * span)
 
+-- the true moment at a vertex is another
 abbrev pub Misses : List Axle → ℕ → ℕ → ℕ → ℕ → ℕ → ℕ → Type 0
 Misses axles span num den k first last = (at : Place) → IsVertex axles span k first last at → Reaches axles span num den at → ⊥
 
--- the first vertex, by axle, first and last, whose true moment is num/den
+-- the first vertex, in the order of axle, first and last, whose true moment is num/den
 pub record IsFirstReached (axles : List Axle) (span num den k first last : ℕ) (at : Place) : Type 0 where
   pub vertex : IsVertex axles span k first last at
   pub reaches : Reaches axles span num den at
@@ -49,12 +46,3 @@ pub record IsFirstPlace (axles : List Axle) (span num den k first last : ℕ) (p
   pub is_first : IsFirstReached axles span num den k first last whole
   pub lowest : IsLowestPlace whole place
   pub reaches : Reaches axles span num den place
-
--- some vertex's true moment is num/den
-pub record IsReachedByVertex (axles : List Axle) (span num den : ℕ) : Type 0 where
-  pub k : ℕ
-  pub first : ℕ
-  pub last : ℕ
-  pub at : Place
-  pub vertex : IsVertex axles span k first last at
-  pub reaches : Reaches axles span num den at

@@ -1,0 +1,175 @@
+-- The best run's value is the peak moment.
+use Rattle.std.proofs.Common.{◌≡◌, ℕ, ◌+◌, ◌-◌, ◌*◌, ◌<◌, ◌≤◌, List, [], ◌∷◌, length, take, drop, arith, refl, ap, ◌∙◌, ℤ, pos, ◌+ℤ◌, ◌-ℤ◌, inl, inr, length-drop, length-take, get_or-drop, get_or-take}
+use Rattle.std.proofs.Math.Nat.{mul-le-mul_left, mul-le-mul_right, le_of_mul-le-mul_right, eq_of_mul-eq-mul_right, mul-sub, mul-pos, add-zero, sub-zero, mul_comm, le_antisymm}
+use Rattle.std.proofs.lemmas.Bool.{cases_lt}
+use Rattle.std.proofs.lemmas.Int.{ints}
+use Rattle.std.proofs.lemmas.List.Sums.{sum_by-take-le, sum_by-take-drop, get_or-le-sum_by}
+use Rattle.axle_train.specs.declared.axle.Axle.{Axle}
+use Rattle.axle_train.specs.Bounds.{EachFits, IsTrain}
+use Rattle.axle_train.specs.Trains.{axle_at, no_axle}
+use Rattle.axle_train.proofs.Places.{axle_fits}
+use Rattle.influence_line.specs.Placed.{moment_sum, placed, Load}
+use Rattle.influence_line.specs.Peaks.{IsPeakMoment, IsTrainPlaced}
+use Rattle.moment_peak.specs.declared.best.Candidate.{Candidate}
+use Rattle.moment_peak.specs.Runs.{run, weight_in, front_in, back_in, run_weight, run_value, vertex_value, IsRun}
+use Rattle.moment_peak.specs.Candidates.{IsAttained, IsBest}
+use Rattle.influence_line.proofs.Totals.{total, total_is, under_of}
+use Rattle.moment_peak.proofs.Runs.{weight_of, front_of, back_of, share_all}
+use Rattle.influence_line.proofs.Lines.{moment_under}
+use Rattle.moment_peak.proofs.Bound.{BelowVertex, below_some_vertex}
+
+-- a run has weight
+pub run_loaded : (axles : List Axle) (k first last : ℕ) → EachFits axles → IsRun axles k first last → 0 < run_weight axles first last
+run_loaded axles k first last fits is_run =
+    let short : k - first < last + 1 - first = omega (arith, is_run.to, is_run.from) in
+    let here : first + (k - first) ≡ k = omega (arith, is_run.from) in
+    let in_run : axle_at (run axles first last) (k - first) ≡ axle_at axles k = get_or-take (last + 1 - first) (drop first axles) (k - first) no_axle short ∙ rw (get_or-drop, here) refl in
+    let heavy : 1 ≤ (axle_at axles k).weight = (axle_fits axles k fits (omega (arith, is_run.to, is_run.within))).1 in
+    let there : k - first < length (run axles first last) = omega (arith, length-take (last + 1 - first) (drop first axles), length-drop first axles, is_run.to, is_run.from, is_run.within) in
+    let part = get_or-le-sum_by weight_of (run axles first last) (k - first) no_axle there in
+    omega (arith, ap weight_of in_run, part)
+
+-- the value of a run by its sums
+value_by_sums : (span : ℕ) (middle : List Axle) (place : ℕ) → vertex_value span (weight_in middle) (front_in place middle) (back_in place middle) ≡ vertex_value span (total weight_of middle) (total (front_of place) middle) (total (back_of place) middle)
+value_by_sums span middle place = rw (total_is weight_of middle, total_is (front_of place) middle, total_is (back_of place) middle) refl
+
+pub below_value : (q span m x place : ℕ) (middle : List Axle) → BelowVertex q span m x place middle → 4 * weight_in middle * m ≤ q * q * vertex_value span (weight_in middle) (front_in place middle) (back_in place middle)
+unfolding vertex_value
+below_value q span m x place middle b = rw (value_by_sums span middle place, ← total_is weight_of middle) (b.bound _ _ (omega (arith, b.left_in)) (omega (arith, b.right_in)))
+
+cancel_run : (R w L q m rv v : ℕ) → 4 * R * m ≤ q * q * rv → rv * w ≤ v * R → 0 < R → m * (4 * w * L) ≤ v * (q * q * L)
+cancel_run R w L q m rv v h k p =
+    le_of_mul-le-mul_right {m = m * (4 * w * L)} {n = v * (q * q * L)} {k = R} (omega (arith, mul-le-mul_left (w * L) h, mul-le-mul_left (q * q * L) k)) p
+
+-- no placement is above the best
+pub greatest : (span : ℕ) (axles : List Axle) (best : Candidate) → IsTrain axles → IsBest span axles best → (q section : ℕ) (lead : ℤ) → 1 ≤ q → section ≤ q * span → moment_sum (q * span) section (placed q lead axles) * (4 * best.run.sums.weight * span) ≤ best.value * (q * q * span)
+greatest span axles best train is_best q section lead some h =
+    elim (below_some_vertex q span section lead axles some train.rising h) [
+      | inl none ↦ rw none (omega arith)
+      | inr found ↦
+          let s = found.1 in
+          let m = moment_sum (q * span) section (placed q lead axles) in
+          cancel_run (run_weight axles s.first s.last) best.run.sums.weight span q m (run_value span axles s.k s.first s.last) best.value (below_value q span m found.0 (axle_at axles s.k).place (run axles s.first s.last) s.below) (is_best s.k s.first s.last s.is_run s.can_be) (run_loaded axles s.k s.first s.last train.each s.is_run)
+    ]
+
+-- a run gives no more than the train
+under_run : (f : Axle → ℕ) (axles : List Axle) (first n : ℕ) → total f (take n (drop first axles)) ≤ total f axles
+under_run f axles first n = omega (arith, total_is f axles, total_is f (take n (drop first axles)), sum_by-take-le f (drop first axles) n, sum_by-take-drop f axles first)
+
+lower_from : (R D E v u m : ℕ) → R * (v * u) ≤ m + 2 * R * (D * u + E * v) → (v * u - 2 * (D * u + E * v)) * R ≤ m
+lower_from R D E v u m h = rw (mul_comm (v * u - 2 * (D * u + E * v)) R, mul-sub) (omega arith)
+
+no_product : (v u b : ℕ) → v ≡ 0 → 0 < v * u - b → ⊥
+no_product v u b e h = omega (arith, rw e at h)
+
+no_product_right : (v u b : ℕ) → u ≡ 0 → 0 < v * u - b → ⊥
+no_product_right v u b e h = omega (arith, rw e at h)
+
+-- where a value is not 0 its place is on the span
+pub inside_left : (span R D E : ℕ) → 0 < vertex_value span R D E → E ≤ R * span + D
+unfolding vertex_value
+inside_left span R D E h = elim (cases_lt (R * span + D) E) [
+  | inl far ↦ let none : R * span + D - E ≡ 0 = omega arith in absurd (no_product _ _ _ none h)
+  | inr near ↦ near
+]
+
+pub inside_right : (span R D E : ℕ) → 0 < vertex_value span R D E → D ≤ R * span + E
+unfolding vertex_value
+inside_right span R D E h = elim (cases_lt (R * span + E) D) [
+  | inl far ↦ let none : R * span + E - D ≡ 0 = omega arith in absurd (no_product_right _ _ _ none h)
+  | inr near ↦ near
+]
+
+-- the lead that puts an axle at v
+abbrev pub lead_at : ℕ → ℕ → ℕ → ℤ
+lead_at q place v = pos v -ℤ pos (q * place)
+
+pub lead_puts : (q place v : ℕ) → lead_at q place v +ℤ pos (q * place) ≡ pos v
+lead_puts q place v = omega (arith, ints)
+
+-- the moment at a run's vertex is at least its value
+pub vertex_reaches : (span : ℕ) (axles : List Axle) (k first last : ℕ) → 0 < run_value span axles k first last →
+    let R = run_weight axles first last in
+    let D = front_in (axle_at axles k).place (run axles first last) in
+    let E = back_in (axle_at axles k).place (run axles first last) in
+    let v = R * span + D - E in
+    (v ≤ 2 * R * span) × (run_value span axles k first last * R ≤ moment_sum (2 * R * span) v (placed (2 * R) (lead_at (2 * R) (axle_at axles k).place v) axles))
+unfolding vertex_value
+vertex_reaches span axles k first last h =
+    let middle = run axles first last in
+    let place = (axle_at axles k).place in
+    let R = run_weight axles first last in
+    let D = front_in place middle in
+    let E = back_in place middle in
+    let v = R * span + D - E in
+    let u = R * span + E - D in
+    let left = inside_left span R D E h in
+    let right = inside_right span R D E h in
+    let both : v + u ≡ 2 * R * span = omega arith in
+    let share = share_all (2 * R) v u place middle in
+    let true_moment = moment_under (2 * R) (2 * R * span) v u place (lead_at (2 * R) place v) axles both (lead_puts (2 * R) place v) in
+    let part = under_run (under_of (2 * R) v u place) axles first (last + 1 - first) in
+    let share_sums = rw (total_is weight_of middle, total_is (front_of place) middle, total_is (back_of place) middle) at share in
+    (omega arith, lower_from R D E v u _ (omega (arith, share_sums, true_moment, part)))
+
+-- at its own vertex the best run's moment is its value
+pub exact_from : (R L value m : ℕ) → m * (4 * R * L) ≤ value * (2 * R * (2 * R) * L) → value * R ≤ m → 0 < R → 0 < L → m * (4 * R * L) ≡ value * (2 * R * (2 * R) * L)
+exact_from R L value m h k p q =
+    le_antisymm h (omega (arith, mul-le-mul_right (4 * R * L) k))
+
+-- the run's own weight is its sum
+pub weight_is : (span : ℕ) (axles : List Axle) (best : Candidate) → IsAttained span axles best → best.run.sums.weight ≡ run_weight axles best.run.first best.run.last
+weight_is span axles best a = a.on.sums.weight
+
+pub peak_of_best : (span : ℕ) (axles : List Axle) (best : Candidate) → 0 < span → IsTrain axles → IsAttained span axles best → IsBest span axles best → IsPeakMoment (IsTrainPlaced axles) span best.value (4 * best.run.sums.weight * span)
+peak_of_best span axles best some train a is_best =
+    let run_of = best.run in
+    let R = run_weight axles run_of.first run_of.last in
+    let D = front_in (axle_at axles best.axle).place (run axles run_of.first run_of.last) in
+    let E = back_in (axle_at axles best.axle).place (run axles run_of.first run_of.last) in
+    let v = R * span + D - E in
+    let lead = lead_at (2 * R) (axle_at axles best.axle).place v in
+    let loads = placed (2 * R) lead axles in
+    let weight = weight_is span axles best a in
+    let loaded : 0 < R = rw weight at a.loaded in
+    let reaches = vertex_reaches span axles best.axle run_of.first run_of.last (rw a.value at a.some) in
+    let above = greatest span axles best train is_best (2 * R) v lead (omega arith) reaches.0 in
+    let exact = exact_from R span best.value (moment_sum (2 * R * span) v loads) (rw weight at above) (rw a.value reaches.1) loaded some in
+    record {
+      reached = (2 * R, v, loads, omega arith, reaches.0, (lead, refl), rw weight exact);
+      greatest = λ q section others h k is_placed. rw is_placed.1 (greatest span axles best train is_best q section is_placed.0 h k);
+    }
+
+pub cancel_den : (M n d num den Q : ℕ) → num * d ≡ n * den → 0 < d → M * d ≡ n * Q → M * den ≡ num * Q
+cancel_den M n d num den Q e p h = eq_of_mul-eq-mul_right d p (M * den) (num * Q) (omega (arith, ap (λ t. t * den) h, ap (λ t. t * Q) e))
+
+cancel_den-le : (M n d num den Q : ℕ) → num * d ≡ n * den → 0 < d → M * d ≤ n * Q → M * den ≤ num * Q
+cancel_den-le M n d num den Q e p h = le_of_mul-le-mul_right {m = M * den} {n = num * Q} {k = d} (omega (arith, mul-le-mul_right den h, ap (λ t. t * Q) e)) p
+
+-- a peak is one by every fraction of its value
+pub peak_reduced : (Allowed : ℕ → List Load → Type 0) (span n d num den : ℕ) → 0 < d → num * d ≡ n * den → IsPeakMoment Allowed span n d → IsPeakMoment Allowed span num den
+peak_reduced Allowed span n d num den p e h =
+    let r = h.reached in
+    record {
+      reached = (r.0, r.1, r.2, r.3, r.4, r.5, cancel_den _ n d num den _ e p r.6);
+      greatest = λ q section loads a b c. cancel_den-le _ n d num den _ e p (h.greatest q section loads a b c);
+    }
+
+pub first_weight : (axles : List Axle) → 0 < length axles → run_weight axles 0 0 ≡ (axle_at axles 0).weight
+first_weight [] h = absurd (omega arith)
+first_weight (a ∷ rest) h = omega arith
+
+front_none : (axles : List Axle) → 0 < length axles → front_in (axle_at axles 0).place (run axles 0 0) ≡ 0
+front_none [] h = absurd (omega arith)
+front_none (a ∷ rest) h = let zero : a.place - a.place ≡ 0 = omega arith in omega (arith, ap (λ t. a.weight * t) zero)
+
+back_none : (axles : List Axle) → 0 < length axles → back_in (axle_at axles 0).place (run axles 0 0) ≡ 0
+back_none [] h = absurd (omega arith)
+back_none (a ∷ rest) h = let zero : a.place - a.place ≡ 0 = omega arith in omega (arith, ap (λ t. a.weight * t) zero)
+
+pub first_value : (span : ℕ) (axles : List Axle) → 0 < length axles → run_value span axles 0 0 0 ≡ vertex_value span (axle_at axles 0).weight 0 0
+first_value span axles h = rw (first_weight axles h, front_none axles h, back_none axles h) refl
+
+pub alone_some : (span weight : ℕ) → 1 ≤ weight → 1 ≤ span → 0 < vertex_value span weight 0 0
+unfolding vertex_value
+alone_some span weight h k = let some : 0 < weight * span = mul-pos h k in let both = mul-pos some some in rw (add-zero, sub-zero) (omega arith)

@@ -1,0 +1,64 @@
+-- The sums of neighbouring axles, one axle more or less at a time.
+use Rattle.std.proofs.Common.{◌≡◌, ℕ, suc, ◌+◌, ◌-◌, ◌*◌, ◌<◌, ◌≤◌, List, [], ◌∷◌, length, take, drop, sum_by, arith, length-drop, get_or-drop, refl, ap}
+use Rattle.std.proofs.Math.Nat.{sub_self, mul-le-mul_left}
+use Rattle.std.proofs.Math.Seq.{drop-cons}
+use Rattle.std.proofs.lemmas.List.Sums.{sum_by_more, sum_by-take-le, sum_by-take-drop, sum_by-cons}
+use Rattle.axle_train.specs.declared.axle.Axle.{Axle}
+use Rattle.axle_train.specs.Bounds.{EachFits, IsTrain}
+use Rattle.axle_train.specs.Trains.{axle_at, no_axle}
+use Rattle.influence_line.proofs.Totals.{total, total_is}
+use Rattle.moment_peak.proofs.Runs.{weight_of, moment_of}
+use Rattle.moment_peak.specs.declared.run.Sums.{Sums}
+use Rattle.moment_peak.specs.Runs.{weight_in, moment_in}
+use Rattle.moment_peak.specs.Sweeps.{AreSums}
+
+-- one axle more at the end
+pub sum_more : (f : Axle → ℕ) (axles : List Axle) (first last : ℕ) → first ≤ last → last < length axles → sum_by f (take (last + 1 - first) (drop first axles)) ≡ sum_by f (take (last - first) (drop first axles)) + f (axle_at axles last)
+sum_more f axles first last ordered within =
+    let n : last + 1 - first ≡ (last - first) + 1 = omega arith in
+    let here : first + (last - first) ≡ last = omega arith in
+    let h : last - first < length (drop first axles) = omega (arith, length-drop first axles) in
+    rw (n, sum_by_more f (drop first axles) (last - first) no_axle h, get_or-drop, here) refl
+
+-- no axle
+pub sum_none : (f : Axle → ℕ) (axles : List Axle) (first : ℕ) → sum_by f (take (first - first) (drop first axles)) ≡ 0
+sum_none f axles first = rw (sub_self first) refl
+
+-- one axle alone
+pub sum_alone : (f : Axle → ℕ) (axles : List Axle) (i : ℕ) → i < length axles → sum_by f (take (i + 1 - i) (drop i axles)) ≡ f (axle_at axles i)
+sum_alone f axles i within = omega (arith, sum_more f axles i i (omega arith) within, sum_none f axles i)
+
+-- one axle less at the front
+pub sum_less : (f : Axle → ℕ) (axles : List Axle) (first end : ℕ) → first < end → end ≤ length axles → sum_by f (take (end - first) (drop first axles)) ≡ f (axle_at axles first) + sum_by f (take (end - (first + 1)) (drop (first + 1) axles))
+sum_less f axles first end ordered within =
+    let n : end - first ≡ suc (end - suc first) = omega arith in
+    let next : first + 1 ≡ suc first = omega arith in
+    rw (n, drop-cons axles first no_axle (omega arith), next) (sum_by-cons f (axle_at axles first) (take (end - suc first) (drop (suc first) axles)))
+
+-- neighbouring axles give no more than the train
+pub sum_part : (f : Axle → ℕ) (axles : List Axle) (first n : ℕ) → sum_by f (take n (drop first axles)) ≤ sum_by f axles
+sum_part f axles first n = omega (arith, sum_by-take-le f (drop first axles) n, sum_by-take-drop f axles first)
+
+moment_most : (axles : List Axle) → EachFits axles → total moment_of axles ≤ 3000 * total weight_of axles
+moment_most [] each = omega arith
+moment_most (a ∷ rest) each = omega (arith, mul-le-mul_left a.weight each.0, moment_most rest each.3)
+
+-- the sums of a train's axles are within their bounds
+pub are_sums : (axles : List Axle) (first end : ℕ) (sums : Sums) → IsTrain axles → sums.weight ≡ weight_in (take (end - first) (drop first axles)) → sums.moment ≡ moment_in (take (end - first) (drop first axles)) → AreSums axles first end sums
+are_sums axles first end sums train weight moment = record {
+  weight = weight;
+  moment = moment;
+  light = omega (arith, sum_part weight_of axles first (end - first), train.gross);
+  near = omega (arith, sum_part moment_of axles first (end - first), moment_most axles train.each, total_is moment_of axles, total_is weight_of axles, train.gross);
+}
+
+-- the sums with one axle more
+pub sums_with : (axles : List Axle) (first k : ℕ) (before after : Sums) (axle : Axle) → IsTrain axles → first ≤ k → k < length axles → axle ≡ axle_at axles k → AreSums axles first k before → after.weight ≡ before.weight + axle.weight → after.moment ≡ before.moment + axle.weight * axle.place → AreSums axles first (k + 1) after
+sums_with axles first k before after axle train from within here b weight moment =
+    are_sums axles first (k + 1) after train
+    (omega (arith, weight, b.weight, ap weight_of here, sum_more weight_of axles first k from within))
+    (omega (arith, moment, b.moment, ap moment_of here, sum_more moment_of axles first k from within))
+
+-- no axle
+pub sums_none : (axles : List Axle) (first : ℕ) (sums : Sums) → IsTrain axles → sums.weight ≡ 0 → sums.moment ≡ 0 → AreSums axles first first sums
+sums_none axles first sums train weight moment = are_sums axles first first sums train (omega (arith, weight, sum_none weight_of axles first)) (omega (arith, moment, sum_none moment_of axles first))

@@ -1,0 +1,133 @@
+-- A vertex with the centre of weight of a run at the peak has the peak's moment.
+use Rattle.std.proofs.Common.{◌≡◌, ℕ, ◌+◌, ◌-◌, ◌*◌, ◌<◌, ◌≤◌, List, arith, refl, ap, sym, ◌∙◌, ℤ, pos, ◌+ℤ◌, ◌-ℤ◌, ◌*ℤ◌, inl, inr}
+use Rattle.std.proofs.lemmas.Bool.{cases_lt}
+use Rattle.std.proofs.Math.Nat.{le_of_mul-le-mul_left, eq_of_mul-eq-mul_right, mul-pos, mul-le-mul_right, le_antisymm}
+use Rattle.std.proofs.lemmas.Int.{ints}
+use borrow.Author.Differences.{up, down}
+use Rattle.axle_train.specs.declared.axle.Axle.{Axle}
+use Rattle.axle_train.specs.Bounds.{IsTrain}
+use Rattle.axle_train.specs.Trains.{axle_at}
+use Rattle.influence_line.specs.Placed.{moment_sum, placed}
+use Rattle.influence_line.specs.declared.placing.Place.{Place}
+use Rattle.moment_peak.specs.declared.best.Candidate.{Candidate}
+use Rattle.moment_peak.specs.declared.first.Vertex.{Vertex}
+use Rattle.moment_peak.specs.Runs.{run, front_in, back_in, run_weight, run_moment, run_value, IsRun}
+use Rattle.moment_peak.specs.Candidates.{IsAttained, IsBest}
+use Rattle.moment_peak.specs.Vertices.{IsVertex, Reaches}
+use Rattle.moment_peak.specs.Firsts.{IsPeakRun, HaveOneCentre, IsAtPeak}
+use Rattle.moment_peak.proofs.BestIsPeak.{lead_at, vertex_reaches, greatest, cancel_den, inside_left, run_loaded}
+use Rattle.moment_peak.proofs.BySums.{balance_in}
+use Rattle.moment_peak.proofs.Finer.{moment_scaled}
+use Rattle.moment_peak.proofs.Small.{under_from}
+
+-- one placement at two scales has one moment
+pub same_place : (g q n r h q' n' r' : ℕ) (lead lead' : ℤ) (axles : List Axle) → 0 < g → 0 < h → r ≤ n → r' ≤ n' → g * q ≡ h * q' → g * n ≡ h * n' → g * r ≡ h * r' → pos g *ℤ lead ≡ pos h *ℤ lead' → g * g * moment_sum n r (placed q lead axles) ≡ h * h * moment_sum n' r' (placed q' lead' axles)
+same_place g q n r h q' n' r' lead lead' axles g_some h_some on on' eq en er el =
+    sym (moment_scaled g q n r lead axles g_some on) ∙ rw (eq, en, er, el) (moment_scaled h q' n' r' lead' axles h_some on')
+
+-- at its vertex a run at the peak has the peak's moment
+exact_from : (R L w bv V M : ℕ) → M * (4 * w * L) ≤ bv * (2 * R * (2 * R) * L) → V * R ≤ M → V * w ≡ bv * R → M * (4 * w * L) ≡ bv * (2 * R * (2 * R) * L)
+exact_from R L w bv V M above below high =
+    le_antisymm above (omega (arith, mul-le-mul_right (4 * w * L) below, ap (λ t. 4 * R * L * t) high))
+
+pub value_some : (V w bv R : ℕ) → V * w ≡ bv * R → 0 < bv → 0 < R → 0 < V
+value_some V w bv R e h k =
+    elim (cases_lt 0 V) [
+      | inl some ↦ some
+      | inr none ↦
+          let zero : V ≡ 0 = omega arith in
+          absurd (omega (arith, rw zero at e, mul-pos h k))
+    ]
+
+-- where the axle of a run at the peak stands, and its moment there
+pub record PeakPlace (span : ℕ) (axles : List Axle) (num den k first last : ℕ) : Type 0 where
+  pub v : ℕ
+  pub section : v + run_moment axles first last ≡ run_weight axles first last * span + run_weight axles first last * (axle_at axles k).place
+  pub on : v ≤ 2 * run_weight axles first last * span
+  pub reaches : moment_sum (2 * run_weight axles first last * span) v (placed (2 * run_weight axles first last) (lead_at (2 * run_weight axles first last) (axle_at axles k).place v) axles) * den ≡ num * (2 * run_weight axles first last * (2 * run_weight axles first last) * span)
+
+pub section_from : (R span D E S p v : ℕ) → v + E ≡ R * span + D → D + S ≡ E + R * p → v + S ≡ R * span + R * p
+section_from R span D E S p v h k = omega arith
+
+pub peak_place : (span : ℕ) (axles : List Axle) (best : Candidate) (num den k first last : ℕ) → 0 < span → IsTrain axles → IsAttained span axles best → IsBest span axles best → num * (4 * best.run.sums.weight * span) ≡ best.value * den → IsPeakRun span axles best k first last → PeakPlace span axles num den k first last
+peak_place span axles best num den k first last some train a is_best e peak =
+    let p = (axle_at axles k).place in
+    let R = run_weight axles first last in
+    let D = front_in p (run axles first last) in
+    let E = back_in p (run axles first last) in
+    let v = R * span + D - E in
+    let loaded : 0 < R = run_loaded axles k first last train.each peak.is_run in
+    let value : 0 < run_value span axles k first last = value_some (run_value span axles k first last) best.run.sums.weight best.value R peak.as_high a.some loaded in
+    let left = inside_left span R D E value in
+    let reaches = vertex_reaches span axles k first last value in
+    let above = greatest span axles best train is_best (2 * R) v (lead_at (2 * R) p v) (omega arith) reaches.0 in
+    let m = moment_sum (2 * R * span) v (placed (2 * R) (lead_at (2 * R) p v) axles) in
+    let exact = exact_from R span best.run.sums.weight best.value (run_value span axles k first last) m above reaches.1 peak.as_high in
+    let four : 0 < 4 = omega arith in
+    record {
+      v = v;
+      section = section_from R span D E (run_moment axles first last) p v (omega arith) (balance_in p (run axles first last));
+      on = reaches.0;
+      reaches = cancel_den m best.value (4 * best.run.sums.weight * span) num den (2 * R * (2 * R) * span) e (mul-pos (mul-pos four a.loaded) some) exact;
+    }
+
+-- the place of a vertex with that centre is the same place, at another scale
+place_from : (g R L S p section h T v : ℕ) → section + S ≡ R * L + R * p → v + T ≡ g * L + g * p → S * g ≡ T * R → g * section ≡ R * v
+place_from g R L S p section h T v e f c = omega (arith, ap (λ t. g * t) e, ap (λ t. R * t) f, c)
+
+lead_from : (g R p section v : ℕ) (lead : ℤ) → lead +ℤ pos (2 * R * p) ≡ pos section → g * section ≡ R * v → pos g *ℤ lead ≡ pos R *ℤ lead_at (2 * g) p v
+lead_from g R p section v lead h e =
+    let s : up lead + 2 * R * p ≡ section + down lead = omega (arith, ints, h) in
+    let z : up (lead_at (2 * g) p v) + 2 * g * p ≡ v + down (lead_at (2 * g) p v) = omega (arith, ints) in
+    omega (arith, ints, e, ap (λ t. g * t) s, ap (λ t. R * t) z)
+
+cancel_scale : (g R m m' num den L : ℕ) → 0 < g → 0 < R → g * g * m ≡ R * R * m' → m' * den ≡ num * (2 * g * (2 * g) * L) → m * den ≡ num * (2 * R * (2 * R) * L)
+cancel_scale g R m m' num den L some loaded same e =
+    eq_of_mul-eq-mul_right (g * g) (mul-pos some some) (m * den) (num * (2 * R * (2 * R) * L)) (omega (arith, ap (λ t. t * den) same, ap (λ t. R * R * t) e))
+
+-- a vertex with that centre is on the span
+pub on_from : (g R L section v : ℕ) → 0 < g → g * section ≡ R * v → v ≤ 2 * g * L → section ≤ 2 * R * L
+on_from g R L section v some e on =
+    le_of_mul-le-mul_left {m = section} {n = 2 * R * L} {k = g} (omega (arith, e, mul-le-mul_right R on)) some
+
+-- the centre of a run at the peak is no further behind an axle at its vertex than the span
+pub left_from : (g R L S p T v : ℕ) → 0 < g → v + T ≡ g * L + g * p → S * g ≡ T * R → S ≤ R * L + R * p
+left_from g R L S p T v some f c = le_of_mul-le-mul_left {m = S} {n = R * L + R * p} {k = g} (omega (arith, ap (λ t. R * t) f, c)) some
+
+-- the vertex of axle k and a run with that centre
+pub record VertexAtPeak (span : ℕ) (axles : List Axle) (num den k first last : ℕ) (at : Place) : Type 0 where
+  pub vertex : IsVertex axles span k first last at
+  pub reaches : Reaches axles span num den at
+
+pub vertex_at_peak : (span : ℕ) (axles : List Axle) (num den k first last first' last' : ℕ) (at : Place) → IsTrain axles → IsRun axles k first' last' → PeakPlace span axles num den k first' last' → IsRun axles k first last → HaveOneCentre axles first last first' last' → at.q ≡ 2 * run_weight axles first last → at.section + run_moment axles first last ≡ run_weight axles first last * span + run_weight axles first last * (axle_at axles k).place → at.lead +ℤ pos (run_moment axles first last + run_weight axles first last * (axle_at axles k).place) ≡ pos (run_weight axles first last * span) → VertexAtPeak span axles num den k first last at
+vertex_at_peak span axles num den k first last first' last' at train peak_run place is_run centre scale section lead =
+    let p = (axle_at axles k).place in
+    let g = run_weight axles first' last' in
+    let R = run_weight axles first last in
+    let some : 0 < g = run_loaded axles k first' last' train.each peak_run in
+    let loaded : 0 < R = run_loaded axles k first last train.each is_run in
+    let same = place_from g R span (run_moment axles first last) p at.section span (run_moment axles first' last') place.v section place.section centre in
+    let on : at.section ≤ 2 * R * span = on_from g R span at.section place.v some same place.on in
+    let under : at.lead +ℤ pos (2 * R * p) ≡ pos at.section = rw scale at (under_from R span (run_moment axles first last) p at.q at.section at.lead scale section lead) in
+    let leads = lead_from g R p at.section place.v at.lead under same in
+    let moments = same_place g (2 * R) (2 * R * span) at.section R (2 * g) (2 * g * span) place.v at.lead (lead_at (2 * g) p place.v) axles some loaded on place.on (omega arith) (omega arith) same leads in
+    record {
+      vertex = record { is_run = is_run; scale = scale; section = section; lead = lead; on = rw scale on };
+      reaches = rw scale (cancel_scale g R _ _ num den span some loaded moments place.reaches);
+    }
+
+-- the vertex that the program found, by the sums that it carries
+pub found_at : (span : ℕ) (axles : List Axle) (best : Candidate) (num den : ℕ) (found : Vertex) (axle : Axle) (at : Place) → 0 < span → IsTrain axles → IsAttained span axles best → IsBest span axles best → num * (4 * best.run.sums.weight * span) ≡ best.value * den → IsAtPeak span axles best found → axle ≡ axle_at axles found.axle → at.q ≡ 2 * found.sums.weight → at.section + found.sums.moment ≡ found.sums.weight * span + found.sums.weight * axle.place → at.lead +ℤ pos (found.sums.moment + found.sums.weight * axle.place) ≡ pos (found.sums.weight * span) → VertexAtPeak span axles num den found.axle found.first found.last at
+found_at span axles best num den found axle at some train a is_best e there here scale section lead =
+    let place = peak_place span axles best num den found.axle there.first there.last some train a is_best e there.peak in
+    vertex_at_peak span axles num den found.axle found.first found.last there.first there.last at train there.peak.is_run place there.is_run there.centre
+    (rw there.sums.weight at scale)
+    (rw (here, there.sums.moment, there.sums.weight) at section)
+    (rw (here, there.sums.moment, there.sums.weight) at lead)
+
+-- its centre of weight is no further behind the axle than the span
+pub found_left : (span : ℕ) (axles : List Axle) (best : Candidate) (found : Vertex) (axle : Axle) → 0 < span → IsTrain axles → IsAttained span axles best → IsBest span axles best → IsAtPeak span axles best found → axle ≡ axle_at axles found.axle → found.sums.moment ≤ found.sums.weight * span + found.sums.weight * axle.place
+found_left span axles best found axle some train a is_best there here =
+    let place = peak_place span axles best best.value (4 * best.run.sums.weight * span) found.axle there.first there.last some train a is_best refl there.peak in
+    let loaded = run_loaded axles found.axle there.first there.last train.each there.peak.is_run in
+    rw (here, there.sums.moment, there.sums.weight) (left_from (run_weight axles there.first there.last) (run_weight axles found.first found.last) span (run_moment axles found.first found.last) (axle_at axles found.axle).place (run_moment axles there.first there.last) place.v loaded place.section there.centre)

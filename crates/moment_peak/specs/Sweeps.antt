@@ -1,0 +1,26 @@
+-- The runs that can be the axles on the span, one after another, with the sums of each.
+use Rattle.std.specs.Prelude.{◌≡◌, ℕ, ◌+◌, ◌-◌, ◌*◌, ◌≤◌, List, take, drop}
+use Rattle.axle_train.specs.declared.axle.Axle.{Axle}
+use Rattle.moment_peak.specs.declared.run.Sums.{Sums}
+use Rattle.moment_peak.specs.declared.run.Run.{Run}
+use Rattle.moment_peak.specs.Runs.{weight_in, moment_in, CanBeOnSpan}
+
+-- the sums of the axles from first on and before end; no train has more than 2,000,000 lb and 3,000 in
+pub record AreSums (axles : List Axle) (first end : ℕ) (sums : Sums) : Type 0 where
+  pub weight : sums.weight ≡ weight_in (take (end - first) (drop first axles))
+  pub moment : sums.moment ≡ moment_in (take (end - first) (drop first axles))
+  pub light : sums.weight ≤ 2000000
+  pub near : sums.moment ≤ 6000000000
+
+-- a run that can be exactly the axles on the span, and its sums
+pub record IsOnSpan (span : ℕ) (axles : List Axle) (run : Run) : Type 0 where
+  pub can_be : CanBeOnSpan span axles run.first run.last
+  pub sums : AreSums axles run.first (run.last + 1) run.sums
+
+-- next is the first after run of the runs that can be exactly the axles on the span: of two of them the later one begins or ends later
+abbrev pub IsNext : ℕ → List Axle → Run → Run → Type 0
+IsNext span axles run next = (first last : ℕ) → CanBeOnSpan span axles first last → run.first + run.last + 1 ≤ first + last → next.first + next.last ≤ first + last
+
+-- run is the last of these runs
+abbrev pub IsLast : ℕ → List Axle → Run → Type 0
+IsLast span axles run = (first last : ℕ) → CanBeOnSpan span axles first last → first + last ≤ run.first + run.last
