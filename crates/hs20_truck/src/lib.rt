@@ -1,0 +1,147 @@
+//! The HS20-44 design truck of the AASHTO Standard Specifications for Highway Bridges (3.7): 8,000 lb,
+//! and 32,000 lb twice, 14 feet between the first two and anything from 14 to 30 feet between the last
+//! two; and the effects of it and of any train on a simple span.
+//!
+//! The crates above are promised that `effects` is greatest over every second spacing and every place,
+//! fractions of an inch among them, although only the truck with its smallest spacing is looked at,
+//! and that `Live` answers for its own train and for the design truck.
+#![tactic(auto)]
+
+ghost use Rattle.std.specs.Prelude.{◌≡◌, ◌≤◌};
+ghost use Rattle.influence_line.specs.Peaks.{IsTrainPlaced, IsHs20Placed};
+ghost use Rattle.span_rating.specs.Loading.{AreEffects, AreEffectsOfSomeTrain};
+ghost use Rattle.hs20_truck.specs.Design.{design_axles};
+
+use axle_train::{Axle, Train};
+use span_rating::Effects;
+
+mod live;
+
+pub use live::Live;
+
+/// The design truck with its smallest second spacing, 14 feet.
+pub fn truck() -> Train
+    ensures { result ≡ design_axles }
+{
+    let axles = [
+        Axle {
+            place: 0,
+            weight: 8000,
+        },
+        Axle {
+            place: 168,
+            weight: 32000,
+        },
+        Axle {
+            place: 336,
+            weight: 32000,
+        },
+    ];
+    match Train::new(&axles) {
+        Ok(train) => train,
+        Err(_) => unreachable!(),
+    }
+}
+
+/// The peak moment and the peak end shear of a train on a span of `span` inches.
+pub fn effects_of(train: &Train, span: u32) -> Effects
+    requires some { 1 ≤ span }
+    requires long { span ≤ 6000 }
+    ensures { AreEffects (IsTrainPlaced train.now) span result }
+{
+    Effects {
+        moment: moment_peak::value(train, span),
+        shear: shear_peak::peak(train, span).value,
+    }
+}
+
+/// The peak moment and the peak end shear of the design truck on a span of `span` inches, over every
+/// second spacing.
+pub fn effects(span: u32) -> Effects
+    requires some { 1 ≤ span }
+    requires long { span ≤ 6000 }
+    ensures all { AreEffects IsHs20Placed span result }
+    ensures closest { AreEffects (IsTrainPlaced design_axles) span result }
+    ensures train { AreEffectsOfSomeTrain span result }
+{
+    effects_of(&truck(), span)
+}
+
+#[cfg(test)]
+mod tests {
+    use super::*;
+    use span_rating::{Fit, SpanStudy, fits};
+    use std::test::Fail;
+
+    #[test]
+    fn effects_by_hand(rt: HostRuntime) -> Result<(), Fail> {
+        let cases = [
+            // The middle axle alone at midspan: 32000 * 240 / 4.
+            (240, 1920000, 41600),
+            // The two rear axles, 168 inches apart: 64000 * 138 * 138 / 360.
+            (360, 3385600, 49600),
+            (480, 5397600, 55200),
+            (1200, 18287040, 65280),
+            (6000, 104649408, 70656),
+        ];
+        let train = truck();
+        for (span, moment, shear) in cases {
+            assert!(rt; 1 <= span && span <= 6000);
+            let found = effects(span);
+            assert_eq!(rt;
+                (found.moment.num(), found.moment.den()),
+                (moment, 1),
+                "on {span}"
+            );
+            assert_eq!(rt;
+                (found.shear.num(), found.shear.den()),
+                (shear, 1),
+                "on {span}"
+            );
+            assert_eq!(rt; effects_of(&train, span), found, "on {span}");
+        }
+        Ok(())
+    }
+
+    #[test]
+    fn moments_of_hs20_as_aashto_prints_them(rt: HostRuntime) {
+        // AASHTO Standard Specifications for Highway Bridges, Appendix A: the span in feet, and the
+        // moment of one lane of HS20-44 in tenths of a foot-kip. The exact moment at 100 feet is
+        // 1,523.92 foot-kips, and 1,524.0 is printed, so they agree to a tenth and not to the digit.
+        let cases = [(20, 1600), (30, 2821), (40, 4498), (60, 8065), (100, 15240)];
+        for (feet, tenths) in cases {
+            assert!(rt; 1 <= feet && feet <= 500 && tenths <= 100000);
+            let moment = effects(12 * feet).moment;
+            let (num, den) = (moment.num(), moment.den());
+            assert!(rt; num < 1 << 68 && den < 1 << 36);
+            // A tenth of a foot-kip is 1,200 pounds times inches.
+            let printed = 1200 * tenths * den;
+            assert!(rt; num.abs_diff(printed) < 1200 * den, "on {feet} feet");
+        }
+    }
+
+    #[test]
+    fn a_study_has_the_truck_and_the_design(rt: HostRuntime) -> Result<(), Fail> {
+        // 32 axles of 62,500 lb, 96 inches apart but for the last one, which stands at 3,000.
+        let mut axles = [Axle {
+            place: 3000,
+            weight: 62500,
+        }; 32];
+        for i in 0..31 {
+            axles[i] = Axle {
+                place: 96 * i as u32,
+                weight: 62500,
+            };
+        }
+        let train = Train::new(&axles)?;
+        let study = Live { train: &train }.of(6000);
+        let (truck, design) = (study.truck, study.design);
+        assert_eq!(rt; (truck.moment.num(), truck.moment.den()), (17851584375, 8));
+        assert_eq!(rt; (truck.shear.num(), truck.shear.den()), (1503750, 1));
+        assert_eq!(rt; (design.moment.num(), design.moment.den()), (104649408, 1));
+        assert_eq!(rt; (design.shear.num(), design.shear.den()), (70656, 1));
+        assert_eq!(rt; fits(&truck, &design, 21323), Fit::Moment);
+        assert_eq!(rt; fits(&truck, &design, 21324), Fit::Fits);
+        Ok(())
+    }
+}

@@ -1,0 +1,161 @@
+// Whether a span carries a truck.
+
+ghost use Rattle.std.specs.Prelude.{◌≡◌, ◌≤◌, ◌↔◌, IsTrue};
+ghost use Rattle.influence_line.specs.Fractions.{IsSmall};
+ghost use Rattle.span_rating.specs.Loading.{AreSmall};
+ghost use Rattle.span_rating.specs.Judgement.{IsWithin, fit_of};
+ghost use Rattle.span_rating.specs.Laws.{FitIsOfThePeaks};
+
+use crate::loading::Effects;
+use influence_line::{Frac, Placements};
+
+/// How a span stands to a truck: it carries it, or the first effect that is over its rating.
+#[derive(Clone, Copy, Debug, PartialEq, Eq)]
+pub enum Fit {
+    Fits,
+    Moment,
+    Shear,
+}
+
+/// Whether a span with this rating, in thousandths of the design truck's effects, carries a truck. The
+/// moment is judged first, and each effect passes at equality.
+pub fn fits(truck: &Effects, design: &Effects, rating: u32) -> Fit
+    requires truck { AreSmall truck.now }
+    requires design { AreSmall design.now }
+    requires rating { rating ≤ 100000 }
+    ensures computed { result ≡ fit_of truck.now design.now rating }
+    ensures fits { (result ≡ Fit.Fits) ↔ (IsWithin rating truck.now.moment design.now.moment × IsWithin rating truck.now.shear design.now.shear) }
+    ensures moment { (result ≡ Fit.Moment) ↔ (IsWithin rating truck.now.moment design.now.moment → ⊥) }
+    ensures shear { (result ≡ Fit.Shear) ↔ (IsWithin rating truck.now.moment design.now.moment × (IsWithin rating truck.now.shear design.now.shear → ⊥)) }
+{
+    if !is_within(&truck.moment, &design.moment, rating) {
+        return Fit::Moment;
+    }
+    if !is_within(&truck.shear, &design.shear, rating) {
+        return Fit::Shear;
+    }
+    Fit::Fits
+}
+
+/// Whether an effect is at most `rating` thousandths of the design truck's. The products stay below
+/// 2^121.
+fn is_within(effect: &Frac, design: &Frac, rating: u32) -> bool
+    requires effect { IsSmall effect.now }
+    requires design { IsSmall design.now }
+    requires rating { rating ≤ 100000 }
+    ensures { IsTrue result ↔ IsWithin rating effect.now design.now }
+{
+    1000 * effect.num() * design.den() <= u128::from(rating) * design.num() * effect.den()
+}
+
+/// A law, and no code: what `fits` says of the effects of two sets of placements holds of their peaks
+/// themselves, whatever fractions these are written with.
+pub fn fit_is_of_the_peaks<T: Placements, D: Placements>(truck: &T, design: &D)
+    ensures { FitIsOfThePeaks (T.allowed truck.now) (D.allowed design.now) }
+{}
+
+#[cfg(test)]
+mod tests {
+    use super::*;
+    use influence_line::Hs20Placements;
+    use std::process::Abort;
+    use std::test::Fail;
+
+    // Two effects, each in lowest terms and of the size that peaks have.
+    fn effects(rt: &impl Abort, moment: (u128, u128), shear: (u128, u128)) -> Effects
+        ensures { AreSmall result }
+    {
+        let moment = small(rt, moment.0, moment.1);
+        let shear = small(rt, shear.0, shear.1);
+        Effects { moment, shear }
+    }
+
+    fn small(rt: &impl Abort, num: u128, den: u128) -> Frac
+        ensures { IsSmall result }
+    {
+        assert!(rt; num < 1 << 68 && den < 1 << 36);
+        Frac::of(num, den).expect(rt, "lowest terms")
+    }
+
+    #[test]
+    fn judges_at_the_last_thousandth(rt: HostRuntime) {
+        // A truck's moment and shear, those of the design truck, a rating, and the judgement.
+        let cases = [
+            // The design truck itself, on 20 feet.
+            (
+                (1920000, 1),
+                (41600, 1),
+                (1920000, 1),
+                (41600, 1),
+                1000,
+                Fit::Fits,
+            ),
+            (
+                (1920000, 1),
+                (41600, 1),
+                (1920000, 1),
+                (41600, 1),
+                999,
+                Fit::Moment,
+            ),
+            // 32 axles of 62,500 lb on 500 feet: the moment is 21,323.08 thousandths of the design's,
+            // and the shear 21,282.7.
+            (
+                (17851584375, 8),
+                (1503750, 1),
+                (104649408, 1),
+                (70656, 1),
+                21323,
+                Fit::Moment,
+            ),
+            (
+                (17851584375, 8),
+                (1503750, 1),
+                (104649408, 1),
+                (70656, 1),
+                21324,
+                Fit::Fits,
+            ),
+            // Both are over the rating, and the moment is named.
+            (
+                (17851584375, 8),
+                (1503750, 1),
+                (104649408, 1),
+                (70656, 1),
+                21282,
+                Fit::Moment,
+            ),
+            // The shear alone is over the rating, or just within it: 3/2 of the design's.
+            ((1, 1), (3, 1), (1, 1), (2, 1), 1499, Fit::Shear),
+            ((1, 1), (3, 1), (1, 1), (2, 1), 1500, Fit::Fits),
+            // 5/7 against 3/4: 952.38 thousandths.
+            ((5, 7), (5, 7), (3, 4), (3, 4), 952, Fit::Moment),
+            ((5, 7), (5, 7), (3, 4), (3, 4), 953, Fit::Fits),
+            // A span rated 0 carries what does nothing.
+            ((0, 1), (0, 1), (3, 4), (3, 4), 0, Fit::Fits),
+            ((0, 1), (1, 9), (3, 4), (3, 4), 0, Fit::Shear),
+            // The greatest rating, and numbers near the greatest that are allowed.
+            ((100, 1), (100, 1), (1, 1), (1, 1), 100000, Fit::Fits),
+            ((101, 1), (1, 1), (1, 1), (1, 1), 100000, Fit::Moment),
+            (
+                ((1 << 68) - 1, (1 << 36) - 2),
+                (1, 1),
+                (1, (1 << 36) - 1),
+                (1, 1),
+                100000,
+                Fit::Moment,
+            ),
+        ];
+        for (moment, shear, design_moment, design_shear, rating, wanted) in cases {
+            assert!(rt; rating <= 100000);
+            let truck = effects(&rt, moment, shear);
+            let design = effects(&rt, design_moment, design_shear);
+            assert_eq!(rt;
+                fits(&truck, &design, rating),
+                wanted,
+                "{moment:?} {shear:?} at {rating}"
+            );
+        }
+        fit_is_of_the_peaks(&Hs20Placements, &Hs20Placements);
+    }
+}
