@@ -4,3 +4,4 @@ pub mod Blanks
 pub mod Numbers
 pub mod Words
 pub mod Lines
+pub mod Probes

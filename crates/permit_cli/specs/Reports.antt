@@ -7,9 +7,18 @@ use Rattle.axle_limits.specs.declared.finding.Finding.{Finding}
 use Rattle.axle_limits.specs.declared.group.Rule.{Rule}
 use Rattle.axle_limits.specs.declared.group.Rule.TheVariants.{Single, Tandem, Formula, TwoTandem, Gross}
 use Rattle.axle_limits.specs.Findings.{findings_of}
+use Rattle.influence_line.specs.Fractions.{IsLowest, ratio_text}
+use Rattle.influence_line.specs.Peaks.{IsPeakMoment, IsPeakShear, IsTrainPlaced}
+use Rattle.influence_line.specs.declared.placing.End.{End}
+use Rattle.influence_line.specs.declared.placing.End.TheVariants.{Left, Right}
+use Rattle.moment_peak.specs.Vertices.{IsFirstPlace}
+use Rattle.moment_peak.specs.declared.MomentPeak.{MomentPeak}
+use Rattle.shear_peak.specs.Ends.{IsFirstToReach}
+use Rattle.shear_peak.specs.declared.ShearPeak.{ShearPeak}
 use Rattle.permit_cli.specs.Loads.{LoadParts}
 use Rattle.permit_cli.specs.declared.check_file.Truck.{Truck}
 use Rattle.permit_cli.specs.declared.check_file.CheckFile.{CheckFile}
+use Rattle.permit_cli.specs.declared.check_file.Probe.{Probe}
 
 -- truck NAME axles N gross G
 abbrev pub truck_line : Truck → List ℕ
@@ -48,6 +57,51 @@ abbrev pub truck_text : Truck → List ℕ
 truck_text truck =
     truck_line truck ++ flat_map over_line (findings_of truck.load.train) ++ high_line truck.load ++ wide_line truck.load ++ legal_line truck.load
 
--- the report on a check file
+-- a peak moment: reached by its place and exceeded by none, in lowest terms, with the first vertex that reaches it
+pub record IsMoment (axles : List Axle) (span : ℕ) (m : MomentPeak) : Type 0 where
+  pub peak : IsPeakMoment (IsTrainPlaced axles) span m.value.num m.value.den
+  pub lowest : IsLowest m.value
+  pub first : IsFirstPlace axles span m.value.num m.value.den m.axle m.first m.last m.place
+
+-- a peak end shear, in lowest terms, with the first lead that reaches it
+pub record IsShear (axles : List Axle) (span : ℕ) (s : ShearPeak) : Type 0 where
+  pub peak : IsPeakShear (IsTrainPlaced axles) span s.value.num s.value.den
+  pub lowest : IsLowest s.value
+  pub first : IsFirstToReach axles span s.end s.lead s.value.num s.value.den
+
+-- span INCHES
+abbrev pub span_line : Probe → List ℕ
+span_line probe = codes "span " ++ (decimal probe.inches ++ (10 ∷ []))
+
+-- moment FRACTION at Q LEAD SECTION axle K run F-L, with axles counted from 1
+abbrev pub moment_line : MomentPeak → List ℕ
+moment_line m =
+    codes "moment " ++ (ratio_text m.value ++ (codes " at " ++ (decimal m.place.q ++ (codes " " ++ (signed_decimal m.place.lead ++ (codes " " ++ (decimal m.place.section ++ (codes " axle " ++ (decimal (m.axle + 1) ++ (codes " run " ++ (decimal (m.first + 1) ++ (codes "-" ++ (decimal (m.last + 1) ++ (10 ∷ []))))))))))))))
+
+abbrev pub end_name : End → List ℕ
+end_name Left = codes "left"
+end_name Right = codes "right"
+
+-- shear FRACTION at LEAD END
+abbrev pub shear_line : ShearPeak → List ℕ
+shear_line s = codes "shear " ++ (ratio_text s.value ++ (codes " at " ++ (signed_decimal s.lead ++ (codes " " ++ (end_name s.end ++ (10 ∷ []))))))
+
+-- what is written of a truck on one probe: the span, and its peaks
+abbrev pub IsProbeText : List Axle → Probe → List ℕ → Type 0
+IsProbeText axles probe text =
+    (m : MomentPeak) × (s : ShearPeak) × IsMoment axles probe.inches m × IsShear axles probe.inches s × (text ≡ span_line probe ++ moment_line m ++ shear_line s)
+
+-- the same of all probes, one after another
+abbrev pub AreProbeTexts : List Axle → List Probe → List ℕ → Type 0
+AreProbeTexts axles [] text = text ≡ []
+AreProbeTexts axles (probe ∷ probes) text =
+    (one : List ℕ) × (rest : List ℕ) × IsProbeText axles probe one × AreProbeTexts axles probes rest × (text ≡ one ++ rest)
+
+-- a text grew by what is written of a truck on some probes
+abbrev pub AddsProbes : List Axle → List Probe → List ℕ → List ℕ → Type 0
+AddsProbes axles probes old new = (more : List ℕ) × AreProbeTexts axles probes more × (new ≡ old ++ more)
+
+-- the report on a check file: what is written of its truck, and then of each probe
 abbrev pub IsReport : CheckFile → List ℕ → Type 0
-IsReport file text = text ≡ truck_text file.truck
+IsReport file text =
+    (probes : List ℕ) × AreProbeTexts file.truck.load.train file.probes probes × (text ≡ truck_text file.truck ++ probes)

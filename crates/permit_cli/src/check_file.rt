@@ -4,6 +4,7 @@ ghost use Rattle.std.specs.Prelude.{◌≡◌, ◌+◌, ◌++◌, ◌∷◌, [],
 ghost use Rattle.std.specs.List.{list_all};
 ghost use Rattle.std.specs.Str.{is_utf8};
 ghost use Rattle.csv.specs.Records.{fields_of};
+ghost use Rattle.permit_cli.specs.Spans.{AreSpans, IsSpan};
 ghost use Rattle.permit_cli.specs.Checks.{Judges, check_of, ended_file, is_blank_from, judge, judge_first, judge_later, judge_record, load_of, probe_of, train_number, truck_of};
 
 use crate::fields::{field, parse_axles, parse_name, parse_number};
@@ -40,9 +41,13 @@ impl Model for Probes {
     ghost use Rattle.std.specs.Prelude.{List};
     ghost use Rattle.permit_cli.specs.declared.check_file.Probe.{Probe};
 
+    ghost use Rattle.permit_cli.specs.Spans.{AreSpans};
+
     ghost Value = { List Probe };
 
     ghost view = { λ a. a.list.items };
+
+    ghost invariant = { λ a. AreSpans a.list.items };
 }
 
 impl Probes {
@@ -57,13 +62,15 @@ impl Probes {
 
     /// The probes as a slice.
     pub fn as_slice(&self) -> &[Probe]
-        ensures { result.now ≡ self.now }
+        ensures value { result.now ≡ self.now }
+        ensures spans { AreSpans self.now }
     {
         self.list.as_slice()
     }
 
     /// Adds a probe at the end.
     fn push(&mut self, probe: Probe) -> Result<(), RecordRefusal>
+        requires { IsSpan probe }
         ensures ok { OnOk result (self.new ≡ self.old ++ probe ∷ []) }
         ensures memory { IfErr result (λ refusal. refusal ≡ RecordRefusal.NoMemory) }
     {
@@ -286,7 +293,8 @@ fn train_number(refusal: TrainRefusal) -> u32
 // The probe of a record, behind those that are there.
 #[tactic(auto, unfolding(crate::specs::Checks::probe_of))]
 fn parse_probe(probes: &Probes, row: &StringRecord) -> Result<Probe, RecordRefusal>
-    ensures { Judges result (probe_of probes.now (fields_of row.now)) }
+    ensures judged { Judges result (probe_of probes.now (fields_of row.now)) }
+    ensures span { IfOk result (λ probe. IsSpan probe) }
 {
     if !is_blank_from(row, 3) {
         return Err(RecordRefusal::bad(RecordCause::Extra));

@@ -1,24 +1,38 @@
 // The text that `check` writes.
 
-ghost use Rattle.std.specs.Prelude.{◌≡◌, ◌++◌, ◌==◌, IfOk, OnOk, codes, length};
+ghost use Rattle.std.specs.Prelude.{◌≡◌, ◌≤◌, ◌++◌, ◌==◌, ℕ, List, IfOk, OnOk, length};
 ghost use Rattle.std.specs.List.{flat_map};
 ghost use Rattle.std.specs.String.{string_bytes};
 ghost use Rattle.axle_limits.specs.Findings.{findings_of};
-ghost use Rattle.permit_cli.specs.Reports.{high_line, is_legal, legal_line, over_line, rule_name, truck_line, truck_text, wide_line};
+ghost use Rattle.permit_cli.specs.Spans.{AreSpans, IsSpan};
+ghost use Rattle.permit_cli.specs.Reports.{AddsProbes, IsProbeText, IsReport, end_name, high_line, is_legal, legal_line, moment_line, over_line, rule_name, shear_line, truck_line, truck_text, wide_line};
 
-use crate::check_file::{CheckFile, Truck};
+use crate::check_file::{CheckFile, Probe, Truck};
 use crate::load::Load;
 use axle_limits::{Finding, Rule, findings};
+use axle_train::Train;
+use influence_line::{End, Place};
+use moment_peak::MomentPeak;
+use shear_peak::ShearPeak;
 use std::alloc::{AllocError, Global};
 
-/// The report on a truck.
+/// The report on a check file: its truck, and then its truck on each of its probes.
 pub fn report(alloc: Global, file: &CheckFile) -> Result<String, AllocError>
-    ensures { IfOk result (λ text. string_bytes text ≡ truck_text file.now.truck) }
+    ensures { IfOk result (λ text. IsReport file.now (string_bytes text)) }
 {
-    let load = &file.truck.load;
+    let mut text = truck_report(alloc, &file.truck)?;
+    add_probes(&mut text, file.truck.load.train(), file.probes.as_slice())?;
+    Ok(text)
+}
+
+// The report on a truck alone.
+fn truck_report(alloc: Global, truck: &Truck) -> Result<String, AllocError>
+    ensures { IfOk result (λ text. string_bytes text ≡ truck_text truck.now) }
+{
+    let load = &truck.load;
     let found = findings(alloc, load.train())?;
     let mut text = String::new(alloc);
-    add_truck(&mut text, &file.truck)?;
+    add_truck(&mut text, truck)?;
     add_findings(&mut text, found.as_slice())?;
     add_height(&mut text, load)?;
     add_width(&mut text, load)?;
@@ -103,5 +117,59 @@ fn add_legality(text: &mut String, load: &Load, is_light: bool) -> Result<(), Al
         text.push_str("legal yes\n")
     } else {
         text.push_str("legal no\n")
+    }
+}
+
+// The truck on each probe.
+fn add_probes(text: &mut String, train: &Train, probes: &[Probe]) -> Result<(), AllocError>
+    requires { AreSpans probes.now }
+    ensures { OnOk result (AddsProbes train.now probes.now (string_bytes text.old) (string_bytes text.new)) }
+{
+    for probe in probes {
+        add_probe(text, train, probe)?;
+    }
+    Ok(())
+}
+
+// The truck on one probe.
+fn add_probe(text: &mut String, train: &Train, probe: &Probe) -> Result<(), AllocError>
+    requires { IsSpan probe.now }
+    ensures { OnOk result ((one : List ℕ) × IsProbeText train.now probe.now one × (string_bytes text.new ≡ string_bytes text.old ++ one)) }
+{
+    let inches = probe.inches;
+    write!(text, "span {inches}\n")?;
+    add_moment(text, &moment_peak::peak(train, inches))?;
+    add_shear(text, &shear_peak::peak(train, inches))
+}
+
+// A peak moment, with axles counted from 1.
+fn add_moment(text: &mut String, peak: &MomentPeak) -> Result<(), AllocError>
+    ensures { OnOk result (string_bytes text.new ≡ string_bytes text.old ++ moment_line peak.now) }
+{
+    let value = peak.value;
+    let Place { q, lead, section } = peak.place;
+    let axle = peak.axle as u128 + 1;
+    let first = peak.first as u128 + 1;
+    let last = peak.last as u128 + 1;
+    write!(text, "moment {value} at {q} {lead} {section} axle {axle} run {first}-{last}\n")
+}
+
+// A peak end shear.
+fn add_shear(text: &mut String, peak: &ShearPeak) -> Result<(), AllocError>
+    ensures { OnOk result (string_bytes text.new ≡ string_bytes text.old ++ shear_line peak.now) }
+{
+    let value = peak.value;
+    let lead = peak.lead;
+    let end = end_name(peak.end);
+    write!(text, "shear {value} at {lead} {end}\n")
+}
+
+// The name of an end.
+fn end_name(end: End) -> &'static str
+    ensures { result.now ≡ end_name end }
+{
+    match end {
+        End::Left => "left",
+        End::Right => "right",
     }
 }
