@@ -40,7 +40,6 @@ pub struct Probes {
 impl Model for Probes {
     ghost use Rattle.std.specs.Prelude.{List};
     ghost use Rattle.permit_cli.specs.declared.check_file.Probe.{Probe};
-
     ghost use Rattle.permit_cli.specs.Spans.{AreSpans};
 
     ghost Value = { List Probe };
@@ -144,11 +143,7 @@ fn finish(progress: Progress) -> Option<CheckFile>
 }
 
 // Where a record leads.
-fn step(
-    alloc: Global,
-    progress: Progress,
-    row: &StringRecord,
-) -> Result<Progress, RecordRefusal>
+fn step(alloc: Global, progress: Progress, row: &StringRecord) -> Result<Progress, RecordRefusal>
     requires { list_all is_utf8 (fields_of row.now) ≡ true }
     ensures next { Judges result (judge_record progress (fields_of row.now)) }
     ensures eight { OnOk result (length (fields_of row.now) ≡ 8) }
@@ -160,11 +155,7 @@ fn step(
 }
 
 // Where a record of eight fields leads.
-fn take(
-    alloc: Global,
-    progress: Progress,
-    row: &StringRecord,
-) -> Result<Progress, RecordRefusal>
+fn take(alloc: Global, progress: Progress, row: &StringRecord) -> Result<Progress, RecordRefusal>
     ensures { Judges result (judge progress (fields_of row.now)) }
 {
     let kind = field(row, 0);
@@ -265,9 +256,7 @@ fn load_of(height: u32, width: u32, length: u32, axles: &[Axle]) -> Result<Load,
     let train = match Train::new(axles) {
         Ok(train) => train,
         Err(refusal) => {
-            return Err(RecordRefusal::bad(RecordCause::Train(train_number(
-                refusal,
-            ))));
+            return Err(RecordRefusal::bad(RecordCause::Train(train_number(refusal))));
         }
     };
     match Load::new(height, width, length, train) {

@@ -7,6 +7,8 @@ mod load;
 mod refusal;
 mod report;
 mod run;
+#[cfg(test)]
+mod tests;
 
 use office_io::{StdSink, StdSource};
 use run::{Alone, run_alone};

@@ -151,7 +151,10 @@ fn add_moment(text: &mut String, peak: &MomentPeak) -> Result<(), AllocError>
     let axle = peak.axle as u128 + 1;
     let first = peak.first as u128 + 1;
     let last = peak.last as u128 + 1;
-    write!(text, "moment {value} at {q} {lead} {section} axle {axle} run {first}-{last}\n")
+    write!(
+        text,
+        "moment {value} at {q} {lead} {section} axle {axle} run {first}-{last}\n"
+    )
 }
 
 // A peak end shear.

@@ -13,4 +13,4 @@ loop-probe-preserved c =
     let new = string_bytes c.add_probe.new.text in
     let (one, is, grown) = c.in_ok-add_probe.ensures in
     subst (λ ps. AddsProbes train ps old new) (sym (take_more probes c.loop-probe.probe-index _ (omega arith)))
-      (adds_more train _ _ old _ new one c.loop-probe.invariant is grown)
+    (adds_more train _ _ old _ new one c.loop-probe.invariant is grown)
