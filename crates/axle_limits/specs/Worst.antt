@@ -1,11 +1,11 @@
--- The group with the greatest weight over its limit.
+-- The worst group: the one whose weight is the greatest part of its limit.
 use Rattle.std.specs.Prelude.{◌≡◌, ℕ, ◌*◌, ◌<◌, ◌≤◌, List, length}
 use Rattle.axle_train.specs.declared.axle.Axle.{Axle}
 use Rattle.axle_train.specs.Trains.{group_weight}
 use Rattle.axle_limits.specs.Limits.{limit_of}
 use Rattle.axle_limits.specs.declared.worst_group.WorstGroup.{WorstGroup}
 
--- a group with its weight and limit
+-- a group of these axles with its weight and its limit, and bounds that keep cross products of two groups below 2^42
 pub record IsGroup (axles : List Axle) (g : WorstGroup) : Type 0 where
   pub ordered : g.i ≤ g.j
   pub within : g.j < length axles
@@ -15,14 +15,16 @@ pub record IsGroup (axles : List Axle) (g : WorstGroup) : Type 0 where
   pub light : g.weight ≤ 2000000
   pub small : g.limit ≤ 2000000
 
--- a group's weight over its limit is at most this one's, and below it
+-- the weight of axles a to b is at most as great a part of their limit as that of this group; the two fractions are
+-- compared by their cross products
 abbrev pub IsNoWorse : List Axle → ℕ → ℕ → WorstGroup → Type 0
 IsNoWorse axles a b g = group_weight axles a b * g.limit ≤ g.weight * limit_of axles a b
 
+-- and it is a smaller part
 abbrev pub IsBetter : List Axle → ℕ → ℕ → WorstGroup → Type 0
 IsBetter axles a b g = group_weight axles a b * g.limit < g.weight * limit_of axles a b
 
--- the first of the groups before (i, j) that none of these is worse than
+-- of the groups before (i, j) in dictionary order none is worse than this one, and each one before it is better
 pub record IsWorstSoFar (axles : List Axle) (i j : ℕ) (g : WorstGroup) : Type 0 where
   pub is_group : IsGroup axles g
   pub rows : (a b : ℕ) → a < i → a ≤ b → b < length axles → IsNoWorse axles a b g
@@ -30,7 +32,7 @@ pub record IsWorstSoFar (axles : List Axle) (i j : ℕ) (g : WorstGroup) : Type 
   pub first_row : (a b : ℕ) → a < g.i → a ≤ b → b < length axles → IsBetter axles a b g
   pub first_in_row : (b : ℕ) → g.i ≤ b → b < g.j → IsBetter axles g.i b g
 
--- the first group that no group is worse than
+-- no group is worse than this one, and each one before it in dictionary order is better
 pub record IsWorst (axles : List Axle) (g : WorstGroup) : Type 0 where
   pub is_group : IsGroup axles g
   pub greatest : (a b : ℕ) → a ≤ b → b < length axles → IsNoWorse axles a b g

@@ -6,8 +6,8 @@
 //!
 //! To the crate above it promises that a train is the very list that it was made of, that a list is refused exactly where
 //! it breaks one of the six rules, with the first rule that it breaks and the least axle that breaks it, and that the
-//! weight and the spread of a group are those of the list. No call takes memory, and none goes over the axles but
-//! [`Train::new`].
+//! weight and the spread of a group are those of the list. No call takes memory. A train keeps its running weights, so the
+//! weight of a group is one subtraction.
 #![tactic(auto)]
 
 mod axle;

@@ -43,20 +43,20 @@ impl Train {
     /// A train of these axles, or the first rule that they break.
     ///
     /// The rules are tested in the order of [`TrainRefusal`], each over the whole list. Takes no memory.
-    pub fn new(list: &[Axle]) -> Result<Train, TrainRefusal>
-        ensures ok { IfOk result (λ train. train ≡ list.now) }
-        ensures accepted { IsOk result ↔ IsTrain list.now }
-        ensures taken { IfOk result (λ _. refusal_of list.now ≡ None) }
-        ensures refused { IfErr result (λ refusal. refusal_of list.now ≡ Some refusal) }
-        ensures cause { IfErr result (λ refusal. IsRefused list.now refusal) }
+    pub fn new(axles: &[Axle]) -> Result<Train, TrainRefusal>
+        ensures ok { IfOk result (λ train. train ≡ axles.now) }
+        ensures accepted { IsOk result ↔ IsTrain axles.now }
+        ensures taken { IfOk result (λ _. refusal_of axles.now ≡ None) }
+        ensures refused { IfErr result (λ refusal. refusal_of axles.now ≡ Some refusal) }
+        ensures cause { IfErr result (λ refusal. IsRefused axles.now refusal) }
     {
-        if let Some(refusal) = refusal(list) {
+        if let Some(refusal) = refusal(axles) {
             return Err(refusal);
         }
-        let len = list.len();
+        let len = axles.len();
         Ok(Train {
-            axles: copied(list),
-            before: weights_before(list),
+            axles: copied(axles),
+            before: weights_before(axles),
             len,
         })
     }
