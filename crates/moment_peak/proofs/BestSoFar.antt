@@ -8,7 +8,7 @@ use Rattle.axle_train.specs.Trains.{axle_at}
 use Rattle.axle_train.proofs.Places.{axle_fits}
 use Rattle.moment_peak.specs.declared.best.Candidate.{Candidate}
 use Rattle.moment_peak.specs.declared.run.Run.{Run}
-use Rattle.moment_peak.specs.Runs.{run_value, run_weight, vertex_value, IsRun, CanBeOnSpan}
+use Rattle.moment_peak.specs.Runs.{run_value, run_weight, vertex_value, IsRun}
 use Rattle.moment_peak.specs.Sweeps.{IsOnSpan, IsNext}
 use Rattle.moment_peak.specs.Candidates.{IsAtMost, IsAttained, IsBestAxle, IsBestBefore}
 use Rattle.moment_peak.proofs.Sweep.{one_run}

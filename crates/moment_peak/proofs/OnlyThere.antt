@@ -1,6 +1,6 @@
 -- A vertex has the peak's moment only where the axles on the span are a run that makes the peak with the same axle, and has the same centre of weight.
-use Rattle.std.proofs.Common.{◌≡◌, ℕ, zero, suc, ◌+◌, ◌-◌, ◌*◌, ◌<◌, ◌≤◌, List, [], ◌∷◌, length, arith, refl, ap, sym, ◌∙◌, subst, ℤ, pos, ◌+ℤ◌, inl, inr}
-use Rattle.std.proofs.Math.Nat.{mul-le-mul_left, mul-le-mul_right, le_of_mul-le-mul_right, eq_of_mul-eq-mul_right, mul-pos, le_antisymm}
+use Rattle.std.proofs.Common.{◌≡◌, ℕ, zero, suc, ◌+◌, ◌-◌, ◌*◌, ◌<◌, ◌≤◌, List, [], ◌∷◌, length, arith, refl, ap, subst, ℤ, pos, inl, inr}
+use Rattle.std.proofs.Math.Nat.{mul-le-mul_left, le_of_mul-le-mul_right, eq_of_mul-eq-mul_right, mul-pos, le_antisymm}
 use Rattle.std.proofs.lemmas.Bool.{cases_lt}
 use Rattle.std.proofs.lemmas.Int.{ints}
 use Rattle.axle_train.specs.declared.axle.Axle.{Axle}
@@ -12,7 +12,7 @@ use Rattle.influence_line.specs.declared.placing.Place.{Place}
 use Rattle.influence_line.proofs.Totals.{total, total_is}
 use Rattle.influence_line.proofs.Sections.{StandsAt}
 use Rattle.moment_peak.specs.declared.best.Candidate.{Candidate}
-use Rattle.moment_peak.specs.Runs.{run, weight_in, front_in, back_in, run_weight, run_moment, run_value, vertex_value, IsRun, CanBeOnSpan}
+use Rattle.moment_peak.specs.Runs.{run, weight_in, front_in, back_in, run_weight, run_moment, run_value, vertex_value}
 use Rattle.moment_peak.specs.Candidates.{IsAttained, IsBest}
 use Rattle.moment_peak.specs.declared.first.Vertex.{Vertex}
 use Rattle.moment_peak.specs.Vertices.{IsVertex, Reaches, IsFirstReached}
@@ -20,7 +20,7 @@ use Rattle.moment_peak.specs.Firsts.{IsPeakRun, HaveOneCentre, IsFirstOfAll}
 use Rattle.moment_peak.proofs.Runs.{weight_of, front_of, back_of}
 use Rattle.moment_peak.proofs.Spans.{at}
 use Rattle.moment_peak.proofs.Bound.{BelowVertex, SomeVertex, below_vertex_of}
-use Rattle.moment_peak.proofs.BestIsPeak.{below_value, run_loaded, inside_left}
+use Rattle.moment_peak.proofs.BestIsPeak.{below_value, run_loaded}
 use Rattle.moment_peak.proofs.BySums.{balance_in}
 use Rattle.moment_peak.proofs.Small.{vertex_bounds}
 use Rattle.moment_peak.proofs.SamePlace.{VertexAtPeak, value_some, section_from}

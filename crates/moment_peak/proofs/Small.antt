@@ -1,5 +1,5 @@
 -- The bounds of a peak.
-use Rattle.std.proofs.Common.{◌≡◌, ℕ, ◌+◌, ◌-◌, ◌*◌, ◌<◌, ◌≤◌, ◌^◌, List, drop, arith, ℤ, pos, ◌+ℤ◌}
+use Rattle.std.proofs.Common.{◌≡◌, ℕ, ◌+◌, ◌-◌, ◌*◌, ◌<◌, ◌≤◌, ◌^◌, List, arith, ℤ, pos, ◌+ℤ◌}
 use Rattle.std.proofs.Math.Nat.{mul-le-mul}
 use Rattle.std.proofs.lemmas.Int.{ints}
 use Rattle.axle_train.specs.declared.axle.Axle.{Axle}
@@ -8,7 +8,7 @@ use Rattle.axle_train.specs.Trains.{axle_at}
 use Rattle.influence_line.specs.declared.placing.Place.{Place}
 use Rattle.influence_line.proofs.Products.{product_most}
 use Rattle.moment_peak.specs.declared.best.Candidate.{Candidate}
-use Rattle.moment_peak.specs.Runs.{run, front_in, back_in, run_weight, run_moment, run_value, vertex_value, IsRun}
+use Rattle.moment_peak.specs.Runs.{run_weight, run_moment, vertex_value}
 use Rattle.moment_peak.specs.Candidates.{IsAttained}
 use Rattle.moment_peak.specs.Vertices.{IsVertex}
 use Rattle.moment_peak.proofs.Runs.{weight_of}
