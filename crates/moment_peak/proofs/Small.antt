@@ -13,7 +13,7 @@ use Rattle.moment_peak.specs.Candidates.{IsAttained}
 use Rattle.moment_peak.specs.Vertices.{IsVertex}
 use Rattle.moment_peak.proofs.Runs.{weight_of}
 use Rattle.moment_peak.proofs.RunSums.{sum_part}
-use Rattle.moment_peak.proofs.BestIsPeak.{inside_left, inside_right, run_loaded}
+use Rattle.moment_peak.proofs.BestBounds.{inside_left, inside_right, run_loaded}
 
 value_most : (span R D E : ℕ) → 0 < vertex_value span R D E → vertex_value span R D E ≤ R * span * (R * span)
 unfolding vertex_value
