@@ -8,11 +8,11 @@ use Rattle.axle_train.specs.Trains.{axle_at}
 use Rattle.axle_train.proofs.Places.{axle_fits}
 use Rattle.moment_peak.specs.declared.best.Candidate.{Candidate}
 use Rattle.moment_peak.specs.declared.run.Run.{Run}
-use Rattle.moment_peak.specs.Runs.{run_value, run_weight, vertex_value, IsRun, CanBeOnSpan}
+use Rattle.moment_peak.specs.Runs.{run_value, run_weight, vertex_value, IsRun}
 use Rattle.moment_peak.specs.Sweeps.{IsOnSpan, IsNext}
 use Rattle.moment_peak.specs.Candidates.{IsAtMost, IsAttained, IsBestAxle, IsBestBefore}
 use Rattle.moment_peak.proofs.Sweep.{one_run}
-use Rattle.moment_peak.proofs.BestIsPeak.{run_loaded, first_value, alone_some}
+use Rattle.moment_peak.proofs.BestBounds.{run_loaded, first_value, alone_some}
 
 -- the best of a run's axles is attained
 pub attained_of : (span : ℕ) (axles : List Axle) (run : Run) (best : Candidate) → IsTrain axles → IsOnSpan span axles run → IsBestAxle span axles run (run.last + 1) best → best.value < 2 ^ 72 → 0 < best.value → IsAttained span axles best

@@ -1,5 +1,5 @@
 -- The places of the axles of a run, and what they say of its sums.
-use Rattle.std.proofs.Common.{◌≡◌, ℕ, zero, suc, ◌+◌, ◌-◌, ◌*◌, ◌<◌, ◌≤◌, List, [], ◌∷◌, ◌++◌, length, take, drop, arith, refl, ap, ◌∙◌}
+use Rattle.std.proofs.Common.{◌≡◌, ℕ, zero, suc, ◌+◌, ◌-◌, ◌*◌, ◌<◌, ◌≤◌, List, [], ◌∷◌, ◌++◌, length, take, drop, arith, refl, ap}
 use Rattle.std.proofs.Math.Nat.{mul-le-mul_left}
 use Rattle.std.proofs.Math.Seq.{take-add}
 use Rattle.std.proofs.lemmas.List.{drop-drop}
@@ -8,9 +8,9 @@ use Rattle.axle_train.specs.declared.axle.Axle.{Axle}
 use Rattle.axle_train.specs.Bounds.{RisesFrom}
 use Rattle.axle_train.specs.Trains.{axle_at}
 use Rattle.axle_train.proofs.Places.{place_least}
-use Rattle.influence_line.proofs.Totals.{total, total-append}
+use Rattle.influence_line.proofs.Totals.{total}
 use Rattle.moment_peak.specs.Runs.{run}
-use Rattle.moment_peak.proofs.Runs.{weight_of, moment_of, front_of, back_of, balance}
+use Rattle.moment_peak.proofs.Runs.{weight_of, front_of, back_of}
 
 -- places rise from each axle on
 pub rises_on : (axles : List Axle) (least i : ℕ) → RisesFrom least axles → i < length axles → RisesFrom (axle_at axles i).place (drop i axles)

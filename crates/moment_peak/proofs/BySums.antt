@@ -1,10 +1,8 @@
 -- The value of a run by the sums that the program carries.
 use Rattle.std.proofs.Common.{◌≡◌, ℕ, ◌+◌, ◌-◌, ◌*◌, ◌<◌, ◌≤◌, List, length, take, drop, arith, refl, ap, sym, ◌∙◌, length-drop, get_or-drop}
-use Rattle.std.proofs.Math.Nat.{mul-le-mul_left}
-use Rattle.std.specs.List.{AllByRecursion}
 use Rattle.axle_train.specs.declared.axle.Axle.{Axle}
 use Rattle.axle_train.specs.Bounds.{IsTrain}
-use Rattle.axle_train.specs.Trains.{axle_at, spread}
+use Rattle.axle_train.specs.Trains.{axle_at}
 use Rattle.axle_train.proofs.Places.{place_ordered}
 use Rattle.influence_line.proofs.Totals.{total, total_is, total-append}
 use Rattle.moment_peak.specs.declared.run.Sums.{Sums}
@@ -12,7 +10,7 @@ use Rattle.moment_peak.specs.Runs.{run, weight_in, moment_in, front_in, back_in,
 use Rattle.moment_peak.specs.Sweeps.{AreSums}
 use Rattle.moment_peak.specs.Candidates.{value_by_sums}
 use Rattle.moment_peak.proofs.Runs.{weight_of, moment_of, front_of, back_of, balance}
-use Rattle.moment_peak.proofs.Between.{rises_on, all_from, all_up_to, all_take, no_front, no_back, front_most, back_most, run_parts, IsFrom, IsUpTo}
+use Rattle.moment_peak.proofs.Between.{rises_on, all_from, all_up_to, all_take, no_front, no_back, front_most, back_most, run_parts, IsFrom}
 
 -- two ways to write a vertex's value; H is weight times span
 two_ways : (H D E v u : ℕ) → v + E ≡ H + D → u + D ≡ H + E → v * u - 2 * (D * u + E * v) ≡ v * v - 4 * H * D

@@ -6,13 +6,10 @@ use Rattle.std.proofs.lemmas.Bool.{cases_lt}
 use Rattle.axle_train.specs.declared.axle.Axle.{Axle}
 use Rattle.influence_line.specs.Placed.{moment_line, moment_sum, placed, Load}
 use Rattle.influence_line.proofs.Totals.{total, total_is}
-use Rattle.moment_peak.proofs.Runs.{weight_of}
 use Rattle.influence_line.proofs.Lines.{line_left}
 use Rattle.influence_line.proofs.Sections.{line_beyond}
 use Rattle.moment_peak.proofs.Spans.{off_line}
 use borrow.Author.Differences.{sum_is_lem}
-use Rattle.influence_line.specs.Places.{IsLead}
-use Rattle.influence_line.specs.declared.placing.Place.{Place}
 
 before_line : (n r : ℕ) (x : ℤ) → x <ℤ pos 0 → moment_line n r x ≡ 0
 before_line n r (pos x) h = absurd (omega (arith, ints, h))

@@ -1,15 +1,15 @@
 -- The first vertex at the peak, one run after another.
-use Rattle.std.proofs.Common.{◌≡◌, ℕ, ◌+◌, ◌*◌, ◌<◌, ◌≤◌, List, arith, ap, sym, ◌∙◌, inl, inr}
-use Rattle.std.proofs.Math.Nat.{mul-le-mul_right, le_of_mul-le-mul_right, eq_of_mul-eq-mul_right, le_antisymm}
+use Rattle.std.proofs.Common.{◌≡◌, ℕ, ◌+◌, ◌*◌, ◌<◌, ◌≤◌, List, arith, inl, inr}
+use Rattle.std.proofs.Math.Nat.{le_of_mul-le-mul_right, le_antisymm}
 use Rattle.std.proofs.lemmas.Bool.{cases_lt}
 use Rattle.axle_train.specs.declared.axle.Axle.{Axle}
 use Rattle.axle_train.specs.Bounds.{IsTrain}
 use Rattle.moment_peak.specs.declared.best.Candidate.{Candidate}
 use Rattle.moment_peak.specs.declared.first.Vertex.{Vertex}
 use Rattle.moment_peak.specs.declared.run.Run.{Run}
-use Rattle.moment_peak.specs.Runs.{run_value, run_weight, IsRun, CanBeOnSpan}
+use Rattle.moment_peak.specs.Runs.{run_value, run_weight, IsRun}
 use Rattle.moment_peak.specs.Sweeps.{IsOnSpan, IsNext}
-use Rattle.moment_peak.specs.Candidates.{IsAtMost, IsAttained, IsBest, IsBestAxle}
+use Rattle.moment_peak.specs.Candidates.{IsAttained, IsBest, IsBestAxle}
 use Rattle.moment_peak.specs.Firsts.{IsNoLater, HaveOneCentre, HasCentre, IsFirstCentre, IsPeakRun, IsAtPeak, IsFirstBefore}
 use Rattle.moment_peak.proofs.Sweep.{one_run}
 
@@ -62,13 +62,17 @@ no_later span axles best next run k a is_best on b peak =
       as_high = rw (same, on.sums.weight) peak.as_high;
     }
 
+-- each vertex of a later axle is later
+pub later_axle : (k first last : ℕ) (found : Vertex) → found.axle < k → IsNoLater k first last found
+later_axle k first last found less = record { by_axle = omega arith; by_first = λ same. absurd (omega arith); by_last = λ same same_first. absurd (omega arith) }
+
 -- a vertex with the centre of a run at the peak is not before the first one of the run's best axle
 pub met_by : (axles : List Axle) (k first last : ℕ) (run : Run) (axle : ℕ) (found : Vertex) (span : ℕ) → IsOnSpan span axles run → axle ≤ k → IsFirstCentre axles axle run.sums found → IsRun axles k first last → HaveOneCentre axles first last run.first run.last → IsNoLater k first last found
 met_by axles k first last run axle found span on below f is_run centre =
     elim (cases_lt axle k) [
       | inl before ↦
           let less : found.axle < k = omega (arith, f.axle) in
-          record { by_axle = omega arith; by_first = λ same. absurd (omega arith); by_last = λ same first. absurd (omega arith) }
+          later_axle k first last found less
       | inr here ↦
           let same : k ≡ axle = omega arith in
           let has : HasCentre axles first last run.sums = rw (on.sums.moment, on.sums.weight) centre in

@@ -6,11 +6,12 @@ pub mod BySums
 pub mod BestAxle
 pub mod Sweep
 pub mod Bound
-pub mod BestIsPeak
+pub mod BestBounds
 pub mod BestSoFar
 pub mod Cross
 pub mod FirstSoFar
 pub mod SamePlace
+pub mod PeakOfBest
 pub mod OnlyThere
 pub mod Spans
 pub mod Small

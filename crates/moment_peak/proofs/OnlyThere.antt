@@ -1,6 +1,6 @@
 -- A vertex has the peak's moment only where the axles on the span are a run that makes the peak with the same axle, and has the same centre of weight.
-use Rattle.std.proofs.Common.{◌≡◌, ℕ, zero, suc, ◌+◌, ◌-◌, ◌*◌, ◌<◌, ◌≤◌, List, [], ◌∷◌, length, arith, refl, ap, sym, ◌∙◌, subst, ℤ, pos, ◌+ℤ◌, inl, inr}
-use Rattle.std.proofs.Math.Nat.{mul-le-mul_left, mul-le-mul_right, le_of_mul-le-mul_right, eq_of_mul-eq-mul_right, mul-pos, le_antisymm}
+use Rattle.std.proofs.Common.{◌≡◌, ℕ, zero, suc, ◌+◌, ◌-◌, ◌*◌, ◌<◌, ◌≤◌, List, [], ◌∷◌, length, arith, refl, ap, subst, ℤ, pos, inl, inr}
+use Rattle.std.proofs.Math.Nat.{mul-le-mul_left, le_of_mul-le-mul_right, eq_of_mul-eq-mul_right, mul-pos, le_antisymm}
 use Rattle.std.proofs.lemmas.Bool.{cases_lt}
 use Rattle.std.proofs.lemmas.Int.{ints}
 use Rattle.axle_train.specs.declared.axle.Axle.{Axle}
@@ -12,7 +12,7 @@ use Rattle.influence_line.specs.declared.placing.Place.{Place}
 use Rattle.influence_line.proofs.Totals.{total, total_is}
 use Rattle.influence_line.proofs.Sections.{StandsAt}
 use Rattle.moment_peak.specs.declared.best.Candidate.{Candidate}
-use Rattle.moment_peak.specs.Runs.{run, weight_in, front_in, back_in, run_weight, run_moment, run_value, vertex_value, IsRun, CanBeOnSpan}
+use Rattle.moment_peak.specs.Runs.{run, weight_in, front_in, back_in, run_weight, run_moment, run_value, vertex_value}
 use Rattle.moment_peak.specs.Candidates.{IsAttained, IsBest}
 use Rattle.moment_peak.specs.declared.first.Vertex.{Vertex}
 use Rattle.moment_peak.specs.Vertices.{IsVertex, Reaches, IsFirstReached}
@@ -20,7 +20,7 @@ use Rattle.moment_peak.specs.Firsts.{IsPeakRun, HaveOneCentre, IsFirstOfAll}
 use Rattle.moment_peak.proofs.Runs.{weight_of, front_of, back_of}
 use Rattle.moment_peak.proofs.Spans.{at}
 use Rattle.moment_peak.proofs.Bound.{BelowVertex, SomeVertex, below_vertex_of}
-use Rattle.moment_peak.proofs.BestIsPeak.{below_value, run_loaded, inside_left}
+use Rattle.moment_peak.proofs.BestBounds.{below_value, run_loaded}
 use Rattle.moment_peak.proofs.BySums.{balance_in}
 use Rattle.moment_peak.proofs.Small.{vertex_bounds}
 use Rattle.moment_peak.proofs.SamePlace.{VertexAtPeak, value_some, section_from}
@@ -54,8 +54,8 @@ high_from R w L q M V bv q_some w_some L_some e below most =
     let m : M * (4 * w) ≡ bv * (q * q) = eq_of_mul-eq-mul_right L L_some (M * (4 * w)) (bv * (q * q)) (omega (arith, e)) in
     le_antisymm most (le_of_mul-le-mul_right {m = bv * R} {n = V * w} {k = q * q} (omega (arith, mul-le-mul_left w below, ap (λ t. R * t) m)) (mul-pos q_some q_some))
 
-exact_from : (R w L q M V bv : ℕ) → 0 < w → 0 < L → M * (4 * w * L) ≡ bv * (q * q * L) → V * w ≡ bv * R → 4 * R * M ≡ q * q * V
-exact_from R w L q M V bv w_some L_some e high =
+exact_at : (R w L q M V bv : ℕ) → 0 < w → 0 < L → M * (4 * w * L) ≡ bv * (q * q * L) → V * w ≡ bv * R → 4 * R * M ≡ q * q * V
+exact_at R w L q M V bv w_some L_some e high =
     let m : M * (4 * w) ≡ bv * (q * q) = eq_of_mul-eq-mul_right L L_some (M * (4 * w)) (bv * (q * q)) (omega (arith, e)) in
     eq_of_mul-eq-mul_right w w_some (4 * R * M) (q * q * V) (omega (arith, ap (λ t. R * t) m, ap (λ t. q * q * t) high))
 
@@ -101,7 +101,7 @@ from_some span axles best k first last at some train a is_best vertex q_some m_s
     let loaded : 0 < R = run_loaded axles k first last train.each vertex.is_run in
     let below = below_value at.q span m at.section p middle s.below in
     let high = high_from G best.run.sums.weight span at.q m V best.value q_some a.loaded some e below (is_best s.k s.first s.last s.is_run s.can_be) in
-    let exact = exact_from G best.run.sums.weight span at.q m V best.value a.loaded some e high in
+    let exact = exact_at G best.run.sums.weight span at.q m V best.value a.loaded some e high in
     let v = G * span + D - E in
     let left : E ≤ G * span + D = rw (total_is (back_of p) middle, total_is weight_of middle, total_is (front_of p) middle) at s.below.left_in in
     let v_at : v + E ≡ G * span + D = omega arith in

@@ -1,5 +1,5 @@
 -- A vertex with the centre of weight of a run at the peak has the peak's moment.
-use Rattle.std.proofs.Common.{◌≡◌, ℕ, ◌+◌, ◌-◌, ◌*◌, ◌<◌, ◌≤◌, List, arith, refl, ap, sym, ◌∙◌, ℤ, pos, ◌+ℤ◌, ◌-ℤ◌, ◌*ℤ◌, inl, inr}
+use Rattle.std.proofs.Common.{◌≡◌, ℕ, ◌+◌, ◌-◌, ◌*◌, ◌<◌, ◌≤◌, List, arith, refl, ap, sym, ◌∙◌, ℤ, pos, ◌+ℤ◌, ◌*ℤ◌, inl, inr}
 use Rattle.std.proofs.lemmas.Bool.{cases_lt}
 use Rattle.std.proofs.Math.Nat.{le_of_mul-le-mul_left, eq_of_mul-eq-mul_right, mul-pos, mul-le-mul_right, le_antisymm}
 use Rattle.std.proofs.lemmas.Int.{ints}
@@ -15,7 +15,7 @@ use Rattle.moment_peak.specs.Runs.{run, front_in, back_in, run_weight, run_momen
 use Rattle.moment_peak.specs.Candidates.{IsAttained, IsBest}
 use Rattle.moment_peak.specs.Vertices.{IsVertex, Reaches}
 use Rattle.moment_peak.specs.Firsts.{IsPeakRun, HaveOneCentre, IsAtPeak}
-use Rattle.moment_peak.proofs.BestIsPeak.{lead_at, vertex_reaches, greatest, cancel_den, inside_left, run_loaded}
+use Rattle.moment_peak.proofs.BestBounds.{lead_at, vertex_reaches, greatest, cancel_den, inside_left, run_loaded}
 use Rattle.moment_peak.proofs.BySums.{balance_in}
 use Rattle.moment_peak.proofs.Finer.{moment_scaled}
 use Rattle.moment_peak.proofs.Small.{under_from}

@@ -1,5 +1,5 @@
 -- The bounds of a peak.
-use Rattle.std.proofs.Common.{◌≡◌, ℕ, ◌+◌, ◌-◌, ◌*◌, ◌<◌, ◌≤◌, ◌^◌, List, drop, arith, ℤ, pos, ◌+ℤ◌}
+use Rattle.std.proofs.Common.{◌≡◌, ℕ, ◌+◌, ◌-◌, ◌*◌, ◌<◌, ◌≤◌, ◌^◌, List, arith, ℤ, pos, ◌+ℤ◌}
 use Rattle.std.proofs.Math.Nat.{mul-le-mul}
 use Rattle.std.proofs.lemmas.Int.{ints}
 use Rattle.axle_train.specs.declared.axle.Axle.{Axle}
@@ -8,12 +8,12 @@ use Rattle.axle_train.specs.Trains.{axle_at}
 use Rattle.influence_line.specs.declared.placing.Place.{Place}
 use Rattle.influence_line.proofs.Products.{product_most}
 use Rattle.moment_peak.specs.declared.best.Candidate.{Candidate}
-use Rattle.moment_peak.specs.Runs.{run, front_in, back_in, run_weight, run_moment, run_value, vertex_value, IsRun}
+use Rattle.moment_peak.specs.Runs.{run_weight, run_moment, vertex_value}
 use Rattle.moment_peak.specs.Candidates.{IsAttained}
 use Rattle.moment_peak.specs.Vertices.{IsVertex}
 use Rattle.moment_peak.proofs.Runs.{weight_of}
 use Rattle.moment_peak.proofs.RunSums.{sum_part}
-use Rattle.moment_peak.proofs.BestIsPeak.{inside_left, inside_right, run_loaded}
+use Rattle.moment_peak.proofs.BestBounds.{inside_left, inside_right, run_loaded}
 
 value_most : (span R D E : ℕ) → 0 < vertex_value span R D E → vertex_value span R D E ≤ R * span * (R * span)
 unfolding vertex_value

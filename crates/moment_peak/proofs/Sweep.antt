@@ -1,9 +1,9 @@
 -- From one run that can be the axles on the span to the next.
-use Rattle.std.proofs.Common.{◌≡◌, ℕ, ◌+◌, ◌-◌, ◌*◌, ◌<◌, ◌≤◌, List, length, arith, inl, inr}
+use Rattle.std.proofs.Common.{◌≡◌, ℕ, ◌+◌, ◌-◌, ◌<◌, ◌≤◌, List, length, arith, inl, inr}
 use Rattle.std.proofs.lemmas.Bool.{cases_lt}
 use Rattle.axle_train.specs.declared.axle.Axle.{Axle}
 use Rattle.axle_train.specs.Bounds.{IsTrain}
-use Rattle.axle_train.specs.Trains.{axle_at, spread}
+use Rattle.axle_train.specs.Trains.{spread}
 use Rattle.axle_train.proofs.Places.{place_ordered}
 use Rattle.moment_peak.specs.Runs.{CanBeOnSpan}
 

@@ -1,5 +1,5 @@
 -- The runs that can be the axles on the span, one after another, with the sums of each.
-use Rattle.std.specs.Prelude.{◌≡◌, ℕ, ◌+◌, ◌-◌, ◌*◌, ◌≤◌, List, take, drop}
+use Rattle.std.specs.Prelude.{◌≡◌, ℕ, ◌+◌, ◌-◌, ◌≤◌, List, take, drop}
 use Rattle.axle_train.specs.declared.axle.Axle.{Axle}
 use Rattle.moment_peak.specs.declared.run.Sums.{Sums}
 use Rattle.moment_peak.specs.declared.run.Run.{Run}

@@ -36,20 +36,6 @@ pub fn best_run(train: &Train, span: u32) -> Candidate
     best
 }
 
-/// The better of two candidates, `best` where they are equal.
-fn better(best: Candidate, next: Candidate) -> Candidate
-    requires loaded { 0 < best.run.sums.weight }
-    requires small { (best.value < 2 ^ 72) × (next.value < 2 ^ 72) }
-    requires light { (best.run.sums.weight ≤ 2000000) × (next.run.sums.weight ≤ 2000000) }
-    ensures kept { (v w : ℕ) → IsAtMost v w best → IsAtMost v w result }
-    ensures met { IsAtMost next.value next.run.sums.weight result }
-    ensures either { (result ≡ best) ⊎ ((result ≡ next) × (0 < next.value)) }
-{
-    let left = next.value * u128::from(best.run.sums.weight);
-    let right = best.value * u128::from(next.run.sums.weight);
-    if left > right { next } else { best }
-}
-
 /// The first of a run's axles under which its moment is greatest.
 pub fn best_axle(train: &Train, span: u32, run: Run) -> Candidate
     requires long { span ≤ 6000 }
@@ -81,7 +67,23 @@ pub fn best_axle(train: &Train, span: u32, run: Run) -> Candidate
     best
 }
 
-/// The value of a run at one of its axles, by its sums, those of its axles before that one, and that one's place.
+/// The better of two candidates, `best` where they are equal.
+fn better(best: Candidate, next: Candidate) -> Candidate
+    requires loaded { 0 < best.run.sums.weight }
+    requires small { (best.value < 2 ^ 72) × (next.value < 2 ^ 72) }
+    requires light { (best.run.sums.weight ≤ 2000000) × (next.run.sums.weight ≤ 2000000) }
+    ensures kept { (v w : ℕ) → IsAtMost v w best → IsAtMost v w result }
+    ensures met { IsAtMost next.value next.run.sums.weight result }
+    ensures either { (result ≡ best) ⊎ ((result ≡ next) × (0 < next.value)) }
+{
+    let left = next.value * u128::from(best.run.sums.weight);
+    let right = best.value * u128::from(next.run.sums.weight);
+    if left > right { next } else { best }
+}
+
+/// The value of a run at one of its axles, by its sums, those of its axles before that one, and that one's place. At its
+/// vertex the axle stands `at` units of 1 / (2 * weight) inch from the left support. The moment there is the left reaction
+/// times that distance, at * at / (4 * weight * span), less `front`, what the axles in front take off.
 fn vertex_value(span: u32, run: Sums, before: Sums, place: u32) -> u128
     requires long { span ≤ 6000 }
     requires near { place ≤ 3000 }

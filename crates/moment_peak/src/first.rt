@@ -53,7 +53,13 @@ fn with_run(train: &Train, span: u32, best: Candidate, run: Run, found: Vertex) 
     ensures met { (k first last : ℕ) → IsPeakRun span train.now best k run.first run.last → IsRun train.now k first last
         → HaveOneCentre train.now first last run.first run.last → IsNoLater k first last result }
 {
+    if found.axle < run.first {
+        return found;
+    }
     let next = best_axle(train, span, run);
+    if found.axle < next.axle {
+        return found;
+    }
     let left = next.value * u128::from(best.run.sums.weight);
     let right = best.value * u128::from(run.sums.weight);
     if left == right {

@@ -1,7 +1,7 @@
 use Rattle.std.proofs.Common.{◌<◌, arith}
 use Rattle.std.proofs.Math.Nat.{mul-pos}
 use Rattle.influence_line.specs.Peaks.{IsTrainPlaced}
-use Rattle.moment_peak.proofs.BestIsPeak.{peak_of_best, peak_reduced}
+use Rattle.moment_peak.proofs.PeakOfBest.{peak_of_best, peak_reduced}
 use Rattle.moment_peak.proofs.Small.{best_small}
 use Rattle.moment_peak.proofs.moment_of.Goals as goal
 

@@ -1,6 +1,4 @@
-use Rattle.std.proofs.Common.{◌≡◌, ◌<◌, arith, subst, inl, inr, sym}
-use Rattle.moment_peak.specs.declared.best.Candidate.{Candidate}
-use Rattle.moment_peak.specs.Candidates.{IsAttained}
+use Rattle.std.proofs.Common.{inl, inr}
 use Rattle.moment_peak.proofs.BestSoFar.{attained_of, start_some, best_before-start, best_before-more}
 use Rattle.moment_peak.proofs.best.best_run.Goals as goal
 

@@ -1,4 +1,4 @@
-use Rattle.std.proofs.Common.{ℕ, ◌+◌, ◌-◌, ◌*◌, length}
+use Rattle.std.proofs.Common.{◌+◌, ◌-◌, ◌*◌, length}
 use Rattle.moment_peak.specs.Candidates.{IsAttained, IsBestBefore}
 use Rattle.moment_peak.specs.Sweeps.{IsOnSpan}
 use Rattle.moment_peak.proofs.best.best_run.Given as goal

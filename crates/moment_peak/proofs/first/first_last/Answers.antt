@@ -1,8 +1,5 @@
-use Rattle.std.proofs.Common.{◌≡◌, ◌+◌, ◌*◌, ◌<◌, ◌≤◌, length, arith, inl, inr}
+use Rattle.std.proofs.Common.{◌≡◌, ◌<◌, ◌≤◌, length, arith, inl, inr}
 use Rattle.std.proofs.lemmas.Bool.{cases_lt}
-use Rattle.moment_peak.specs.Firsts.{HasCentre}
-use Rattle.moment_peak.specs.Runs.{run_moment, run_weight}
-use Rattle.moment_peak.specs.Sweeps.{AreSums}
 use Rattle.moment_peak.proofs.RunSums.{sums_with}
 use Rattle.moment_peak.proofs.first.first_last.Goals as goal
 

@@ -1,4 +1,4 @@
-use Rattle.std.proofs.Common.{◌≡◌, ◌+◌, ◌*◌, ◌≤◌, arith}
+use Rattle.std.proofs.Common.{arith}
 use Rattle.moment_peak.proofs.FirstSoFar.{at_peak, best_peaks, first_before-start, first_before-more}
 use Rattle.moment_peak.proofs.first.first_vertex.Goals as goal
 

@@ -1,4 +1,4 @@
-use Rattle.std.proofs.Common.{ℕ, ◌+◌, ◌-◌, ◌*◌, length}
+use Rattle.std.proofs.Common.{◌+◌, ◌-◌, ◌*◌, length}
 use Rattle.moment_peak.specs.Firsts.{IsAtPeak, IsFirstBefore}
 use Rattle.moment_peak.specs.Sweeps.{IsOnSpan}
 use Rattle.moment_peak.proofs.first.first_vertex.Given as goal

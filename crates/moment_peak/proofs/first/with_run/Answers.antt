@@ -1,5 +1,5 @@
 use Rattle.std.proofs.Common.{◌≡◌, ◌*◌, arith, inl, inr}
-use Rattle.moment_peak.proofs.FirstSoFar.{at_peak, axle_peaks, no_later, met_by}
+use Rattle.moment_peak.proofs.FirstSoFar.{at_peak, axle_peaks, later_axle, no_later, met_by}
 use Rattle.moment_peak.proofs.first.with_run.Goals as goal
 
 pub returns-then-left-right-clause-found : goal.returns-then-left-right-clause-found
@@ -23,3 +23,12 @@ pub returns-else-left-right-clause-met : goal.returns-else-left-right-clause-met
 returns-else-left-right-clause-met c = λ k first last peak is_run centre.
     let later = no_later c.args.span c.args.train.now c.args.best c.best_axle-next.result c.args.run k c.requires.attained c.requires.best c.requires.on c.best_axle-next.ensures.best peak in
     absurd (c.if-left-right.false (rw (c.from.ensures, c.from-2.ensures) later.as_high))
+
+pub returns-then-found-run-clause-met : goal.returns-then-found-run-clause-met
+returns-then-found-run-clause-met c = λ k first last peak is_run centre.
+    later_axle k first last c.args.found (omega (arith, c.if-found-run.true, peak.is_run.from))
+
+pub returns-then-found-next-clause-met : goal.returns-then-found-next-clause-met
+returns-then-found-next-clause-met c = λ k first last peak is_run centre.
+    let later = no_later c.args.span c.args.train.now c.args.best c.best_axle-next.result c.args.run k c.requires.attained c.requires.best c.requires.on c.best_axle-next.ensures.best peak in
+    later_axle k first last c.args.found (omega (arith, c.if-found-next.true, later.axle))

@@ -1,4 +1,4 @@
-use Rattle.std.proofs.Common.{◌≡◌, ◌+◌, ◌<◌, ◌≤◌, arith}
+use Rattle.std.proofs.Common.{◌+◌, ◌<◌, arith}
 use Rattle.axle_train.specs.Trains.{spread}
 use Rattle.moment_peak.proofs.Sweep.{none_between}
 use Rattle.moment_peak.proofs.run.Run.next.Goals as goal

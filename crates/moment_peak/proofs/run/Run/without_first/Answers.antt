@@ -1,4 +1,4 @@
-use Rattle.std.proofs.Common.{◌≡◌, ◌+◌, ◌-◌, ◌*◌, ◌<◌, ◌≤◌, length, arith, ap}
+use Rattle.std.proofs.Common.{◌≡◌, ◌+◌, arith, ap}
 use Rattle.axle_train.specs.Trains.{axle_at}
 use Rattle.moment_peak.proofs.RunSums.{sum_less, are_sums}
 use Rattle.moment_peak.proofs.Runs.{weight_of, moment_of}

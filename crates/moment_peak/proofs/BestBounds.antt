@@ -1,6 +1,6 @@
--- The best run's value is the peak moment.
+-- No placement exceeds the best run, and at its own vertex each run has at least its value.
 use Rattle.std.proofs.Common.{◌≡◌, ℕ, ◌+◌, ◌-◌, ◌*◌, ◌<◌, ◌≤◌, List, [], ◌∷◌, length, take, drop, arith, refl, ap, ◌∙◌, ℤ, pos, ◌+ℤ◌, ◌-ℤ◌, inl, inr, length-drop, length-take, get_or-drop, get_or-take}
-use Rattle.std.proofs.Math.Nat.{mul-le-mul_left, mul-le-mul_right, le_of_mul-le-mul_right, eq_of_mul-eq-mul_right, mul-sub, mul-pos, add-zero, sub-zero, mul_comm, le_antisymm}
+use Rattle.std.proofs.Math.Nat.{mul-le-mul_left, le_of_mul-le-mul_right, eq_of_mul-eq-mul_right, mul-sub, mul-pos, add-zero, sub-zero, mul_comm}
 use Rattle.std.proofs.lemmas.Bool.{cases_lt}
 use Rattle.std.proofs.lemmas.Int.{ints}
 use Rattle.std.proofs.lemmas.List.Sums.{sum_by-take-le, sum_by-take-drop, get_or-le-sum_by}
@@ -8,11 +8,10 @@ use Rattle.axle_train.specs.declared.axle.Axle.{Axle}
 use Rattle.axle_train.specs.Bounds.{EachFits, IsTrain}
 use Rattle.axle_train.specs.Trains.{axle_at, no_axle}
 use Rattle.axle_train.proofs.Places.{axle_fits}
-use Rattle.influence_line.specs.Placed.{moment_sum, placed, Load}
-use Rattle.influence_line.specs.Peaks.{IsPeakMoment, IsTrainPlaced}
+use Rattle.influence_line.specs.Placed.{moment_sum, placed}
 use Rattle.moment_peak.specs.declared.best.Candidate.{Candidate}
 use Rattle.moment_peak.specs.Runs.{run, weight_in, front_in, back_in, run_weight, run_value, vertex_value, IsRun}
-use Rattle.moment_peak.specs.Candidates.{IsAttained, IsBest}
+use Rattle.moment_peak.specs.Candidates.{IsBest}
 use Rattle.influence_line.proofs.Totals.{total, total_is, under_of}
 use Rattle.moment_peak.proofs.Runs.{weight_of, front_of, back_of, share_all}
 use Rattle.influence_line.proofs.Lines.{moment_under}
@@ -112,49 +111,11 @@ vertex_reaches span axles k first last h =
     let share_sums = rw (total_is weight_of middle, total_is (front_of place) middle, total_is (back_of place) middle) at share in
     (omega arith, lower_from R D E v u _ (omega (arith, share_sums, true_moment, part)))
 
--- at its own vertex the best run's moment is its value
-pub exact_from : (R L value m : ℕ) → m * (4 * R * L) ≤ value * (2 * R * (2 * R) * L) → value * R ≤ m → 0 < R → 0 < L → m * (4 * R * L) ≡ value * (2 * R * (2 * R) * L)
-exact_from R L value m h k p q =
-    le_antisymm h (omega (arith, mul-le-mul_right (4 * R * L) k))
-
--- the run's own weight is its sum
-pub weight_is : (span : ℕ) (axles : List Axle) (best : Candidate) → IsAttained span axles best → best.run.sums.weight ≡ run_weight axles best.run.first best.run.last
-weight_is span axles best a = a.on.sums.weight
-
-pub peak_of_best : (span : ℕ) (axles : List Axle) (best : Candidate) → 0 < span → IsTrain axles → IsAttained span axles best → IsBest span axles best → IsPeakMoment (IsTrainPlaced axles) span best.value (4 * best.run.sums.weight * span)
-peak_of_best span axles best some train a is_best =
-    let run_of = best.run in
-    let R = run_weight axles run_of.first run_of.last in
-    let D = front_in (axle_at axles best.axle).place (run axles run_of.first run_of.last) in
-    let E = back_in (axle_at axles best.axle).place (run axles run_of.first run_of.last) in
-    let v = R * span + D - E in
-    let lead = lead_at (2 * R) (axle_at axles best.axle).place v in
-    let loads = placed (2 * R) lead axles in
-    let weight = weight_is span axles best a in
-    let loaded : 0 < R = rw weight at a.loaded in
-    let reaches = vertex_reaches span axles best.axle run_of.first run_of.last (rw a.value at a.some) in
-    let above = greatest span axles best train is_best (2 * R) v lead (omega arith) reaches.0 in
-    let exact = exact_from R span best.value (moment_sum (2 * R * span) v loads) (rw weight at above) (rw a.value reaches.1) loaded some in
-    record {
-      reached = (2 * R, v, loads, omega arith, reaches.0, (lead, refl), rw weight exact);
-      greatest = λ q section others h k is_placed. rw is_placed.1 (greatest span axles best train is_best q section is_placed.0 h k);
-    }
-
+-- a moment by another fraction of the same value
 pub cancel_den : (M n d num den Q : ℕ) → num * d ≡ n * den → 0 < d → M * d ≡ n * Q → M * den ≡ num * Q
 cancel_den M n d num den Q e p h = eq_of_mul-eq-mul_right d p (M * den) (num * Q) (omega (arith, ap (λ t. t * den) h, ap (λ t. t * Q) e))
 
-cancel_den-le : (M n d num den Q : ℕ) → num * d ≡ n * den → 0 < d → M * d ≤ n * Q → M * den ≤ num * Q
-cancel_den-le M n d num den Q e p h = le_of_mul-le-mul_right {m = M * den} {n = num * Q} {k = d} (omega (arith, mul-le-mul_right den h, ap (λ t. t * Q) e)) p
-
--- a peak is one by every fraction of its value
-pub peak_reduced : (Allowed : ℕ → List Load → Type 0) (span n d num den : ℕ) → 0 < d → num * d ≡ n * den → IsPeakMoment Allowed span n d → IsPeakMoment Allowed span num den
-peak_reduced Allowed span n d num den p e h =
-    let r = h.reached in
-    record {
-      reached = (r.0, r.1, r.2, r.3, r.4, r.5, cancel_den _ n d num den _ e p r.6);
-      greatest = λ q section loads a b c. cancel_den-le _ n d num den _ e p (h.greatest q section loads a b c);
-    }
-
+-- the run of the first axle alone
 pub first_weight : (axles : List Axle) → 0 < length axles → run_weight axles 0 0 ≡ (axle_at axles 0).weight
 first_weight [] h = absurd (omega arith)
 first_weight (a ∷ rest) h = omega arith

@@ -1,0 +1,39 @@
+-- The best run's value is the peak moment.
+use Rattle.std.proofs.Common.{◌≡◌, ℕ, ◌*◌, ◌<◌, ◌≤◌, List, arith, refl, ap}
+use Rattle.std.proofs.Math.Nat.{mul-le-mul_right, le_of_mul-le-mul_right}
+use Rattle.axle_train.specs.declared.axle.Axle.{Axle}
+use Rattle.axle_train.specs.Bounds.{IsTrain}
+use Rattle.axle_train.specs.Trains.{axle_at}
+use Rattle.influence_line.specs.Placed.{placed, Load}
+use Rattle.influence_line.specs.Peaks.{IsPeakMoment, IsTrainPlaced}
+use Rattle.moment_peak.specs.declared.best.Candidate.{Candidate}
+use Rattle.moment_peak.specs.Runs.{run_weight}
+use Rattle.moment_peak.specs.Candidates.{IsAttained, IsBest}
+use Rattle.moment_peak.proofs.BestBounds.{cancel_den, greatest, lead_at, run_loaded}
+use Rattle.moment_peak.proofs.FirstSoFar.{best_peaks}
+use Rattle.moment_peak.proofs.SamePlace.{peak_place}
+
+-- the best run reaches its value at its own vertex, and no placement exceeds it
+pub peak_of_best : (span : ℕ) (axles : List Axle) (best : Candidate) → 0 < span → IsTrain axles → IsAttained span axles best → IsBest span axles best → IsPeakMoment (IsTrainPlaced axles) span best.value (4 * best.run.sums.weight * span)
+peak_of_best span axles best some train a is_best =
+    let R = run_weight axles best.run.first best.run.last in
+    let peak = best_peaks span axles best a in
+    let loaded : 0 < R = run_loaded axles best.axle best.run.first best.run.last train.each peak.is_run in
+    let place = peak_place span axles best best.value (4 * best.run.sums.weight * span) best.axle best.run.first best.run.last some train a is_best refl peak in
+    let lead = lead_at (2 * R) (axle_at axles best.axle).place place.v in
+    record {
+      reached = (2 * R, place.v, placed (2 * R) lead axles, omega arith, place.on, (lead, refl), place.reaches);
+      greatest = λ q section loads h k is_placed. rw is_placed.1 (greatest span axles best train is_best q section is_placed.0 h k);
+    }
+
+cancel_den-le : (M n d num den Q : ℕ) → num * d ≡ n * den → 0 < d → M * d ≤ n * Q → M * den ≤ num * Q
+cancel_den-le M n d num den Q e p h = le_of_mul-le-mul_right {m = M * den} {n = num * Q} {k = d} (omega (arith, mul-le-mul_right den h, ap (λ t. t * Q) e)) p
+
+-- a peak is one by every fraction of its value
+pub peak_reduced : (Allowed : ℕ → List Load → Type 0) (span n d num den : ℕ) → 0 < d → num * d ≡ n * den → IsPeakMoment Allowed span n d → IsPeakMoment Allowed span num den
+peak_reduced Allowed span n d num den p e h =
+    let r = h.reached in
+    record {
+      reached = (r.0, r.1, r.2, r.3, r.4, r.5, cancel_den _ n d num den _ e p r.6);
+      greatest = λ q section loads a b c. cancel_den-le _ n d num den _ e p (h.greatest q section loads a b c);
+    }
