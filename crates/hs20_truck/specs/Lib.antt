@@ -1,1 +1,3 @@
+pub use Rattle.influence_line.specs.Peaks
+pub use Rattle.span_rating.specs.Loading
 pub mod Design

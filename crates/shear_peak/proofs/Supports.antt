@@ -69,7 +69,7 @@ past_now : (q n place : ℕ) (lead : ℤ) (axles : List Axle) → AllByRecursion
 past_now q n place lead [] h = tt
 past_now q n place lead (a ∷ rest) h = (λ k. h.0, past_now q n place lead rest h.1)
 
-place_from : (axles : List Axle) (least i : ℕ) → RisesFrom least axles → i < length axles → least ≤ (axle_at axles i).place
+pub place_from : (axles : List Axle) (least i : ℕ) → RisesFrom least axles → i < length axles → least ≤ (axle_at axles i).place
 place_from [] least i rises h = omega arith
 place_from (a ∷ rest) least zero rises h = rises.0
 place_from (a ∷ rest) least (suc i) rises h = omega (arith, rises.0, place_from rest (a.place + 1) i rises.1 (omega arith))
