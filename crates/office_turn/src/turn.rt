@@ -16,9 +16,11 @@ use std::marker::Model;
 use std::snapshot::Snapshot;
 use std::sync::Wait;
 
-/// A lock around a value, whose turns are taken in the order of their tickets. It ends in [`Turn::close`].
+/// A lock around a value, whose turns are taken in the order of their tickets. [`Turn::close`] gives the value back. A
+/// lock that is let go drops it.
 ///
 /// In contracts it is a `Lock`: which one, the terms of the value at its start, and the most turns that it gives.
+#[derive(Drop)]
 pub struct Turn<V: Storied> {
     table: Table<Option<V>, View<V::Entry, V::Terms>, Opening<V>, Law, Global>,
     most: u32,
@@ -153,6 +155,7 @@ impl<V: Storied> Turn<V> {
         ensures terms { Some (V.terms result) ≡ root.lock.terms }
         ensures seen { StartsWith (V.story result) root.seen }
         ensures own { All (λ receipt. entries_of V.caller receipt.number (V.story result) ≡ receipt.own) root.receipts }
+        ensures room { length (V.story result) ≤ root.lock.most }
         ensures callers { All (λ e. V.caller e < root.admitted) (V.story result) }
         ensures others { All (λ e. Any (λ receipt. V.caller e ≡ receipt.number) root.receipts) (V.story result) }
         ensures worn { All (λ receipt. receipt.worn ≡ true → length (V.story result) ≡ root.lock.most) root.receipts }
