@@ -19,11 +19,15 @@ pub fn draw<V: Storied, R: Wait>(
     seat: &mut Seat<Option<V>, View<V::Entry, V::Terms>>,
     most: u32,
 ) -> Result<u64, Worn>
-    requires lock { (seat.old.table_id ≡ shared.now.table_id) × (shared.now.table_id.words ≡ 2) × (most ≡ seat.old.me.0.most) }
-    requires view { (seat.old.me.0.ticket ≡ None) × (seat.old.me.0.is_spent ≡ false) × (seat.old.me.0.is_root ≡ false) }
-    ensures drawn { IfOk result (λ ticket. (ticket < most) × (seat.new.me ≡ (with_ticket seat.old.me.0 ticket, seat.old.me.1))) }
+    requires lock { (seat.old.table_id ≡ shared.now.table_id)
+        × (shared.now.table_id.words ≡ 2) × (most ≡ seat.old.me.0.most) }
+    requires view { (seat.old.me.0.ticket ≡ None)
+        × (seat.old.me.0.is_spent ≡ false) × (seat.old.me.0.is_root ≡ false) }
+    ensures drawn { IfOk result (λ ticket.
+        (ticket < most) × (seat.new.me ≡ (with_ticket seat.old.me.0 ticket, seat.old.me.1))) }
     ensures not_worn { OnOk result (seat.old.me.0.worn ≡ false) }
-    ensures worn { IfErr result (λ worn. (worn.turns ≡ most) × (seat.new.me ≡ (with_worn seat.old.me.0, seat.old.me.1))) }
+    ensures worn { IfErr result (λ worn.
+        (worn.turns ≡ most) × (seat.new.me ≡ (with_worn seat.old.me.0, seat.old.me.1))) }
     ensures same { (seat.new.table_id ≡ seat.old.table_id) × (seat.new.id ≡ seat.old.id) }
 {
     for _ in rt.forever() {
@@ -49,7 +53,8 @@ pub fn wait_for<V: Storied, R: Wait>(
 ) -> V
     requires lock { (seat.old.table_id ≡ shared.now.table_id) × (shared.now.table_id.words ≡ 2) }
     requires ticket { ticket < 2 ^ 32 }
-    requires view { (seat.old.me.0.ticket ≡ Some ticket) × (seat.old.me.0.looked ≡ false) × (seat.old.me.0.is_spent ≡ false) × (seat.old.me.0.is_root ≡ false) × (seat.old.me.1 ≡ []) }
+    requires view { (seat.old.me.0.ticket ≡ Some ticket) × (seat.old.me.0.looked ≡ false)
+        × (seat.old.me.0.is_spent ≡ false) × (seat.old.me.0.is_root ≡ false) × (seat.old.me.1 ≡ []) }
     ensures view { seat.new.me ≡ (with_story seat.old.me.0 (V.story result), (0, None) ∷ []) }
     ensures extends { StartsWith (V.story result) seat.old.me.0.seen }
     ensures room { length (V.story result) < seat.old.me.0.most }
@@ -77,9 +82,12 @@ pub fn put_back<V: Storied>(
     seat: &mut Seat<Option<V>, View<V::Entry, V::Terms>>,
     value: V,
 )
-    requires lock { (seat.old.table_id ≡ shared.now.table_id) × (shared.now.table_id.words ≡ 2) × (seat.old.me.0.most < 2 ^ 32) }
-    requires view { (seat.old.me.0.looked ≡ true) × (seat.old.me.0.is_spent ≡ false) × (seat.old.me.0.is_root ≡ false) × (seat.old.me.1 ≡ (0, None) ∷ []) }
-    requires story { (e : V.Entry) × (V.story value ≡ seat.old.me.0.seen ++ e ∷ []) × (V.caller e ≡ seat.old.me.0.number) }
+    requires lock { (seat.old.table_id ≡ shared.now.table_id)
+        × (shared.now.table_id.words ≡ 2) × (seat.old.me.0.most < 2 ^ 32) }
+    requires view { (seat.old.me.0.looked ≡ true) × (seat.old.me.0.is_spent ≡ false)
+        × (seat.old.me.0.is_root ≡ false) × (seat.old.me.1 ≡ (0, None) ∷ []) }
+    requires story { (e : V.Entry)
+        × (V.story value ≡ seat.old.me.0.seen ++ e ∷ []) × (V.caller e ≡ seat.old.me.0.number) }
     requires terms { Some (V.terms value) ≡ seat.old.me.0.terms }
     ensures view { seat.new.me ≡ (after_passing seat.old.me.0 (V.story value), []) }
     ensures own { entries_of V.caller seat.old.me.0.number (V.story value) ≡ seat.new.me.0.own }
@@ -99,9 +107,11 @@ pub fn take_in<V: Storied>(
     root: &mut Seat<Option<V>, View<V::Entry, V::Terms>>,
     pass: Seat<Option<V>, View<V::Entry, V::Terms>>,
 )
-    requires lock { (root.old.table_id ≡ shared.now.table_id) × (pass.table_id ≡ shared.now.table_id) × (shared.now.table_id.words ≡ 2) }
+    requires lock { (root.old.table_id ≡ shared.now.table_id)
+        × (pass.table_id ≡ shared.now.table_id) × (shared.now.table_id.words ≡ 2) }
     requires root { (root.old.me.0.is_root ≡ true) × (root.old.me.0.is_spent ≡ false) }
-    requires pass { (pass.me.0.is_root ≡ false) × (pass.me.0.is_spent ≡ false) × (pass.me.0.looked ≡ false) × (pass.me.0.ticket ≡ None) × (pass.me.1 ≡ []) }
+    requires pass { (pass.me.0.is_root ≡ false) × (pass.me.0.is_spent ≡ false)
+        × (pass.me.0.looked ≡ false) × (pass.me.0.ticket ≡ None) × (pass.me.1 ≡ []) }
     ensures view { root.new.me ≡ (after_receiving root.old.me.0 pass.me.0, root.old.me.1) }
     ensures seen { StartsWith root.new.me.0.seen root.old.me.0.seen × StartsWith root.new.me.0.seen pass.me.0.seen }
     ensures tally { length root.new.me.0.receipts ≤ root.new.me.0.admitted }
