@@ -1,5 +1,5 @@
 -- What the rule says once all passes were joined.
-use Rattle.std.proofs.Common.{◌≡◌, ℕ, ◌+◌, ◌<◌, ◌≢◌, true, false, List, Option, Some, length, get_or, sym, ap, ◌∙◌, subst, arith}
+use Rattle.std.proofs.Common.{◌≤◌, ◌≡◌, ℕ, ◌+◌, ◌<◌, ◌≢◌, true, false, List, Option, Some, length, get_or, sym, ap, ◌∙◌, subst, arith}
 use mathlib.Core.Option.{some}
 use mathlib.Core.Logic.{dite}
 use native.Mathlib.Decide.{ℕ_discrete, dec_le}
@@ -35,6 +35,7 @@ pub record Accounts {V E T : Type 0} (caller : E → ℕ) (story : V → List E)
   pub terms_stay : Some (terms x) ≡ root.lock.terms
   pub seen : StartsWith (story x) root.seen
   pub own : All (λ r. entries_of caller r.number (story x) ≡ r.own) root.receipts
+  pub room : length (story x) ≤ root.lock.most
   pub callers : All (λ e. caller e < root.admitted) (story x)
   pub others : All (λ e. Any (λ r. caller e ≡ r.number) root.receipts) (story x)
   pub worn : All (λ r. r.worn ≡ true → length (story x) ≡ root.lock.most) root.receipts
@@ -74,6 +75,7 @@ module _ {V E T : Type 0} (caller : E → ℕ) (story : V → List E) (terms : V
           terms_stay = ap (λ (y : T). Some y) (t.2 ∙ sym r.terms_are) ∙ sym f.terms;
           seen = (f.seen.0, t.3 ∙ f.seen.1);
           own = all_of (λ y. entries_of caller y.number (story x) ≡ y.own) v.receipts (λ i y there. ap (entries_of caller y.number) t.3 ∙ sym (r.receipts i y (same_receipts i y there)).own);
+          room = omega (arith, ap {B = ℕ} length t.3, r.count, r.tickets.ordered, r.bounded, f.most, r.most_is);
           callers = all_of (λ e. caller e < v.admitted) (story x) (λ k e there. omega (arith, low k e there, is_root.2));
           others = all_of (λ e. Any (λ y. caller e ≡ y.number) v.receipts) (story x) (λ k e there.
               let u = some_at s.views (caller e + 1) (omega (arith, r.numbers.places, low k e there)) in

@@ -91,5 +91,5 @@ module _ {V E T : Type 0} (caller : E → ℕ) (story : V → List E) (terms : V
         keeps,
         tt,
         unmoved caller story terms first most s 1 id m.0 m.1 at r,
-        λ k' mine'. let is : k ≡ k' = some_same k k' (sym mine ∙ mine') in ((λ hit. absurd (miss (hit ∙ sym is))), λ _. refl),
+        λ k' mine'. let is : k ≡ k' = some_same k k' (sym mine ∙ mine') in ((λ hit. absurd (miss (hit ∙ sym is))), λ other. (omega (arith, (r.tickets.drawn id m.0 k at mine).0, now, other, is), refl)),
       ))

@@ -93,12 +93,12 @@ module _ {V E T : Type 0} (caller : E → ℕ) (story : V → List E) (terms : V
         numbers = numbers_stay _ _ s.views me v w at live live r.numbers;
       }
 
-  pub passes : (slots id : ℕ) (v : Known) (more : List (ℕ × Option V)) (x : V) (e : E) → most < 2 ^ 32 → v.is_spent ≡ false → v.is_root ≡ false → v.looked ≡ true
+  pub passes : (slots id : ℕ) (v : Known) (more : List (ℕ × Option V)) (x : V) (e : E) → v.most < 2 ^ 32 → v.is_spent ≡ false → v.is_root ≡ false → v.looked ≡ true
       → story x ≡ v.seen ++ e ∷ [] → caller e ≡ v.number → Some (terms x) ≡ v.terms
       → Allows Rule slots id (v, (0, Some x) ∷ more) 1 (λ n. (n + 1) % 2 ^ 64) (passed caller story (step slots 1 1 0 none) (v, (0, Some x) ∷ more))
   passes slots id v more x e small live pass has_looked tells its same s r _ at _ = let f = r.fits id v at live in let now = serving_is caller story terms first most s r in let mine = (f.looked has_looked).0 in
       let range = r.tickets.drawn id v r.moment.serving at mine in let same_terms : terms x ≡ first = some_same (terms x) r.moment.terms (same ∙ f.terms) ∙ r.terms_are in
-      let up : ((serving caller story terms first most s) + 1) % 2 ^ 64 ≡ r.moment.serving + 1 = ap (λ (n : ℕ). (n + 1) % 2 ^ 64) now ∙ mod-eq_of_lt (omega (arith, range.1, r.bounded, small)) in
+      let up : ((serving caller story terms first most s) + 1) % 2 ^ 64 ≡ r.moment.serving + 1 = ap (λ (n : ℕ). (n + 1) % 2 ^ 64) now ∙ mod-eq_of_lt (omega (arith, range.1, r.bounded, small, f.most, r.most_is)) in
       let ws : set s.words 1 (((serving caller story terms first most s) + 1) % 2 ^ 64) ≡ r.moment.next ∷ (r.moment.serving + 1) ∷ [] = ap (λ l. set l 1 (((serving caller story terms first most s) + 1) % 2 ^ 64)) r.words ∙ ap (λ (k : ℕ). r.moment.next ∷ k ∷ []) up in
       let own_now : entries_of caller v.number (story x) ≡ v.own ++ drop (length v.seen) (story x) = ap (entries_of caller v.number) tells
       ∙ (entries_more caller v.number v.seen e its ∙ (ap (λ l. l ++ e ∷ []) (ap (entries_of caller v.number) (f.looked has_looked).1 ∙ sym (f.own pass)) ∙ sym (ap (λ l. v.own ++ l) (ap (drop (length v.seen)) tells ∙ drop-append_seam v.seen (e ∷ []))))) in (
@@ -108,10 +108,10 @@ module _ {V E T : Type 0} (caller : E → ℕ) (story : V → List E) (terms : V
         subst (λ (y : List ℕ × List E). Rule record { words = y.0; homes = set s.homes 0 (some (Some x)); views = set s.views id (after_passing v y.1) }) (λ i. (sym ws i, sym tells i))
             (gives_back s r id v x e at live pass has_looked tells its same_terms),
         λ y here. let same_value : x ≡ y = some_same x y (ap (λ (l : List (ℕ × Option V)). (get_or l 0 (0, Some x)).1) here) in
-            (ap (λ (z : V). (after_passing v (story z), more)) same_value, subst (λ (z : V). entries_of caller v.number (story z) ≡ v.own ++ drop (length v.seen) (story z)) same_value own_now),
+            (omega (arith, now, range.1, r.bounded, f.most, r.most_is), ap (λ (z : V). (after_passing v (story z), more)) same_value, subst (λ (z : V). entries_of caller v.number (story z) ≡ v.own ++ drop (length v.seen) (story z)) same_value own_now),
       )
 
-  pub passes_at : (slots id : ℕ) (m : Mine) (v : Known) (more : List (ℕ × Option V)) (x : V) (e : E) → m ≡ (v, (0, Some x) ∷ more) → most < 2 ^ 32 → v.is_spent ≡ false → v.is_root ≡ false → v.looked ≡ true
+  pub passes_at : (slots id : ℕ) (m : Mine) (v : Known) (more : List (ℕ × Option V)) (x : V) (e : E) → m ≡ (v, (0, Some x) ∷ more) → v.most < 2 ^ 32 → v.is_spent ≡ false → v.is_root ≡ false → v.looked ≡ true
       → story x ≡ v.seen ++ e ∷ [] → caller e ≡ v.number → Some (terms x) ≡ v.terms
       → Allows Rule slots id m 1 (λ n. (n + 1) % 2 ^ 64) (passed caller story (step slots 1 1 0 none) m)
   passes_at slots id m v more x e is small live pass has_looked tells its same =

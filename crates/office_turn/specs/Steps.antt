@@ -59,11 +59,11 @@ module _ {V E T : Type 0} (caller : E → ℕ) (story : V → List E) (terms : V
     pub own : entries_of caller m.0.number (story x) ≡ m.0.own
     pub terms_stay : Some (terms x) ≡ m.0.terms
 
-  -- where the ticket now served is the seat's, it has taken the slot
+  -- where the ticket now served is the seat's, it has taken the slot. Where not, the seat's is a later one.
   abbrev pub looked : Step (Option V) → Me (Option V) (View E T) → ℕ → Me (Option V) (View E T) → Type 0
-  looked st m found n = (k : ℕ) → m.0.ticket ≡ Some k → (found ≡ k → (x : V) × (n ≡ (with_story m.0 (story x), (0, Some x) ∷ m.1)) × IsFound m k x) × (found ≢ k → n ≡ m)
+  looked st m found n = (k : ℕ) → m.0.ticket ≡ Some k → (found ≡ k → (x : V) × (n ≡ (with_story m.0 (story x), (0, Some x) ∷ m.1)) × IsFound m k x) × (found ≢ k → (found < k) × (n ≡ m))
 
 module _ {V E T : Type 0} (caller : E → ℕ) (story : V → List E) where
-  -- the slot is given back, and the seat has seen the value's story, in which the entries of its number are its own
+  -- a ticket below the most was served, the slot is given back, and the seat has seen the value's story, in which the entries of its number are its own
   abbrev pub passed : Step (Option V) → Me (Option V) (View E T) → ℕ → Me (Option V) (View E T) → Type 0
-  passed st m found n = (x : V) → m.1 ≡ (0, Some x) ∷ rest m.1 → (n ≡ (after_passing m.0 (story x), rest m.1)) × (entries_of caller m.0.number (story x) ≡ (after_passing m.0 (story x)).own)
+  passed st m found n = (x : V) → m.1 ≡ (0, Some x) ∷ rest m.1 → (found < m.0.most) × (n ≡ (after_passing m.0 (story x), rest m.1)) × (entries_of caller m.0.number (story x) ≡ (after_passing m.0 (story x)).own)

@@ -57,7 +57,8 @@ pub fn note_once<R: Wait>(
     requires idle { pass.old.holds ≡ false }
     ensures own { OnOk result (pass.new.own ≡ pass.old.own ++ (pass.old.number, number) ∷ []) }
     ensures worn { IfErr result (λ worn. (pass.new ≡ after_worn pass.old) × (worn.turns ≡ turn.now.most)) }
-    ensures same { (pass.new.lock ≡ pass.old.lock) × (pass.new.number ≡ pass.old.number) × (pass.new.holds ≡ false) }
+    ensures same { (pass.new.lock ≡ pass.old.lock)
+        × (pass.new.number ≡ pass.old.number) × (pass.new.holds ≡ false) }
 {
     let mut held = turn.hold(rt, pass)?;
     held.value().note(pass.number(), number);

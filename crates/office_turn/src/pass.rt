@@ -24,11 +24,11 @@ impl<V: Storied> Model for Pass<V> {
     ghost invariant = { λ p. IsPass p.seat p.number };
 }
 
-/// The right to admit passes to one lock, to join them, and to close it. It must be spent, in
-/// [`Turn::close`](crate::Turn::close).
+/// The right to admit passes to one lock, to join them, and to close it. A lock whose root is let go can't be closed.
 ///
 /// In contracts it is a `Rooted`: its lock, the entries that it has seen, how many passes were admitted, and the
 /// receipts of those that were joined.
+#[derive(Drop)]
 pub struct Root<V: Storied> {
     pub(crate) seat: Seat<Option<V>, View<V::Entry, V::Terms>>,
     pub(crate) admitted: u32,

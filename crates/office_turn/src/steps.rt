@@ -19,11 +19,15 @@ pub fn draw<V: Storied, R: Wait>(
     seat: &mut Seat<Option<V>, View<V::Entry, V::Terms>>,
     most: u32,
 ) -> Result<u64, Worn>
-    requires lock { (seat.old.table_id ≡ shared.now.table_id) × (shared.now.table_id.words ≡ 2) × (most ≡ seat.old.me.0.most) }
-    requires view { (seat.old.me.0.ticket ≡ None) × (seat.old.me.0.is_spent ≡ false) × (seat.old.me.0.is_root ≡ false) }
-    ensures drawn { IfOk result (λ ticket. seat.new.me ≡ (with_ticket seat.old.me.0 ticket, seat.old.me.1)) }
+    requires lock { (seat.old.table_id ≡ shared.now.table_id)
+        × (shared.now.table_id.words ≡ 2) × (most ≡ seat.old.me.0.most) }
+    requires view { (seat.old.me.0.ticket ≡ None)
+        × (seat.old.me.0.is_spent ≡ false) × (seat.old.me.0.is_root ≡ false) }
+    ensures drawn { IfOk result (λ ticket.
+        (ticket < most) × (seat.new.me ≡ (with_ticket seat.old.me.0 ticket, seat.old.me.1))) }
     ensures not_worn { OnOk result (seat.old.me.0.worn ≡ false) }
-    ensures worn { IfErr result (λ worn. (worn.turns ≡ most) × (seat.new.me ≡ (with_worn seat.old.me.0, seat.old.me.1))) }
+    ensures worn { IfErr result (λ worn.
+        (worn.turns ≡ most) × (seat.new.me ≡ (with_worn seat.old.me.0, seat.old.me.1))) }
     ensures same { (seat.new.table_id ≡ seat.old.table_id) × (seat.new.id ≡ seat.old.id) }
 {
     for _ in rt.forever() {
@@ -39,7 +43,8 @@ pub fn draw<V: Storied, R: Wait>(
     unreachable!()
 }
 
-// Waits until the ticket is served, and takes the value.
+// Waits until the ticket is served, and takes the value. The one who is next stays awake, so that a short turn is
+// passed on at once. Those further back sleep until the next turn is passed on, and leave the processors to others.
 pub fn wait_for<V: Storied, R: Wait>(
     rt: &R,
     shared: &Shared<Option<V>, View<V::Entry, V::Terms>, Opening<V>, Law>,
@@ -47,7 +52,9 @@ pub fn wait_for<V: Storied, R: Wait>(
     ticket: u64,
 ) -> V
     requires lock { (seat.old.table_id ≡ shared.now.table_id) × (shared.now.table_id.words ≡ 2) }
-    requires view { (seat.old.me.0.ticket ≡ Some ticket) × (seat.old.me.0.looked ≡ false) × (seat.old.me.0.is_spent ≡ false) × (seat.old.me.0.is_root ≡ false) × (seat.old.me.1 ≡ []) }
+    requires ticket { ticket < 2 ^ 32 }
+    requires view { (seat.old.me.0.ticket ≡ Some ticket) × (seat.old.me.0.looked ≡ false)
+        × (seat.old.me.0.is_spent ≡ false) × (seat.old.me.0.is_root ≡ false) × (seat.old.me.1 ≡ []) }
     ensures view { seat.new.me ≡ (with_story seat.old.me.0 (V.story result), (0, None) ∷ []) }
     ensures extends { StartsWith (V.story result) seat.old.me.0.seen }
     ensures room { length (V.story result) < seat.old.me.0.most }
@@ -60,20 +67,27 @@ pub fn wait_for<V: Storied, R: Wait>(
         if serving == ticket {
             return shared.exchange(seat, 0, None).unwrap();
         }
-        thread::yield_now();
+        if serving + 1 == ticket {
+            thread::yield_now();
+        } else {
+            shared.park(rt, 1, serving as u32);
+        }
     }
     unreachable!()
 }
 
-// Puts the value back, and serves the next ticket.
+// Puts the value back, and serves the next ticket. Where a ticket after that one has been drawn, somebody may sleep.
 pub fn put_back<V: Storied>(
     shared: &Shared<Option<V>, View<V::Entry, V::Terms>, Opening<V>, Law>,
     seat: &mut Seat<Option<V>, View<V::Entry, V::Terms>>,
     value: V,
 )
-    requires lock { (seat.old.table_id ≡ shared.now.table_id) × (shared.now.table_id.words ≡ 2) × (shared.now.key.most < 2 ^ 32) }
-    requires view { (seat.old.me.0.looked ≡ true) × (seat.old.me.0.is_spent ≡ false) × (seat.old.me.0.is_root ≡ false) × (seat.old.me.1 ≡ (0, None) ∷ []) }
-    requires story { (e : V.Entry) × (V.story value ≡ seat.old.me.0.seen ++ e ∷ []) × (V.caller e ≡ seat.old.me.0.number) }
+    requires lock { (seat.old.table_id ≡ shared.now.table_id)
+        × (shared.now.table_id.words ≡ 2) × (seat.old.me.0.most < 2 ^ 32) }
+    requires view { (seat.old.me.0.looked ≡ true) × (seat.old.me.0.is_spent ≡ false)
+        × (seat.old.me.0.is_root ≡ false) × (seat.old.me.1 ≡ (0, None) ∷ []) }
+    requires story { (e : V.Entry)
+        × (V.story value ≡ seat.old.me.0.seen ++ e ∷ []) × (V.caller e ≡ seat.old.me.0.number) }
     requires terms { Some (V.terms value) ≡ seat.old.me.0.terms }
     ensures view { seat.new.me ≡ (after_passing seat.old.me.0 (V.story value), []) }
     ensures own { entries_of V.caller seat.old.me.0.number (V.story value) ≡ seat.new.me.0.own }
@@ -81,7 +95,10 @@ pub fn put_back<V: Storied>(
 {
     let left = shared.exchange(seat, 0, Some(value));
     let None = left else { unreachable!() };
-    shared.fetch_add::<PassOn>(seat, 1, 1);
+    let served = shared.fetch_add::<PassOn>(seat, 1, 1);
+    if shared.peek(0) > served + 2 {
+        shared.wake_all(1);
+    }
 }
 
 // Takes the seat of a pass into the root's.
@@ -90,9 +107,11 @@ pub fn take_in<V: Storied>(
     root: &mut Seat<Option<V>, View<V::Entry, V::Terms>>,
     pass: Seat<Option<V>, View<V::Entry, V::Terms>>,
 )
-    requires lock { (root.old.table_id ≡ shared.now.table_id) × (pass.table_id ≡ shared.now.table_id) × (shared.now.table_id.words ≡ 2) }
+    requires lock { (root.old.table_id ≡ shared.now.table_id)
+        × (pass.table_id ≡ shared.now.table_id) × (shared.now.table_id.words ≡ 2) }
     requires root { (root.old.me.0.is_root ≡ true) × (root.old.me.0.is_spent ≡ false) }
-    requires pass { (pass.me.0.is_root ≡ false) × (pass.me.0.is_spent ≡ false) × (pass.me.0.looked ≡ false) × (pass.me.0.ticket ≡ None) × (pass.me.1 ≡ []) }
+    requires pass { (pass.me.0.is_root ≡ false) × (pass.me.0.is_spent ≡ false)
+        × (pass.me.0.looked ≡ false) × (pass.me.0.ticket ≡ None) × (pass.me.1 ≡ []) }
     ensures view { root.new.me ≡ (after_receiving root.old.me.0 pass.me.0, root.old.me.1) }
     ensures seen { StartsWith root.new.me.0.seen root.old.me.0.seen × StartsWith root.new.me.0.seen pass.me.0.seen }
     ensures tally { length root.new.me.0.receipts ≤ root.new.me.0.admitted }

@@ -16,9 +16,11 @@ use std::marker::Model;
 use std::snapshot::Snapshot;
 use std::sync::Wait;
 
-/// A lock around a value, whose turns are taken in the order of their tickets. It ends in [`Turn::close`].
+/// A lock around a value, whose turns are taken in the order of their tickets. [`Turn::close`] gives the value back. A
+/// lock that is let go drops it.
 ///
 /// In contracts it is a `Lock`: which one, the terms of the value at its start, and the most turns that it gives.
+#[derive(Drop)]
 pub struct Turn<V: Storied> {
     table: Table<Option<V>, View<V::Entry, V::Terms>, Opening<V>, Law, Global>,
     most: u32,
@@ -29,7 +31,8 @@ impl<V: Storied> Model for Turn<V> {
 
     ghost view = { λ t. lock_of t.table.shared.table_id (V.terms t.table.shared.key.value.value) t.most };
 
-    ghost invariant = { λ t. (t.table.shared.table_id.words ≡ 2) × (t.table.shared.table_id.slots ≡ 1) × (t.most ≡ t.table.shared.key.most) × (t.most ≤ 1000000) };
+    ghost invariant = { λ t. (t.table.shared.table_id.words ≡ 2) × (t.table.shared.table_id.slots ≡ 1)
+        × (t.most ≡ t.table.shared.key.most) × (t.most ≤ 1000000) };
 }
 
 /// All turns of the lock have been drawn: as many as this.
@@ -53,7 +56,8 @@ impl<V: Storied + Drop> Turn<V> {
     pub fn start(alloc: Global, value: V, most: u32) -> Result<(Turn<V>, Root<V>), NoMemory>
         requires story { V.story value ≡ [] }
         requires most { (1 ≤ most) × (most ≤ 1000000) }
-        ensures lock { IfOk result (λ started. (started.0.terms ≡ Some (V.terms value)) × (started.0.most ≡ most)) }
+        ensures lock { IfOk result (λ started.
+            (started.0.terms ≡ Some (V.terms value)) × (started.0.most ≡ most)) }
         ensures root { IfOk result (λ started. started.1 ≡ opening_root started.0) }
     {
         let mut slots = Vec::with_capacity(alloc, 1)?;
@@ -101,7 +105,8 @@ impl<V: Storied> Turn<V> {
         ensures by { IfOk result (λ held. held.by ≡ pass.new) }
         ensures extends { IfOk result (λ held. StartsWith (V.story held.value) pass.old.seen) }
         ensures room { IfOk result (λ held. length (V.story held.value) < self.now.most) }
-        ensures own { IfOk result (λ held. entries_of V.caller pass.old.number (V.story held.value) ≡ pass.old.own) }
+        ensures own { IfOk result (λ held.
+            entries_of V.caller pass.old.number (V.story held.value) ≡ pass.old.own) }
         ensures terms { IfOk result (λ held. Some (V.terms held.value) ≡ self.now.terms) }
 
         // No turn is left: the pass is marked for good.
@@ -124,10 +129,12 @@ impl<V: Storied> Turn<V> {
     pub fn pass_on(&self, pass: &mut Pass<V>, held: Held<V>)
         requires lock { pass.old.lock ≡ self.now }
         requires held { (held.by ≡ pass.old) × (pass.old.holds ≡ true) }
-        requires story { (e : V.Entry) × (V.story held.value ≡ pass.old.seen ++ e ∷ []) × (V.caller e ≡ pass.old.number) }
+        requires story { (e : V.Entry)
+            × (V.story held.value ≡ pass.old.seen ++ e ∷ []) × (V.caller e ≡ pass.old.number) }
         requires terms { Some (V.terms held.value) ≡ self.now.terms }
         ensures pass { pass.new ≡ after_pass_on pass.old (V.story held.value) }
-        ensures own { (e : V.Entry) → V.story held.value ≡ pass.old.seen ++ e ∷ [] → pass.new.own ≡ pass.old.own ++ e ∷ [] }
+        ensures own { (e : V.Entry) → V.story held.value ≡ pass.old.seen ++ e ∷ []
+            → pass.new.own ≡ pass.old.own ++ e ∷ [] }
         ensures whole { entries_of V.caller pass.new.number pass.new.seen ≡ pass.new.own }
     {
         let Held { value, by: _ } = held;
@@ -152,10 +159,13 @@ impl<V: Storied> Turn<V> {
         requires joined { length root.receipts ≡ root.admitted }
         ensures terms { Some (V.terms result) ≡ root.lock.terms }
         ensures seen { StartsWith (V.story result) root.seen }
-        ensures own { All (λ receipt. entries_of V.caller receipt.number (V.story result) ≡ receipt.own) root.receipts }
+        ensures own { All
+            (λ receipt. entries_of V.caller receipt.number (V.story result) ≡ receipt.own) root.receipts }
+        ensures room { length (V.story result) ≤ root.lock.most }
         ensures callers { All (λ e. V.caller e < root.admitted) (V.story result) }
         ensures others { All (λ e. Any (λ receipt. V.caller e ≡ receipt.number) root.receipts) (V.story result) }
-        ensures worn { All (λ receipt. receipt.worn ≡ true → length (V.story result) ≡ root.lock.most) root.receipts }
+        ensures worn { All
+            (λ receipt. receipt.worn ≡ true → length (V.story result) ≡ root.lock.most) root.receipts }
     {
         let Root {
             seat,

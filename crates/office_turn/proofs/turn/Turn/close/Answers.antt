@@ -21,4 +21,4 @@ returns g c =
     let is : c.take-value.result ≡ Some t.0 = some-injective _ _ (sym c.take-value.ensures.value ∙ f.4 0 (Some t.0) t.1) in
     let value : t.0 ≡ c.unwrap.result = some_same _ _ (sym is ∙ c.unwrap.ensures) in
     let a = accounts_of _ _ _ _ _ _ _ c.root.view_is value t.2 in
-    record { terms = a.terms_stay; seen = a.seen; own = a.own; callers = a.callers; others = a.others; worn = a.worn }
+    record { terms = a.terms_stay; seen = a.seen; own = a.own; room = a.room; callers = a.callers; others = a.others; worn = a.worn }
