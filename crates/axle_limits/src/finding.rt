@@ -5,7 +5,8 @@ ghost use Rattle.axle_limits.specs.Findings.{findings_of, finding_at, gross_find
 
 use crate::group::{Rule, group_limit};
 use axle_train::Train;
-use std::alloc::{AllocError, Global};
+use office_io::NoMemory;
+use std::alloc::Global;
 
 /// A group of axles over its limit, from axle `i` to axle `j`, or the gross weight over its limit; both in pounds.
 #[derive(Clone, Copy, Debug, PartialEq, Eq)]
@@ -19,8 +20,8 @@ pub struct Finding {
 
 /// All groups over their limits, by their first axle and then by their last, and then the gross weight if it is over its own.
 ///
-/// Answers an error only where there is no memory for the list.
-pub fn findings(alloc: Global, train: &Train) -> Result<Vec<Finding>, AllocError>
+/// `NoMemory` is its only refusal: there is no memory for the list.
+pub fn findings(alloc: Global, train: &Train) -> Result<Vec<Finding>, NoMemory>
     ensures listed { IfOk result (λ list. AreFindings train.now list.items) }
     ensures legal { IfOk result (λ list. (list.items ≡ []) ↔ IsLegalByWeight train.now) }
     ensures computed { IfOk result (λ list. list.items ≡ findings_of train.now) }
@@ -34,7 +35,7 @@ pub fn findings(alloc: Global, train: &Train) -> Result<Vec<Finding>, AllocError
 }
 
 /// Adds the groups over their limits that begin with axle `i`.
-fn add_row(train: &Train, i: usize, list: &mut Vec<Finding>) -> Result<(), AllocError>
+fn add_row(train: &Train, i: usize, list: &mut Vec<Finding>) -> Result<(), NoMemory>
     requires within { i < length train.now }
     ensures { IfOk result (λ _. list.new.items ≡ list.old.items ++ row_of train.now i (length train.now - i)) }
 {
@@ -45,7 +46,7 @@ fn add_row(train: &Train, i: usize, list: &mut Vec<Finding>) -> Result<(), Alloc
 }
 
 /// Adds the group from `i` to `j`, where it is over its limit.
-fn add_group(train: &Train, i: usize, j: usize, list: &mut Vec<Finding>) -> Result<(), AllocError>
+fn add_group(train: &Train, i: usize, j: usize, list: &mut Vec<Finding>) -> Result<(), NoMemory>
     requires ordered { i ≤ j }
     requires within { j < length train.now }
     ensures { IfOk result (λ _. list.new.items ≡ list.old.items ++ finding_at train.now i j) }
@@ -65,7 +66,7 @@ fn add_group(train: &Train, i: usize, j: usize, list: &mut Vec<Finding>) -> Resu
 }
 
 /// Adds the gross weight, where it is over its limit.
-fn add_gross(train: &Train, list: &mut Vec<Finding>) -> Result<(), AllocError>
+fn add_gross(train: &Train, list: &mut Vec<Finding>) -> Result<(), NoMemory>
     ensures { IfOk result (λ _. list.new.items ≡ list.old.items ++ gross_finding train.now) }
 {
     let len = train.len();

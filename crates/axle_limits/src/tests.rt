@@ -2,7 +2,8 @@
 
 use crate::{Finding, Rule, findings, group_limit, worst};
 use axle_train::{Axle, Train};
-use std::alloc::{AllocError, Global};
+use office_io::NoMemory;
+use std::alloc::Global;
 use std::process::Abort;
 
 // The five-axle truck that the Federal Highway Administration works through: 35 feet between its tandems.
@@ -34,7 +35,7 @@ const NOT_EXEMPT: [(u32, u32); 5] = [
 // The HS20-44 design truck of AASHTO's Standard Specifications at its shortest.
 const HS20: [(u32, u32); 3] = [(0, 8000), (168, 32000), (336, 32000)];
 
-fn train(rt: &impl Abort, alloc: Global, pairs: &[(u32, u32)]) -> Result<Train, AllocError> {
+fn train(rt: &impl Abort, alloc: Global, pairs: &[(u32, u32)]) -> Result<Train, NoMemory> {
     let mut axles = Vec::new(alloc);
     for &(place, weight) in pairs {
         axles.push(Axle { place, weight })?;
@@ -43,7 +44,7 @@ fn train(rt: &impl Abort, alloc: Global, pairs: &[(u32, u32)]) -> Result<Train, 
 }
 
 #[test]
-fn limits_groups_by_their_rules(rt: HostRuntime) -> Result<(), AllocError> {
+fn limits_groups_by_their_rules(rt: HostRuntime) -> Result<(), NoMemory> {
     for (pairs, i, j, limit, rule) in [
         // one axle, and two at the bounds of a single axle and of a tandem
         (&HS20 as &[(u32, u32)], 1, 1, 20000, Rule::Single),
@@ -138,7 +139,7 @@ fn limits_groups_by_their_rules(rt: HostRuntime) -> Result<(), AllocError> {
 }
 
 #[test]
-fn lists_what_is_over_its_limit_in_order(rt: HostRuntime) -> Result<(), AllocError> {
+fn lists_what_is_over_its_limit_in_order(rt: HostRuntime) -> Result<(), NoMemory> {
     let trucks: [(&[(u32, u32)], &[(usize, usize, u32, u32, Rule)]); 8] = [
         (&FEDERAL_EXAMPLE, &[(1, 4, 68000, 65500, Rule::Formula)]),
         (&EXEMPT, &[]),
@@ -207,7 +208,7 @@ fn lists_what_is_over_its_limit_in_order(rt: HostRuntime) -> Result<(), AllocErr
 }
 
 #[test]
-fn finds_the_first_of_the_worst_groups(rt: HostRuntime) -> Result<(), AllocError> {
+fn finds_the_first_of_the_worst_groups(rt: HostRuntime) -> Result<(), NoMemory> {
     for (pairs, expected) in [
         (&FEDERAL_EXAMPLE as &[(u32, u32)], (1, 4, 68000, 65500)),
         // four groups stand exactly at their limits

@@ -13,11 +13,12 @@ use axle_limits::{Finding, Rule, findings};
 use axle_train::Train;
 use influence_line::{End, Place};
 use moment_peak::MomentPeak;
+use office_io::NoMemory;
 use shear_peak::ShearPeak;
 use std::alloc::{AllocError, Global};
 
 /// The report on a check file: its truck, and then its truck on each of its probes.
-pub fn report(alloc: Global, file: &CheckFile) -> Result<String, AllocError>
+pub fn report(alloc: Global, file: &CheckFile) -> Result<String, NoMemory>
     ensures { IfOk result (λ text. IsReport file.now (string_bytes text)) }
 {
     let mut text = truck_report(alloc, &file.truck)?;
@@ -26,7 +27,7 @@ pub fn report(alloc: Global, file: &CheckFile) -> Result<String, AllocError>
 }
 
 // The report on a truck alone.
-fn truck_report(alloc: Global, truck: &Truck) -> Result<String, AllocError>
+fn truck_report(alloc: Global, truck: &Truck) -> Result<String, NoMemory>
     ensures { IfOk result (λ text. string_bytes text ≡ truck_text truck.now) }
 {
     let load = &truck.load;

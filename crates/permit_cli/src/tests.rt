@@ -56,12 +56,12 @@ fn reports_trucks_and_probes(rt: HostRuntime) -> Result<(), Fail> {
             "truck FHWA axles 5 gross 80000\nover 2-5 68000 66000 formula\nlegal no\n",
         ),
         (
-            "truck,T1,ACME,163,103,720,0:12000 180:17000 228:17000,\nend,,,,,,,\n",
-            "truck T1 axles 3 gross 46000\nhigh 163 162\nwide 103 102\nlegal no\n",
+            "truck,TWO,ACME,163,103,720,0:12000 180:17000 228:17000,\nend,,,,,,,\n",
+            "truck TWO axles 3 gross 46000\nhigh 163 162\nwide 103 102\nlegal no\n",
         ),
         (
-            "truck,T2,A,162,102,9999,0:21000 40:1 81:33000 3000:30000,\nend,,,,,,,\n",
-            "truck T2 axles 4 gross 84001\nover 1-1 21000 20000 single\nover 1-2 21001 20000 single\nover 1-3 54001 34000 tandem\nover 3-3 33000 20000 single\nover 4-4 30000 20000 single\nover 1-4 84001 80000 gross\nlegal no\n",
+            "truck,FOUR,A,162,102,9999,0:21000 40:1 81:33000 3000:30000,\nend,,,,,,,\n",
+            "truck FOUR axles 4 gross 84001\nover 1-1 21000 20000 single\nover 1-2 21001 20000 single\nover 1-3 54001 34000 tandem\nover 3-3 33000 20000 single\nover 4-4 30000 20000 single\nover 1-4 84001 80000 gross\nlegal no\n",
         ),
         (
             "truck,HS20,ACME,150,102,500,0:8000 168:32000 336:32000,\nprobe,240,1000,,,,,\nprobe,360,0,,,,,\nprobe,1200,100000,,,,,\nend,,,,,,,\n",
@@ -81,19 +81,19 @@ fn reports_trucks_and_probes(rt: HostRuntime) -> Result<(), Fail> {
 #[test]
 fn takes_every_spelling_of_a_file(rt: HostRuntime) -> Result<(), Fail> {
     let inputs = [
-        "truck,T1,ACME,162,102,720,0:12000 180:17000,\nend,,,,,,,",
-        "\u{feff}truck,T1,ACME,162,102,720,0:12000 180:17000,\nend,,,,,,,\n",
-        "truck,T1,ACME,162,102,720,0:12000 180:17000,\r\nend,,,,,,,\r\n",
-        "truck,T1,ACME,162,102,720,0:12000 180:17000,\rend,,,,,,,\r",
-        "\n\ntruck,T1,ACME,162,102,720,0:12000 180:17000,\n\r\n\nend,,,,,,,\n\n",
-        "\"truck\",\"T1\",ACME,162,102,720,\"0:12000 180:17000\",\nend,,,,,,,\n",
-        "truck,T1,ACME,000000162,0102,00720,00:012000 000000180:000017000,\nend,,,,,,,\n",
-        "truck,T1,ACME,162,102,720,0:12000 180:17000,\nend,,,,,,,\"",
+        "truck,TWO,ACME,162,102,720,0:12000 180:17000,\nend,,,,,,,",
+        "\u{feff}truck,TWO,ACME,162,102,720,0:12000 180:17000,\nend,,,,,,,\n",
+        "truck,TWO,ACME,162,102,720,0:12000 180:17000,\r\nend,,,,,,,\r\n",
+        "truck,TWO,ACME,162,102,720,0:12000 180:17000,\rend,,,,,,,\r",
+        "\n\ntruck,TWO,ACME,162,102,720,0:12000 180:17000,\n\r\n\nend,,,,,,,\n\n",
+        "\"truck\",\"TWO\",ACME,162,102,720,\"0:12000 180:17000\",\nend,,,,,,,\n",
+        "truck,TWO,ACME,000000162,0102,00720,00:012000 000000180:000017000,\nend,,,,,,,\n",
+        "truck,TWO,ACME,162,102,720,0:12000 180:17000,\nend,,,,,,,\"",
     ];
     for input in inputs {
         let ran = run(&rt, &["check"], input.as_bytes(), &[], &[])?;
         assert_eq!(rt; ran.status, 0, "{input}");
-        let output = "truck T1 axles 2 gross 29000\nlegal yes\n";
+        let output = "truck TWO axles 2 gross 29000\nlegal yes\n";
         assert_eq!(rt; ran.text.as_slice(), output.as_bytes(), "{input}");
     }
     Ok(())
@@ -106,36 +106,36 @@ fn refuses_what_is_no_check_file(rt: HostRuntime) -> Result<(), Fail> {
         b"",
         b"\n",
         b"truck",
-        b"truck,\"T1",
+        b"truck,\"TWO",
         b"end,,,,,,,\n",
         b"probe,240,1000,,,,,\nend,,,,,,,\n",
-        b"truck,T1,ACME,162,102,720,0:1 180:1,\n",
-        b"truck,T1,ACME,162,102,720,0:1 180:1,\ntruck,T1,ACME,162,102,720,0:1 180:1,\nend,,,,,,,\n",
-        b"truck,T1,ACME,162,102,720,0:1 180:1,\nend,,,,,,,\nend,,,,,,,\n",
-        b"truck,T1,ACME,162,102,720,0:1 180:1,\nroad,,,,,,,\nend,,,,,,,\n",
-        b"truck,T1,ACME,162,102,720,0:1 180:1,x\nend,,,,,,,\n",
-        b"truck,T1,ACME,162,102,720,0:1 180:1,\nend,,,,,,,x\n",
-        b"truck,T1,ACME,162,102,720,0:1 180:1\nend,,,,,,\n",
-        b"truck,T1,ACME,162,102,720,0:1 180:1,,\nend,,,,,,,,\n",
-        b"truck,T1,ACME,162,102,720,0:1 180:1,\nend,,,,,,\n",
-        b"truck,T\xff,ACME,162,102,720,0:1 180:1,\nend,,,,,,,\n",
+        b"truck,TWO,ACME,162,102,720,0:1 180:1,\n",
+        b"truck,TWO,ACME,162,102,720,0:1 180:1,\ntruck,TWO,ACME,162,102,720,0:1 180:1,\nend,,,,,,,\n",
+        b"truck,TWO,ACME,162,102,720,0:1 180:1,\nend,,,,,,,\nend,,,,,,,\n",
+        b"truck,TWO,ACME,162,102,720,0:1 180:1,\nroad,,,,,,,\nend,,,,,,,\n",
+        b"truck,TWO,ACME,162,102,720,0:1 180:1,x\nend,,,,,,,\n",
+        b"truck,TWO,ACME,162,102,720,0:1 180:1,\nend,,,,,,,x\n",
+        b"truck,TWO,ACME,162,102,720,0:1 180:1\nend,,,,,,\n",
+        b"truck,TWO,ACME,162,102,720,0:1 180:1,,\nend,,,,,,,,\n",
+        b"truck,TWO,ACME,162,102,720,0:1 180:1,\nend,,,,,,\n",
+        b"truck,TW\xff,ACME,162,102,720,0:1 180:1,\nend,,,,,,,\n",
         b"truck,,ACME,162,102,720,0:1 180:1,\nend,,,,,,,\n",
-        b"truck,T1,A CME,162,102,720,0:1 180:1,\nend,,,,,,,\n",
-        b"truck,T1,ACME,0,102,720,0:1 180:1,\nend,,,,,,,\n",
-        b"truck,T1,ACME,1000,102,720,0:1 180:1,\nend,,,,,,,\n",
-        b"truck,T1,ACME,162,,720,0:1 180:1,\nend,,,,,,,\n",
-        b"truck,T1,ACME,162,102,10000,0:1 180:1,\nend,,,,,,,\n",
-        b"truck,T1,ACME,+162,102,720,0:1 180:1,\nend,,,,,,,\n",
-        b"truck,T1,ACME,0000000162,102,720,0:1 180:1,\nend,,,,,,,\n",
-        b"truck,T1,ACME,162,102,720,0:1  180:1,\nend,,,,,,,\n",
-        b"truck,T1,ACME,162,102,720,0:1 180:1 ,\nend,,,,,,,\n",
-        b"truck,T1,ACME,162,102,720,0:1:1 180:1,\nend,,,,,,,\n",
-        b"truck,T1,ACME,162,102,720,0:1,\nend,,,,,,,\n",
-        b"truck,T1,ACME,162,102,720,0:1 180:0,\nend,,,,,,,\n",
-        b"truck,T1,ACME,162,102,720,0:1 180:1,\nprobe,0,1000,,,,,\nend,,,,,,,\n",
-        b"truck,T1,ACME,162,102,720,0:1 180:1,\nprobe,6001,1000,,,,,\nend,,,,,,,\n",
-        b"truck,T1,ACME,162,102,720,0:1 180:1,\nprobe,240,100001,,,,,\nend,,,,,,,\n",
-        b"truck,T1,ACME,162,102,720,0:1 180:1,\nprobe,240,1000,x,,,,\nend,,,,,,,\n",
+        b"truck,TWO,A CME,162,102,720,0:1 180:1,\nend,,,,,,,\n",
+        b"truck,TWO,ACME,0,102,720,0:1 180:1,\nend,,,,,,,\n",
+        b"truck,TWO,ACME,1000,102,720,0:1 180:1,\nend,,,,,,,\n",
+        b"truck,TWO,ACME,162,,720,0:1 180:1,\nend,,,,,,,\n",
+        b"truck,TWO,ACME,162,102,10000,0:1 180:1,\nend,,,,,,,\n",
+        b"truck,TWO,ACME,+162,102,720,0:1 180:1,\nend,,,,,,,\n",
+        b"truck,TWO,ACME,0000000162,102,720,0:1 180:1,\nend,,,,,,,\n",
+        b"truck,TWO,ACME,162,102,720,0:1  180:1,\nend,,,,,,,\n",
+        b"truck,TWO,ACME,162,102,720,0:1 180:1 ,\nend,,,,,,,\n",
+        b"truck,TWO,ACME,162,102,720,0:1:1 180:1,\nend,,,,,,,\n",
+        b"truck,TWO,ACME,162,102,720,0:1,\nend,,,,,,,\n",
+        b"truck,TWO,ACME,162,102,720,0:1 180:0,\nend,,,,,,,\n",
+        b"truck,TWO,ACME,162,102,720,0:1 180:1,\nprobe,0,1000,,,,,\nend,,,,,,,\n",
+        b"truck,TWO,ACME,162,102,720,0:1 180:1,\nprobe,6001,1000,,,,,\nend,,,,,,,\n",
+        b"truck,TWO,ACME,162,102,720,0:1 180:1,\nprobe,240,100001,,,,,\nend,,,,,,,\n",
+        b"truck,TWO,ACME,162,102,720,0:1 180:1,\nprobe,240,1000,x,,,,\nend,,,,,,,\n",
     ];
     for (i, input) in inputs.iter().enumerate() {
         let ran = run(&rt, &["check"], input, &[], &[])?;
@@ -153,7 +153,7 @@ fn refuses_what_is_no_check_file(rt: HostRuntime) -> Result<(), Fail> {
 #[test]
 fn counts_probes(rt: HostRuntime) -> Result<(), Fail> {
     for (count, status) in [(64, 0), (65, 5)] {
-        let mut input = b"truck,T1,ACME,162,102,720,0:12000 180:17000,\n".to_vec(rt.alloc())?;
+        let mut input = b"truck,TWO,ACME,162,102,720,0:12000 180:17000,\n".to_vec(rt.alloc())?;
         for _ in 0..count {
             input.extend_from_slice(b"probe,100,1000,,,,,\n")?;
         }
