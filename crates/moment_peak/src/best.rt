@@ -27,7 +27,7 @@ pub fn best_run(train: &Train, span: u32) -> Candidate
     ensures best { IsBest span train.now result }
     ensures bounds { IsTrain train.now }
 {
-    let mut run = Run::start(train, span);
+    let mut run = Run::start(train);
     let mut best = best_axle(train, span, run);
     'runs: while let Some(next) = run.next(train, span) {
         run = next;

@@ -31,7 +31,7 @@ pub fn first_vertex(train: &Train, span: u32, best: Candidate) -> Vertex
     ensures reaches { IsAtPeak span train.now best result }
     ensures first { IsFirstOfAll span train.now best result }
 {
-    let mut run = Run::start(train, span);
+    let mut run = Run::start(train);
     let mut found = first_with_centre(train, best.axle, best.run);
     found = with_run(train, span, best, run, found);
     'runs: while let Some(next) = run.next(train, span) {

@@ -69,9 +69,9 @@ pub struct Run {
 }
 
 impl Run {
-    /// The first run that can be exactly the axles on the span: the first axle alone.
-    pub fn start(train: &Train, span: u32) -> Run
-        ensures on { IsOnSpan span train.now result }
+    /// The first run that can be exactly the axles on a span, whatever its length: the first axle alone.
+    pub fn start(train: &Train) -> Run
+        ensures on { (span : ℕ) → IsOnSpan span train.now result }
         ensures start { (result.first ≡ 0) × (result.last ≡ 0) }
         ensures bounds { IsTrain train.now }
     {

@@ -2,12 +2,15 @@ use Rattle.std.proofs.Common.{inl, inr}
 use Rattle.moment_peak.proofs.BestSoFar.{attained_of, start_some, best_before-start, best_before-more}
 use Rattle.moment_peak.proofs.best.best_run.Goals as goal
 
+pub best_axle-best-requires-clause-on : goal.best_axle-best-requires-clause-on
+best_axle-best-requires-clause-on c = c.start-run.ensures.on c.args.span
+
 pub runs-init : goal.runs-init
 runs-init c =
     let run = c.start-run.result in
     let best = c.best_axle-best.result in
     let b = c.best_axle-best.ensures.best in
-    let on = c.start-run.ensures.on in
+    let on = c.start-run.ensures.on c.args.span in
     let start = c.start-run.ensures.start in
     let train = c.start-run.ensures.bounds in
     let some = start_some c.args.span c.args.train.now run best c.requires.some train start.0 start.1 b in

@@ -7,11 +7,14 @@ with_run-found-requires-clause-found c =
     let best = c.args.best in
     at_peak c.args.span c.args.train.now best best.run best.axle c.first_with_centre-found.result c.requires.attained.on (best_peaks c.args.span c.args.train.now best c.requires.attained) c.first_with_centre-found.ensures
 
+pub with_run-found-requires-clause-on : goal.with_run-found-requires-clause-on
+with_run-found-requires-clause-on c = c.start-run.ensures.on c.args.span
+
 pub runs-init : goal.runs-init
 runs-init c =
     let start = c.start-run.ensures.start in
     record {
-      on = c.start-run.ensures.on;
+      on = c.start-run.ensures.on c.args.span;
       found = c.with_run-found.ensures.found;
       first = first_before-start c.args.span c.args.train.now c.args.best c.start-run.result c.with_run-found.result start.0 start.1 c.with_run-found.ensures.met;
     }
