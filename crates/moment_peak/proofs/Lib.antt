@@ -17,3 +17,4 @@ pub mod Spans
 pub mod Small
 pub mod Finer
 pub mod Scale
+pub mod OnePeak

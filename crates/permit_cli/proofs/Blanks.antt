@@ -1,6 +1,5 @@
 -- The fields of a record from a place on.
-use Rattle.std.proofs.Common.{◌≡◌, ◌<◌, ◌+◌, ◌∷◌, ◌∙◌, ◌&&◌, Bool, true, false, [], ℕ, zero, suc, List, length, drop, arith, refl, ap, add-one}
-use Rattle.std.specs.Prelude.{unwrap_or}
+use Rattle.std.proofs.Common.{◌≡◌, ◌<◌, ◌+◌, ◌∷◌, ◌∙◌, ◌&&◌, true, false, [], ℕ, zero, suc, List, length, drop, arith, refl, ap, add-one}
 use Rattle.std.specs.List.{list_all}
 use Rattle.csv.specs.Records.{field_at}
 use Rattle.permit_cli.specs.Fields.{field_of}

@@ -5,3 +5,4 @@ pub mod Numbers
 pub mod Words
 pub mod Lines
 pub mod Probes
+pub mod OneReport

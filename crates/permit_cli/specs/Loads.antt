@@ -1,5 +1,5 @@
 -- A load: a truck as the road sees it.
-use Rattle.std.specs.Prelude.{ℕ, Bool, ◌&&◌, nat_le, List, true, ◌≡◌}
+use Rattle.std.specs.Prelude.{ℕ, Bool, ◌&&◌, nat_le, List}
 use Rattle.axle_train.specs.declared.axle.Axle.{Axle}
 
 -- height, width and length in inches, and the axles

@@ -3,19 +3,20 @@ use Rattle.std.specs.Prelude.{◌≡◌, ℕ, ◌+◌, ◌==◌, ◌&&◌, nat_l
 use Rattle.std.specs.List.{flat_map}
 use Rattle.std.specs.Fmt.{decimal, signed_decimal}
 use Rattle.axle_train.specs.declared.axle.Axle.{Axle}
+use Rattle.axle_train.specs.Bounds.{IsTrain}
 use Rattle.axle_limits.specs.declared.finding.Finding.{Finding}
 use Rattle.axle_limits.specs.declared.group.Rule.{Rule}
 use Rattle.axle_limits.specs.declared.group.Rule.TheVariants.{Single, Tandem, Formula, TwoTandem, Gross}
 use Rattle.axle_limits.specs.Findings.{findings_of}
-use Rattle.influence_line.specs.Fractions.{IsLowest, ratio_text}
-use Rattle.influence_line.specs.Peaks.{IsPeakMoment, IsPeakShear, IsTrainPlaced}
+use Rattle.influence_line.specs.Fractions.{ratio_text}
 use Rattle.influence_line.specs.declared.placing.End.{End}
 use Rattle.influence_line.specs.declared.placing.End.TheVariants.{Left, Right}
-use Rattle.moment_peak.specs.Vertices.{IsFirstPlace}
+use Rattle.moment_peak.specs.Laws.{IsMomentPeak}
 use Rattle.moment_peak.specs.declared.MomentPeak.{MomentPeak}
-use Rattle.shear_peak.specs.Ends.{IsFirstToReach}
+use Rattle.shear_peak.specs.Laws.{IsShearPeak}
 use Rattle.shear_peak.specs.declared.ShearPeak.{ShearPeak}
 use Rattle.permit_cli.specs.Loads.{LoadParts}
+use Rattle.permit_cli.specs.Spans.{AreSpans}
 use Rattle.permit_cli.specs.declared.check_file.Truck.{Truck}
 use Rattle.permit_cli.specs.declared.check_file.CheckFile.{CheckFile}
 use Rattle.permit_cli.specs.declared.check_file.Probe.{Probe}
@@ -57,18 +58,6 @@ abbrev pub truck_text : Truck → List ℕ
 truck_text truck =
     truck_line truck ++ flat_map over_line (findings_of truck.load.train) ++ high_line truck.load ++ wide_line truck.load ++ legal_line truck.load
 
--- a peak moment: reached by its place and exceeded by none, in lowest terms, with the first vertex that reaches it
-pub record IsMoment (axles : List Axle) (span : ℕ) (m : MomentPeak) : Type 0 where
-  pub peak : IsPeakMoment (IsTrainPlaced axles) span m.value.num m.value.den
-  pub lowest : IsLowest m.value
-  pub first : IsFirstPlace axles span m.value.num m.value.den m.axle m.first m.last m.place
-
--- a peak end shear, in lowest terms, with the first lead that reaches it
-pub record IsShear (axles : List Axle) (span : ℕ) (s : ShearPeak) : Type 0 where
-  pub peak : IsPeakShear (IsTrainPlaced axles) span s.value.num s.value.den
-  pub lowest : IsLowest s.value
-  pub first : IsFirstToReach axles span s.end s.lead s.value.num s.value.den
-
 -- span INCHES
 abbrev pub span_line : Probe → List ℕ
 span_line probe = codes "span " ++ (decimal probe.inches ++ (10 ∷ []))
@@ -89,7 +78,7 @@ shear_line s = codes "shear " ++ (ratio_text s.value ++ (codes " at " ++ (signed
 -- what is written of a truck on one probe: the span, and its peaks
 abbrev pub IsProbeText : List Axle → Probe → List ℕ → Type 0
 IsProbeText axles probe text =
-    (m : MomentPeak) × (s : ShearPeak) × IsMoment axles probe.inches m × IsShear axles probe.inches s × (text ≡ span_line probe ++ moment_line m ++ shear_line s)
+    (m : MomentPeak) × (s : ShearPeak) × IsMomentPeak axles probe.inches m × IsShearPeak axles probe.inches s × (text ≡ span_line probe ++ moment_line m ++ shear_line s)
 
 -- the same of all probes, one after another
 abbrev pub AreProbeTexts : List Axle → List Probe → List ℕ → Type 0
@@ -105,3 +94,8 @@ AddsProbes axles probes old new = (more : List ℕ) × AreProbeTexts axles probe
 abbrev pub IsReport : CheckFile → List ℕ → Type 0
 IsReport file text =
     (probes : List ℕ) × AreProbeTexts file.truck.load.train file.probes probes × (text ≡ truck_text file.truck ++ probes)
+
+-- a check file has one report
+abbrev pub ReportIsOne : Type 0
+ReportIsOne =
+    (file : CheckFile) (a b : List ℕ) → IsTrain file.truck.load.train → AreSpans file.probes → IsReport file a → IsReport file b → a ≡ b

@@ -1,5 +1,5 @@
 -- What one run of the program does: its status, what it read and what it wrote.
-use Rattle.std.specs.Prelude.{◌≡◌, ◌⊎◌, ℕ, ◌<◌, ◌≤◌, Bool, if◌then◌else◌, nat_lt, List, [], ◌∷◌, ◌++◌, codes, length, take, Option, Some, None, IfSome, IsErr, Ok, is_ok}
+use Rattle.std.specs.Prelude.{◌≡◌, ◌⊎◌, ℕ, ◌<◌, ◌≤◌, if◌then◌else◌, nat_lt, List, [], ◌∷◌, ◌++◌, codes, length, take, Option, Some, IfSome, IsErr, Ok, is_ok}
 use Rattle.std.specs.Io.KnownBytes.{Appends}
 use Rattle.office_io.specs.Causes.{Rose}
 use Rattle.permit_cli.specs.Checks.{check_of}

@@ -5,7 +5,7 @@ ghost use Rattle.std.specs.List.{flat_map};
 ghost use Rattle.std.specs.String.{string_bytes};
 ghost use Rattle.axle_limits.specs.Findings.{findings_of};
 ghost use Rattle.permit_cli.specs.Spans.{AreSpans, IsSpan};
-ghost use Rattle.permit_cli.specs.Reports.{AddsProbes, IsProbeText, IsReport, end_name, high_line, is_legal, legal_line, moment_line, over_line, rule_name, shear_line, truck_line, truck_text, wide_line};
+ghost use Rattle.permit_cli.specs.Reports.{AddsProbes, IsProbeText, IsReport, ReportIsOne, end_name, high_line, is_legal, legal_line, moment_line, over_line, rule_name, shear_line, truck_line, truck_text, wide_line};
 
 use crate::check_file::{CheckFile, Probe, Truck};
 use crate::load::Load;
@@ -25,6 +25,11 @@ pub fn report(alloc: Global, file: &CheckFile) -> Result<String, NoMemory>
     add_probes(&mut text, file.truck.load.train(), file.probes.as_slice())?;
     Ok(text)
 }
+
+/// A law, and no code: a check file has one report.
+pub fn report_is_one()
+    ensures { ReportIsOne }
+{}
 
 // The report on a truck alone.
 fn truck_report(alloc: Global, truck: &Truck) -> Result<String, NoMemory>

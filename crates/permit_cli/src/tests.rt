@@ -1,4 +1,5 @@
 use crate::load::{Load, Range};
+use crate::report::report_is_one;
 use crate::run::{Alone, run_alone};
 use axle_train::{Axle, Train};
 use office_io::{MemorySink, MemorySource};
@@ -42,6 +43,7 @@ fn run(
 // for the HS20 truck on four spans and 32 axles on the longest one.
 #[test]
 fn reports_trucks_and_probes(rt: HostRuntime) -> Result<(), Fail> {
+    report_is_one();
     let rows = [
         (
             FHWA,
