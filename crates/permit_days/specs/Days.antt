@@ -1,0 +1,45 @@
+-- Days and their text, YYYY-MM-DD: the extended form of a calendar date in ISO 8601.
+use Rattle.std.specs.Prelude.{ℕ, ◌+◌, ◌-◌, ◌*◌, Bool, not, ◌&&◌, ◌==◌, nat_le, List, length, slice_index, slice_range, Result, Ok, Err, if◌then◌else◌}
+use Rattle.std.specs.List.{list_all}
+use Rattle.std.specs.Char.{is_ascii_digit}
+use Rattle.permit_days.specs.declared.refusal.DayRefusal.{DayRefusal}
+use Rattle.permit_days.specs.declared.refusal.DayRefusal.TheVariants.{Shape, NoSuchDay}
+
+-- four digits, `-`, two digits, `-` and two digits
+abbrev pub has_shape : List ℕ → Bool
+has_shape text =
+    (length text == 10) && list_all is_ascii_digit (slice_range text 0 4) && (slice_index text 4 == 45)
+    && list_all is_ascii_digit (slice_range text 5 7) && (slice_index text 7 == 45) && list_all is_ascii_digit (slice_range text 8 10)
+
+-- what the digit at a place stands for
+abbrev pub digit_at : List ℕ → ℕ → ℕ
+digit_at text i = slice_index text i - 48
+
+-- the number that the digits at a place and the next one write
+abbrev pub pair_at : List ℕ → ℕ → ℕ
+pair_at text i = 10 * digit_at text i + digit_at text (i + 1)
+
+-- the year, the month and the day of the month that a text of that shape writes
+abbrev pub year_of : List ℕ → ℕ
+year_of text = 100 * pair_at text 0 + pair_at text 2
+
+abbrev pub month_of : List ℕ → ℕ
+month_of text = pair_at text 5
+
+abbrev pub day_of : List ℕ → ℕ
+day_of text = pair_at text 8
+
+-- there is a day of this year, month and day of the month: a year from 1 on, twelve months, and 28 days in each, which every
+-- month of the civil calendar has
+abbrev pub is_day : ℕ → ℕ → ℕ → Bool
+is_day year month day = nat_le 1 year && nat_le 1 month && nat_le month 12 && nat_le 1 day && nat_le day 28
+
+-- the text of a day
+abbrev pub is_day_text : List ℕ → Bool
+is_day_text text = has_shape text && is_day (year_of text) (month_of text) (day_of text)
+
+-- the day that a text writes, or why it is none: its shape, or that there is no such day
+abbrev pub reading_of : List ℕ → Result (List ℕ) DayRefusal
+reading_of text =
+    if not (has_shape text) then Err Shape
+    else (if not (is_day (year_of text) (month_of text) (day_of text)) then Err NoSuchDay else Ok text)
