@@ -2,6 +2,8 @@
 use Rattle.std.specs.Prelude.{ℕ, ◌+◌, ◌-◌, ◌*◌, Bool, not, ◌&&◌, ◌==◌, nat_le, List, length, slice_index, slice_range, Result, Ok, Err, if◌then◌else◌}
 use Rattle.std.specs.List.{list_all}
 use Rattle.std.specs.Char.{is_ascii_digit}
+use Rattle.std.specs.Cmp.Lexicographic.{slice_cmp}
+use Rattle.std.specs.Ordering.{is_lt, nat_cmp}
 use Rattle.permit_days.specs.declared.refusal.DayRefusal.{DayRefusal}
 use Rattle.permit_days.specs.declared.refusal.DayRefusal.TheVariants.{Shape, NoSuchDay}
 
@@ -43,3 +45,7 @@ abbrev pub reading_of : List ℕ → Result (List ℕ) DayRefusal
 reading_of text =
     if not (has_shape text) then Err Shape
     else (if not (is_day (year_of text) (month_of text) (day_of text)) then Err NoSuchDay else Ok text)
+
+-- the first day comes before the second: as their texts are all of one length, in the order of their bytes
+abbrev pub is_before : List ℕ → List ℕ → Bool
+is_before first second = is_lt (slice_cmp nat_cmp first second)
