@@ -3,14 +3,18 @@
 //! two; and the effects of it and of any train on a simple span.
 //!
 //! The crates above are promised that `effects` is greatest over every second spacing and every place,
-//! fractions of an inch among them, although only the truck with its smallest spacing is looked at,
-//! and that `Live` answers for its own train and for the design truck.
+//! fractions of an inch among them, although only the truck with its smallest spacing is looked at;
+//! that the effects of a train, and those of the design truck, are functions of the train and the span,
+//! with no other effects that are these peaks; and that `Live` answers for its own train and for the
+//! design truck.
 #![tactic(auto)]
 
 ghost use Rattle.std.specs.Prelude.{◌≡◌, ◌≤◌};
 ghost use Rattle.influence_line.specs.Peaks.{IsTrainPlaced, IsHs20Placed};
 ghost use Rattle.span_rating.specs.Loading.{AreEffects, AreEffectsOfSomeTrain};
 ghost use Rattle.hs20_truck.specs.Design.{design_axles};
+ghost use Rattle.hs20_truck.specs.Effects.{effects_of, design_of};
+ghost use Rattle.hs20_truck.specs.Laws.{EffectsAreThePeaks, DesignIsThePeaks, EffectsAreOne, DesignIsOne};
 
 use axle_train::{Axle, Train};
 use span_rating::Effects;
@@ -47,7 +51,8 @@ pub fn truck() -> Train
 pub fn effects_of(train: &Train, span: u32) -> Effects
     requires some { 1 ≤ span }
     requires long { span ≤ 6000 }
-    ensures { AreEffects (IsTrainPlaced train.now) span result }
+    ensures peaks { AreEffects (IsTrainPlaced train.now) span result }
+    ensures value { result ≡ effects_of train.now span }
 {
     Effects {
         moment: moment_peak::value(train, span),
@@ -63,9 +68,19 @@ pub fn effects(span: u32) -> Effects
     ensures all { AreEffects IsHs20Placed span result }
     ensures closest { AreEffects (IsTrainPlaced design_axles) span result }
     ensures train { AreEffectsOfSomeTrain span result }
+    ensures value { result ≡ design_of span }
 {
     effects_of(&truck(), span)
 }
+
+/// Laws, and no code: the effects of a train are its peaks on each span, the design effects are those of
+/// the HS20-44 truck over every second spacing, and no other effects are these peaks.
+pub fn effects_are_the_peaks()
+    ensures train { EffectsAreThePeaks }
+    ensures design { DesignIsThePeaks }
+    ensures train_alone { EffectsAreOne }
+    ensures design_alone { DesignIsOne }
+{}
 
 #[cfg(test)]
 mod tests {
@@ -100,6 +115,7 @@ mod tests {
             );
             assert_eq!(rt; effects_of(&train, span), found, "on {span}");
         }
+        effects_are_the_peaks();
         Ok(())
     }
 

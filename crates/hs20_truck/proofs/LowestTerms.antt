@@ -1,0 +1,65 @@
+-- A fraction over its greatest common divisor is in lowest terms, and has the same value.
+use Rattle.std.proofs.Common.{◌≡◌, ℕ, zero, suc, ◌%◌, ◌<◌, ◌≤◌, ◌^◌, ◌&&◌, eqb, arith, refl, ◌∙◌, inl, inr}
+use Rattle.std.specs.Int.{IsGcd}
+use Rattle.std.proofs.Math.Nat.{div-le_self, mod-lt}
+use Rattle.std.proofs.lemmas.Bool.{cases_Bool, cases_lt, and_parts, and_from, both_ways, eqb-true, eq-eqb, cond-true, cond-false}
+use Rattle.std.proofs.lemmas.Nat.Gcd.{IsGcd-from_mod, IsGcd-from_zero, dvd_of_mod-eq-zero, mod-eq-zero_of_dvd, le_from_IsGcd, le_of_dvd}
+use Rattle.influence_line.specs.Fractions.{Ratio, IsRatio, IsSmall}
+use Rattle.influence_line.proofs.Lowest.{gcd_pos, gcd_quotients, quotient_some, same_ratio}
+use Rattle.hs20_truck.specs.Effects.{greatest_divisor, lowest_of}
+
+-- there is a greatest common divisor
+has_gcd : (fuel a b : ℕ) → b < fuel → (g : ℕ) × IsGcd a b g
+has_gcd zero a b h = absurd (omega arith)
+has_gcd (suc fuel) a zero h = (a, IsGcd-from_zero a 0 refl)
+has_gcd (suc fuel) a (suc b) h =
+    let less : a % suc b < suc b = mod-lt a (omega arith) in
+    let g = has_gcd fuel (suc b) (a % suc b) (omega arith) in
+    (g.0, IsGcd-from_mod a (suc b) g.0 g.1)
+
+-- the greatest number that divides both is found from any number up that is no less
+found : (a b n g : ℕ) → IsGcd a b g → 1 ≤ g → g ≤ n → greatest_divisor a b n ≡ g
+unfolding greatest_divisor
+found a b zero g h some most = omega (arith, some, most)
+found a b (suc n) g h some most =
+    elim (cases_Bool (eqb (a % suc n) 0 && eqb (b % suc n) 0)) [
+      | inl both ↦
+          let parts = and_parts (eqb (a % suc n) 0) (eqb (b % suc n) 0) both in
+          let over_a = dvd_of_mod-eq-zero (suc n) (eqb-true (a % suc n) 0 parts.0) in
+          let over_b = dvd_of_mod-eq-zero (suc n) (eqb-true (b % suc n) 0 parts.1) in
+          let least = le_from_IsGcd a b g (suc n) h some over_a over_b in
+          cond-true _ (suc n) (greatest_divisor a b n) both ∙ omega (arith, least, most)
+      | inr fails ↦
+          elim (cases_lt g (suc n)) [
+            | inl below ↦ cond-false _ (suc n) (greatest_divisor a b n) fails ∙ found a b n g h some (omega arith)
+            | inr above ↦
+                let same : suc n ≡ g = omega arith in
+                let over_a = eq-eqb (a % g) 0 (mod-eq-zero_of_dvd g h.0) in
+                let over_b = eq-eqb (b % g) 0 (mod-eq-zero_of_dvd g h.1) in
+                let both = and_from (eqb (a % g) 0) (eqb (b % g) 0) over_a over_b in
+                absurd (both_ways (eqb (a % g) 0 && eqb (b % g) 0) (rw same at fails) both)
+          ]
+    ]
+
+-- the divisor of a fraction is its greatest common divisor
+is_gcd : (a b : ℕ) → 1 ≤ b → IsGcd a b (greatest_divisor a b b)
+is_gcd a b some =
+    let gcd = has_gcd (suc b) a b (omega arith) in
+    let least : 1 ≤ gcd.0 = gcd_pos a b gcd.0 gcd.1 some in
+    rw (found a b b gcd.0 gcd.1 least (le_of_dvd some gcd.1.1)) gcd.1
+
+pub lowest_same : (f : Ratio) → 1 ≤ f.den → IsRatio (lowest_of f) f.num f.den
+unfolding lowest_of
+lowest_same f some = same_ratio f.num f.den (greatest_divisor f.num f.den f.den) (is_gcd f.num f.den some)
+
+-- it has the size of a peak where the fraction has
+pub lowest_small : (f : Ratio) → 1 ≤ f.den → f.num < 2 ^ 68 → f.den < 2 ^ 36 → IsSmall (lowest_of f)
+unfolding lowest_of
+lowest_small f some num den =
+    let divisor = greatest_divisor f.num f.den f.den in
+    let gcd = is_gcd f.num f.den some in
+    record {
+      lowest = record { some = quotient_some f.num f.den divisor gcd some; coprime = gcd_quotients f.num f.den divisor gcd some };
+      num = omega (arith, num, div-le_self f.num divisor);
+      den = omega (arith, den, div-le_self f.den divisor);
+    }
