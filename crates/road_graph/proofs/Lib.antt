@@ -1,0 +1,9 @@
+pub mod Places
+pub mod Numbering
+pub mod Columns
+pub mod Distinct
+pub mod Filters
+pub mod Growth
+pub mod Keeping
+pub mod Lookups
+pub mod Naming

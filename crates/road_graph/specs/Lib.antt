@@ -1,0 +1,6 @@
+pub mod Ranges
+pub mod Roads
+pub mod Adding
+pub mod Lists
+pub mod Kept
+pub use Rattle.office_io.specs.Names

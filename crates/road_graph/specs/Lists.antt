@@ -1,0 +1,20 @@
+-- Lists that stand side by side, one for each number.
+use Rattle.std.specs.Prelude.{◌≡◌, ℕ, ◌<◌, List, [], ◌∷◌, ◌++◌, map, length, slice_get, slice_set, slice_index_or, Some, Vec, vec_capacity}
+use Rattle.std.specs.declared.alloc.Global.{Global}
+
+-- what the vectors hold
+abbrev pub lists_of : {X : Type 0} → List (Vec X Global) → List (List X)
+lists_of vectors = map (λ v. v.items) vectors
+
+-- one element more at the end of the list of a number
+abbrev pub with_last : {X : Type 0} → List (List X) → ℕ → X → List (List X)
+with_last lists i x = slice_set lists i (slice_index_or lists i [] ++ x ∷ [])
+
+-- the vector of a number has room for one element more
+abbrev pub HasRoom : {X : Type 0} → List (Vec X Global) → ℕ → Type 0
+HasRoom {X} vectors i = (v : Vec X Global) → slice_get vectors i ≡ Some v → length v.items < vec_capacity v
+
+-- there are so many lists, and the list of each number is the one that is wanted
+pub record AreLists {X : Type 0} (lists : List (List X)) (many : ℕ) (wanted : ℕ → List X) : Type 0 where
+  pub many_are : length lists ≡ many
+  pub each : (i : ℕ) (list : List X) → slice_get lists i ≡ Some list → list ≡ wanted i

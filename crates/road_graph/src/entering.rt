@@ -1,0 +1,151 @@
+// The steps that write what was added. Each takes all the room that it needs first, and then only what cannot fail is done,
+// so that nothing has changed where no memory was left.
+
+ghost use Rattle.std.specs.Prelude.{◌≡◌, ◌<◌, ◌≤◌, ◌++◌, ◌∷◌, [], ◌^◌, length, map, slice_set, nat_lt, ◌&&◌, false, OnOk, OnErr, IfSome, IfNone, slice_get, Some};
+ghost use Rattle.road_graph.specs.Lists.{lists_of, with_last};
+ghost use Rattle.road_graph.specs.Roads.{has_name, number_of, segment_at, arrival_of};
+ghost use Rattle.road_graph.specs.Adding.{limited};
+
+use crate::lists::{push_at, reserve_at};
+use crate::segment::{Arrival, Segment, Span};
+use crate::values::What;
+use indexmap::IndexSet;
+use office_io::Name;
+use std::alloc::{AllocError, Global};
+
+/// The number of a name.
+#[tactic(auto, using(crate::proofs::Naming::number_found))]
+pub(crate) fn numbered(names: &IndexSet<Name>, name: &Name) -> Option<u32>
+    requires { length names.now.keys ≤ 16384 }
+    ensures number { result ≡ number_of name.now names.now.keys }
+    ensures found { IfSome result (λ i. slice_get names.now.keys i ≡ Some name.now) }
+    ensures within { IfSome result (λ i. i < length names.now.keys) }
+    ensures missing { IfNone result (has_name name.now names.now.keys ≡ false) }
+{
+    match names.get_index_of(name) {
+        Some(i) => Some(i as u32),
+        None => None,
+    }
+}
+
+/// Whether both are numbers below the count.
+pub(crate) fn are_below(count: usize, from: u32, to: u32) -> bool
+    ensures { result ≡ (nat_lt from count && nat_lt to count) }
+{
+    (from as usize) < count && (to as usize) < count
+}
+
+/// Enters a name that is not there.
+fn enter_name(names: &mut IndexSet<Name>, name: Name) -> Result<(), AllocError>
+    requires { has_name name names.old.keys ≡ false }
+    ensures ok { OnOk result (names.new.keys ≡ names.old.keys ++ name ∷ []) }
+    ensures err { OnErr result (names.new.keys ≡ names.old.keys) }
+{
+    names.insert(name)?;
+    Ok(())
+}
+
+/// Enters a node at which no segment begins or ends.
+pub(crate) fn enter_node(
+    alloc: Global,
+    names: &mut IndexSet<Name>,
+    outgoing: &mut Vec<Vec<u32>>,
+    incoming: &mut Vec<Vec<Arrival>>,
+    name: Name,
+) -> Result<(), AllocError>
+    requires { has_name name names.old.keys ≡ false }
+    ensures name { OnOk result (names.new.keys ≡ names.old.keys ++ name ∷ []) }
+    ensures outgoing { OnOk result (lists_of outgoing.new.items ≡ lists_of outgoing.old.items ++ [] ∷ []) }
+    ensures incoming { OnOk result (lists_of incoming.new.items ≡ lists_of incoming.old.items ++ [] ∷ []) }
+    ensures name_unchanged { OnErr result (names.new.keys ≡ names.old.keys) }
+    ensures outgoing_unchanged { OnErr result (outgoing.new.items ≡ outgoing.old.items) }
+    ensures incoming_unchanged { OnErr result (incoming.new.items ≡ incoming.old.items) }
+{
+    outgoing.reserve(1)?;
+    incoming.reserve(1)?;
+    enter_name(names, name)?;
+    outgoing.push_reserved(Vec::new(alloc));
+    incoming.push_reserved(Vec::new(alloc));
+    Ok(())
+}
+
+/// Enters a segment that carries no span, at the node where it begins and the node where it ends.
+pub(crate) fn enter_segment(
+    alloc: Global,
+    names: &mut IndexSet<Name>,
+    segments: &mut Vec<Segment>,
+    outgoing: &mut Vec<Vec<u32>>,
+    incoming: &mut Vec<Vec<Arrival>>,
+    carried: &mut Vec<Vec<u32>>,
+    segment: Segment,
+) -> Result<(), AllocError>
+    requires fresh { has_name segment.name names.old.keys ≡ false }
+    requires few { length segments.old.items < 16384 }
+    requires from { segment.from < length outgoing.old.items }
+    requires to { segment.to < length incoming.old.items }
+    ensures name { OnOk result (names.new.keys ≡ names.old.keys ++ segment.name ∷ []) }
+    ensures segment { OnOk result (segments.new.items ≡ segments.old.items ++ segment ∷ []) }
+    ensures outgoing { OnOk result (lists_of outgoing.new.items ≡ with_last (lists_of outgoing.old.items) segment.from (length segments.old.items)) }
+    ensures incoming { OnOk result (lists_of incoming.new.items ≡ with_last (lists_of incoming.old.items) segment.to (arrival_of (length segments.old.items, segment))) }
+    ensures carried { OnOk result (lists_of carried.new.items ≡ lists_of carried.old.items ++ [] ∷ []) }
+    ensures name_unchanged { OnErr result (names.new.keys ≡ names.old.keys) }
+    ensures segments_unchanged { OnErr result (segments.new.items ≡ segments.old.items) }
+    ensures outgoing_unchanged { OnErr result (lists_of outgoing.new.items ≡ lists_of outgoing.old.items) }
+    ensures incoming_unchanged { OnErr result (lists_of incoming.new.items ≡ lists_of incoming.old.items) }
+    ensures carried_unchanged { OnErr result (carried.new.items ≡ carried.old.items) }
+{
+    let number = segments.len() as u32;
+    segments.reserve(1)?;
+    carried.reserve(1)?;
+    reserve_at(outgoing, segment.from as usize)?;
+    reserve_at(incoming, segment.to as usize)?;
+    enter_name(names, segment.name)?;
+    push_at(outgoing, segment.from as usize, number);
+    push_at(
+        incoming,
+        segment.to as usize,
+        Arrival {
+            segment: number,
+            from: segment.from,
+            feet: segment.feet,
+        },
+    );
+    carried.push_reserved(Vec::new(alloc));
+    segments.push_reserved(segment);
+    Ok(())
+}
+
+/// Enters a span at its segment.
+pub(crate) fn enter_span(
+    names: &mut IndexSet<Name>,
+    spans: &mut Vec<Span>,
+    carried: &mut Vec<Vec<u32>>,
+    span: Span,
+) -> Result<(), AllocError>
+    requires fresh { has_name span.name names.old.keys ≡ false }
+    requires few { length spans.old.items < 2048 }
+    requires within { span.segment < length carried.old.items }
+    ensures name { OnOk result (names.new.keys ≡ names.old.keys ++ span.name ∷ []) }
+    ensures span { OnOk result (spans.new.items ≡ spans.old.items ++ span ∷ []) }
+    ensures carried { OnOk result (lists_of carried.new.items ≡ with_last (lists_of carried.old.items) span.segment (length spans.old.items)) }
+    ensures name_unchanged { OnErr result (names.new.keys ≡ names.old.keys) }
+    ensures spans_unchanged { OnErr result (spans.new.items ≡ spans.old.items) }
+    ensures carried_unchanged { OnErr result (lists_of carried.new.items ≡ lists_of carried.old.items) }
+{
+    let number = spans.len() as u32;
+    spans.reserve(1)?;
+    reserve_at(carried, span.segment as usize)?;
+    enter_name(names, span.name)?;
+    push_at(carried, span.segment as usize, number);
+    spans.push_reserved(span);
+    Ok(())
+}
+
+/// Replaces a limit of a segment.
+pub(crate) fn enter_limit(segments: &mut Vec<Segment>, i: usize, what: What, value: u32)
+    requires { i < length segments.old.items }
+    ensures { segments.new.items ≡ slice_set segments.old.items i (limited (segment_at segments.old.items i) what value) }
+{
+    let segment = &mut segments[i];
+    segment.base = segment.base.with(what, value);
+}

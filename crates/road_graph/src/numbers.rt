@@ -1,0 +1,55 @@
+// A list of numbers.
+
+ghost use Rattle.std.specs.Prelude.{◌≡◌, IfOk};
+
+use office_io::NoMemory;
+use std::alloc::Global;
+use std::marker::Model;
+
+/// A list of numbers, as the segments of a route or the nodes that were reached.
+#[derive(Debug, Drop)]
+pub struct Numbers {
+    list: Vec<u32>,
+}
+
+impl Model for Numbers {
+    ghost use Rattle.std.specs.Prelude.{List, ℕ};
+
+    ghost Value = { List ℕ };
+
+    ghost view = { λ n. n.list.items };
+}
+
+impl Numbers {
+    /// These numbers. Takes no memory.
+    pub fn of(list: Vec<u32>) -> Numbers
+        ensures { result ≡ list.items }
+    {
+        Numbers { list }
+    }
+
+    /// The numbers. Takes no memory.
+    pub fn as_slice(&self) -> &[u32]
+        ensures { result.now ≡ self.now }
+    {
+        self.list.as_slice()
+    }
+
+    /// The same numbers once more.
+    pub fn try_clone(&self, alloc: Global) -> Result<Numbers, NoMemory>
+        ensures { IfOk result (λ copy. copy ≡ self.now) }
+    {
+        let mut list = Vec::new(alloc);
+        match list.extend_from_slice(self.list.as_slice()) {
+            Ok(()) => Ok(Numbers { list }),
+            Err(_) => Err(NoMemory),
+        }
+    }
+
+    /// The numbers in the vector that holds them. Takes no memory.
+    pub fn into_vec(self) -> Vec<u32>
+        ensures { result.items ≡ self }
+    {
+        self.list
+    }
+}
