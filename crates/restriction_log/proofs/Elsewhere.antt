@@ -1,0 +1,81 @@
+-- A change leaves the limits of other segments, and the ratings of their spans, as they were.
+use Rattle.std.proofs.Common.{◌≡◌, ◌≢◌, ◌∷◌, ◌++◌, [], ℕ, List, Bool, false, ◌||◌, take, drop, map, refl, ap, sym, ◌∙◌, get_or-set_other}
+use Rattle.std.specs.Prelude.{◌==◌, fold}
+use Rattle.std.specs.List.{list_any}
+use Rattle.std.proofs.lemmas.Bool.{or_parts, eqb-false}
+use Rattle.std.proofs.lemmas.List.{drop-map, take-append-drop}
+use Rattle.std.proofs.lemmas.Option.{get_or_from_slice_get}
+use Rattle.road_graph.specs.declared.segment.Span.{Span}
+use Rattle.road_graph.specs.Ranges.{default_values}
+use Rattle.road_graph.specs.Roads.{Roads, no_span, span_at}
+use Rattle.restriction_log.specs.declared.change.Change.{Change}
+use Rattle.restriction_log.specs.declared.change.Change.TheVariants.{Closed, Height, Width, Length, Gross, Allowance, Rating}
+use Rattle.restriction_log.specs.Changes.{touched, is_touched, value_after}
+use Rattle.restriction_log.specs.States.{InForce, values_at, with_change, state_after, state_of, base_of, AgreeOn}
+
+-- whether a segment is among those that the changes name
+pub any-touched : (roads : Roads) (segment n : ℕ) (changes : List Change)
+    → list_any (λ s. s == segment) (drop n (map (touched roads) changes)) ≡ is_touched roads segment (drop n changes)
+any-touched roads segment n changes =
+    ap (list_any (λ (s : ℕ). s == segment)) (drop-map (touched roads) n changes) ∙ mapped (drop n changes)
+  where
+    mapped : (cs : List Change) → list_any (λ s. s == segment) (map (touched roads) cs) ≡ is_touched roads segment cs
+    mapped [] = refl
+    mapped (c ∷ cs) = ap (λ (b : Bool). (touched roads c == segment) || b) (mapped cs)
+
+-- what a segment's change leaves: each other segment, and each span
+agree-change : (roads : Roads) (segment other : ℕ) (state : InForce) (change : Change) → segment ≢ other
+    → AgreeOn roads segment state (with_change state other change)
+agree-change roads segment other state change apart = record {
+  values = get_or-set_other state.values other segment (value_after (values_at state.values other) change) default_values apart;
+  ratings = λ i t at on. refl;
+}
+
+-- one change that does not name the segment or a span of it
+pub agree-after : (roads : Roads) (segment : ℕ) (state : InForce) (change : Change) → segment ≢ touched roads change
+    → AgreeOn roads segment state (state_after state change)
+agree-after roads segment state (Closed other closed) apart = agree-change roads segment other state (Closed other closed) apart
+agree-after roads segment state (Height other inches) apart = agree-change roads segment other state (Height other inches) apart
+agree-after roads segment state (Width other inches) apart = agree-change roads segment other state (Width other inches) apart
+agree-after roads segment state (Length other inches) apart = agree-change roads segment other state (Length other inches) apart
+agree-after roads segment state (Gross other pounds) apart = agree-change roads segment other state (Gross other pounds) apart
+agree-after roads segment state (Allowance other permille) apart = agree-change roads segment other state (Allowance other permille) apart
+agree-after roads segment state (Rating span permille) apart = record {
+  values = refl;
+  ratings = λ i t at on.
+      let here : span_at roads.spans i ≡ t = get_or_from_slice_get roads.spans i t no_span at in
+      let far : i ≢ span = λ same. apart (sym on ∙ ap (λ (u : Span). u.segment) (sym here) ∙ ap (λ (k : ℕ). (span_at roads.spans k).segment) same) in
+      get_or-set_other state.ratings span i permille 0 far;
+}
+
+agree-trans : (roads : Roads) (segment : ℕ) (a b c : InForce) → AgreeOn roads segment a b → AgreeOn roads segment b c → AgreeOn roads segment a c
+agree-trans roads segment a b c h k = record {
+  values = k.values ∙ h.values;
+  ratings = λ i t at on. k.ratings i t at on ∙ h.ratings i t at on;
+}
+
+-- changes of which none names the segment or a span of it
+pub agree-fold : (roads : Roads) (segment : ℕ) (state : InForce) (changes : List Change) → is_touched roads segment changes ≡ false
+    → AgreeOn roads segment state (fold state_after state changes)
+agree-fold roads segment state [] none = record { values = refl; ratings = λ i t at on. refl }
+agree-fold roads segment state (c ∷ cs) none =
+    let both = or_parts (touched roads c == segment) (is_touched roads segment cs) none in
+    let apart : segment ≢ touched roads c = λ same. eqb-false (touched roads c) segment both.0 (sym same) in
+    agree-trans roads segment state (state_after state c) (fold state_after (state_after state c) cs)
+    (agree-after roads segment state c apart) (agree-fold roads segment (state_after state c) cs both.1)
+
+pub fold-append : (state : InForce) (xs ys : List Change) → fold state_after state (xs ++ ys) ≡ fold state_after (fold state_after state xs) ys
+fold-append state [] ys = refl
+fold-append state (x ∷ xs) ys = fold-append (state_after state x) xs ys
+
+-- one posting more
+pub state-posted : (roads : Roads) (changes : List Change) (change : Change) → state_of roads (changes ++ change ∷ []) ≡ state_after (state_of roads changes) change
+state-posted roads changes change = fold-append (base_of roads) changes (change ∷ [])
+
+-- where no posting above a number names the segment, its state is that of the number
+pub agree-since : (roads : Roads) (segment n : ℕ) (changes : List Change) → is_touched roads segment (drop n changes) ≡ false
+    → AgreeOn roads segment (state_of roads (take n changes)) (state_of roads changes)
+agree-since roads segment n changes none =
+    let whole : fold state_after (state_of roads (take n changes)) (drop n changes) ≡ state_of roads changes =
+    sym (fold-append (base_of roads) (take n changes) (drop n changes)) ∙ ap (state_of roads) (take-append-drop n changes) in
+    rw (← whole) (agree-fold roads segment (state_of roads (take n changes)) (drop n changes) none)

@@ -1,0 +1,5 @@
+pub mod Changes
+pub mod States
+pub mod Logs
+pub use Rattle.road_graph.specs.Ranges
+pub use Rattle.road_graph.specs.Roads

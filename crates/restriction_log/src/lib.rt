@@ -1,0 +1,24 @@
+//! What is posted on the roads: changes of limits and ratings, the state that they make, and the log that keeps them.
+//!
+//! A posting replaces one limit of a segment or the rating of one span, as a state does when a road is closed or a bridge
+//! is posted anew. The first posting is number 1, and the version of a log is the number of its last posting.
+//!
+//! To the crate above it promises that the state of a version is the fold of the postings over the base values of the
+//! network; that a posting is refused exactly where the network does not take it or the log is full, and is otherwise
+//! the next one; and that where a segment was not changed after a version, its limits and the ratings of its spans are
+//! still those of that version.
+#![tactic(auto)]
+
+mod change;
+mod lists;
+mod log;
+mod refusal;
+mod state;
+
+pub use change::{Change, takes, touched};
+pub use log::Log;
+pub use refusal::PostRefusal;
+pub use state::State;
+
+#[cfg(test)]
+mod tests;
