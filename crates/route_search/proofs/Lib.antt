@@ -1,0 +1,11 @@
+pub mod Entries
+pub mod Queues
+pub mod Weights
+pub mod Steps
+pub mod Relaxing
+pub mod Routes
+pub mod Reaches
+pub mod Listed
+pub mod Outcomes
+pub mod Uniqueness
+pub mod Cuts

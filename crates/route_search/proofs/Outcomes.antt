@@ -1,0 +1,68 @@
+-- Walks by any segment, and what follows where there is no passable walk.
+use Rattle.std.proofs.Common.{◌≡◌, ◌<◌, ◌∷◌, [], ℕ, suc, zero, List, Bool, true, false, Option, Some, None, length, get_or, replicate, refl, sym, arith, ◌∙◌}
+use Rattle.std.specs.Prelude.{slice_get}
+use Rattle.road_graph.specs.declared.segment.Segment.{Segment}
+use Rattle.road_graph.specs.Roads.{Roads}
+use Rattle.road_graph.proofs.Places.{get_within}
+use Rattle.route_search.specs.Walks.{ArePotentials, AreReached, CanReach, IsRoute, IsWalk, every, flagged}
+use Rattle.route_search.specs.Reaching.{AreMarked, IsMarked}
+use Rattle.route_search.specs.Founds.{IsCutFound, IsNoRoadFound, IsRouteFound}
+
+-- a walk along segments that may be passed is a walk
+pub to_every : (segments : List Segment) (may : ℕ → Bool) (a b : ℕ) (path : List ℕ) → IsWalk segments may a b path → IsWalk segments every a b path
+to_every segments may a b [] walk = walk
+to_every segments may a b (i ∷ path) walk = let (s, at, may1, from, rest) = walk in (s, at, refl, from, to_every segments may s.to b path rest)
+
+all_true : (n i : ℕ) → i < n → get_or (replicate n true) i false ≡ true
+all_true zero i low = absurd (omega (arith, low))
+all_true (suc n) zero low = refl
+all_true (suc n) (suc i) low = all_true n i (omega (arith, low))
+
+module _ (segments : List Segment) (flags : List Bool) (e : flags ≡ replicate (length segments) true) where
+  to_flagged : (a b : ℕ) (path : List ℕ) → IsWalk segments every a b path → IsWalk segments (flagged flags) a b path
+  to_flagged a b [] walk = walk
+  to_flagged a b (i ∷ path) walk =
+      let (s, at, may1, from, rest) = walk in
+      (s, at, rw e (all_true (length segments) i (get_within segments i s at)), from, to_flagged s.to b path rest)
+
+  pub reach_every : (a b : ℕ) → CanReach segments (flagged flags) a b → CanReach segments every a b
+  reach_every a b (path, walk) = (path, to_every segments (flagged flags) a b path walk)
+
+  pub reach_flagged : (a b : ℕ) → CanReach segments every a b → CanReach segments (flagged flags) a b
+  reach_flagged a b (path, walk) = (path, to_flagged a b path walk)
+
+  pub reached_every : (a : ℕ) (numbers : List ℕ) → AreReached segments (flagged flags) a numbers → AreReached segments every a numbers
+  reached_every a numbers h = record {
+    rising = h.rising;
+    sound = λ k v at. reach_every a v (h.sound k v at);
+    complete = λ v reach. h.complete v (reach_flagged a v reach);
+  }
+
+pub cut_found : (roads : Roads) (passable flags : List Bool) (a b : ℕ) (all : List Bool) (numbers : List ℕ) → flags ≡ replicate (length roads.segments) true → (CanReach roads.segments (flagged passable) a b → ⊥)
+    → AreMarked roads (flagged flags) a all → IsMarked all b → AreReached roads.segments (flagged passable) a numbers → IsCutFound roads passable a b numbers
+cut_found roads passable flags a b all numbers e none h m r = record { walk = reach_every roads.segments flags e a b (h.sound b m); none = none; nodes = r }
+
+pub no_road_found : (roads : Roads) (flags : List Bool) (a b : ℕ) (all : List Bool) (numbers : List ℕ) → flags ≡ replicate (length roads.segments) true
+    → AreMarked roads (flagged flags) a all → slice_get all b ≡ Some false → AreReached roads.segments (flagged flags) a numbers → IsNoRoadFound roads a b numbers
+no_road_found roads flags a b all numbers e h m r = record {
+  none = λ reach. let k = h.complete b (reach_flagged roads.segments flags e a b reach) in bits (sym m ∙ k);
+  nodes = reached_every roads.segments flags e a numbers r;
+}
+  where
+    bits : Some false ≡ Some true → ⊥
+    bits e = cc
+
+pub none_found : (roads : Roads) (passable : List Bool) (a b : ℕ) (ps : List (Option ℕ)) → ArePotentials roads.segments (flagged passable) (length roads.nodes) b ps → slice_get ps a ≡ Some None → CanReach roads.segments (flagged passable) a b → ⊥
+none_found roads passable a b ps h at (path, walk) = h.each a None at path walk
+
+pub route_found : (roads : Roads) (passable : List Bool) (a b : ℕ) (segments : List ℕ) (feet : ℕ) (ps : List (Option ℕ)) → IsRoute roads.segments (flagged passable) a b segments
+    → ArePotentials roads.segments (flagged passable) (length roads.nodes) b ps → slice_get ps a ≡ Some (Some feet) → IsRouteFound roads passable a b segments feet ps
+route_found roads passable a b segments feet ps route h at =
+    let least = h.each a (Some feet) at in
+    let (way, go, long) = least.reached in
+    record {
+      route = route;
+      feet_is = omega (arith, least.least segments route.walk, route.least way go, long);
+      potentials = h;
+      at_start = at;
+    }

@@ -1,0 +1,8 @@
+use Rattle.std.proofs.Common.{◌≡◌, ◌<◌, ℕ, Some}
+use Rattle.std.specs.Prelude.{slice_get}
+use Rattle.route_search.specs.Walks.{flagged}
+use Rattle.route_search.specs.Following.{IsTight}
+use Rattle.route_search.proofs.follow.first_tight.Given as goal
+
+abbrev pub invariant-loop-i : goal.invariant-loop-i
+invariant-loop-i l = (j m : ℕ) → j < l.i-index → slice_get l.i-items j ≡ Some m → IsTight l.network.segments (flagged l.passable) l.potentials l.node l.left m → ⊥

@@ -1,0 +1,14 @@
+-- The segments that lead on a walk of least length, as potentials show them.
+use Rattle.std.specs.Prelude.{◌≡◌, ℕ, ◌-◌, ◌≤◌, Bool, true, List, slice_get, Option, Some}
+use Rattle.road_graph.specs.declared.segment.Segment.{Segment}
+
+-- segment i leads from a node on a walk of least length, of which `left` feet are left: its feet are the difference of the
+-- potentials of its ends
+abbrev pub IsTight : List Segment → (ℕ → Bool) → List (Option ℕ) → ℕ → ℕ → ℕ → Type 0
+IsTight segments may potentials node left i =
+    (s : Segment) × (slice_get segments i ≡ Some s) × (may i ≡ true) × (s.from ≡ node) × (s.feet ≤ left) × (slice_get potentials s.to ≡ Some (Some (left - s.feet)))
+
+-- it is the one of least number
+pub record IsFirstTight (segments : List Segment) (may : ℕ → Bool) (potentials : List (Option ℕ)) (node left i : ℕ) : Type 0 where
+  pub tight : IsTight segments may potentials node left i
+  pub first : (j : ℕ) → IsTight segments may potentials node left j → i ≤ j

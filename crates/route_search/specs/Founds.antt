@@ -1,0 +1,36 @@
+-- What a search answers. The three cases exclude one another.
+use Rattle.std.specs.Prelude.{◌≡◌, ℕ, ◌<◌, Bool, List, length, Option, Some, slice_get}
+use Rattle.road_graph.specs.Roads.{Roads}
+use Rattle.route_search.specs.declared.found.Found.{Found}
+use Rattle.route_search.specs.declared.found.Found.TheVariants.{Cut, NoRoad, Route}
+use Rattle.route_search.specs.Walks.{ArePotentials, AreReached, CanReach, IsRoute, every, feet_of, flagged}
+
+-- the first of the shortest passable walks from a to b, its length, and the potentials that certify it
+pub record IsRouteFound (roads : Roads) (passable : List Bool) (a b : ℕ) (segments : List ℕ) (feet : ℕ) (potential : List (Option ℕ)) : Type 0 where
+  pub route : IsRoute roads.segments (flagged passable) a b segments
+  pub feet_is : feet_of roads.segments segments ≡ feet
+  pub potentials : ArePotentials roads.segments (flagged passable) (length roads.nodes) b potential
+  pub at_start : slice_get potential a ≡ Some (Some feet)
+
+-- there is a walk from a to b, and none is passable; the nodes that passable walks reach from a
+pub record IsCutFound (roads : Roads) (passable : List Bool) (a b : ℕ) (reached : List ℕ) : Type 0 where
+  pub walk : CanReach roads.segments every a b
+  pub none : CanReach roads.segments (flagged passable) a b → ⊥
+  pub nodes : AreReached roads.segments (flagged passable) a reached
+
+-- there is no walk from a to b; the nodes that any walks reach from a
+pub record IsNoRoadFound (roads : Roads) (a b : ℕ) (reached : List ℕ) : Type 0 where
+  pub none : CanReach roads.segments every a b → ⊥
+  pub nodes : AreReached roads.segments every a reached
+
+-- what is found from a to b
+abbrev pub IsFound : Roads → List Bool → ℕ → ℕ → Found → Type 0
+IsFound roads passable a b (Route segments feet potential) = IsRouteFound roads passable a b segments feet potential
+IsFound roads passable a b (Cut reached) = IsCutFound roads passable a b reached
+IsFound roads passable a b (NoRoad reached) = IsNoRoadFound roads a b reached
+
+-- the segments of a route, and the nodes that are reached, are there
+abbrev pub IsInRange : Roads → Found → Type 0
+IsInRange roads (Route segments feet potential) = (k i : ℕ) → slice_get segments k ≡ Some i → i < length roads.segments
+IsInRange roads (Cut reached) = (k v : ℕ) → slice_get reached k ≡ Some v → v < length roads.nodes
+IsInRange roads (NoRoad reached) = (k v : ℕ) → slice_get reached k ≡ Some v → v < length roads.nodes

@@ -1,0 +1,9 @@
+pub mod Walks
+pub mod Founds
+pub mod Laws
+pub mod Following
+pub mod Settling
+pub mod Reaching
+pub mod Listing
+pub mod Buckets
+pub use Rattle.road_graph.specs.Roads

@@ -1,0 +1,51 @@
+-- What holds while nodes are marked.
+use Rattle.std.specs.Prelude.{◌≡◌, ◌⊎◌, ℕ, ◌+◌, ◌++◌, ◌∷◌, [], Bool, true, false, List, length, slice_get, slice_set, Some, Contains}
+use Rattle.road_graph.specs.declared.segment.Segment.{Segment}
+use Rattle.road_graph.specs.Roads.{Roads}
+use Rattle.route_search.specs.Walks.{CanReach}
+
+-- how many nodes are not marked: each mark takes one from it
+abbrev pub one_unless : Bool → ℕ
+one_unless true = 0
+one_unless false = 1
+
+abbrev pub to_do : List Bool → ℕ
+to_do [] = 0
+to_do (b ∷ rest) = one_unless b + to_do rest
+
+-- a node is marked
+abbrev pub IsMarked : List Bool → ℕ → Type 0
+IsMarked marked v = slice_get marked v ≡ Some true
+
+-- the marked nodes are those that walks reach
+pub record AreMarked (roads : Roads) (may : ℕ → Bool) (from : ℕ) (marked : List Bool) : Type 0 where
+  pub many : length marked ≡ length roads.nodes
+  pub sound : (v : ℕ) → IsMarked marked v → CanReach roads.segments may from v
+  pub complete : (v : ℕ) → CanReach roads.segments may from v → IsMarked marked v
+
+-- node is marked too, and waits if it was not
+abbrev pub IsMarkedToo : List Bool → List ℕ → List Bool → List ℕ → ℕ → Type 0
+IsMarkedToo marked waiting now queue node =
+    (IsMarked marked node × (now ≡ marked) × (queue ≡ waiting)) ⊎ ((slice_get marked node ≡ Some false) × (now ≡ slice_set marked node true) × (queue ≡ waiting ++ node ∷ []))
+
+-- the segments from v lead to marked nodes
+abbrev pub IsSpread : Roads → (ℕ → Bool) → List Bool → ℕ → Type 0
+IsSpread roads may marked v = (i : ℕ) (s : Segment) → slice_get roads.segments i ≡ Some s → may i ≡ true → s.from ≡ v → IsMarked marked s.to
+
+-- the marked nodes are reached, the start among them, and each of them, but those of `but`, waits or has been spread from
+pub record IsReachingBut (roads : Roads) (may : ℕ → Bool) (from : ℕ) (marked : List Bool) (waiting : List ℕ) (but : ℕ → Type 0) : Type 0 where
+  pub many : length marked ≡ length roads.nodes
+  pub start : IsMarked marked from
+  pub sound : (v : ℕ) → IsMarked marked v → CanReach roads.segments may from v
+  pub ranged : (v : ℕ) → Contains waiting v → IsMarked marked v
+  pub waits : (v : ℕ) → IsMarked marked v → but v ⊎ (Contains waiting v ⊎ IsSpread roads may marked v)
+
+-- the same of every marked node
+abbrev pub IsReaching : Roads → (ℕ → Bool) → ℕ → List Bool → List ℕ → Type 0
+IsReaching roads may from marked waiting = IsReachingBut roads may from marked waiting (λ v. ⊥)
+
+-- the same but for a node, of which the segments of these numbers are tried
+pub record IsSpreading (roads : Roads) (may : ℕ → Bool) (from : ℕ) (marked : List Bool) (waiting : List ℕ) (node : ℕ) (tried : List ℕ) : Type 0 where
+  pub reaching : IsReachingBut roads may from marked waiting (λ v. v ≡ node)
+  pub here : IsMarked marked node
+  pub tried_all : (k i : ℕ) (s : Segment) → slice_get tried k ≡ Some i → slice_get roads.segments i ≡ Some s → may i ≡ true → IsMarked marked s.to

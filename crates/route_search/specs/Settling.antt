@@ -1,0 +1,88 @@
+-- What holds while potentials are found.
+use Rattle.std.specs.Prelude.{◌≡◌, ◌⊎◌, ℕ, ◌+◌, ◌*◌, ◌<◌, ◌≤◌, Bool, true, List, [], ◌∷◌, length, slice_get, Option, Some, None, Contains, slice_set, slice_index_or}
+use Rattle.road_graph.specs.declared.segment.Segment.{Segment}
+use Rattle.road_graph.specs.Roads.{Roads}
+use Rattle.road_graph.specs.declared.segment.Arrival.{Arrival}
+use Rattle.route_search.specs.declared.waiting.Waiting.{Waiting}
+use Rattle.route_search.specs.Walks.{IsWalk, feet_of}
+
+-- above every length that can be found
+abbrev pub beyond : ℕ
+beyond = 50000000000
+
+-- what a potential may still fall by, and all of them together: each try that shortens one takes from the sum
+abbrev pub weight_of : Option ℕ → ℕ
+weight_of None = beyond
+weight_of (Some d) = d
+
+abbrev pub all_weight : List (Option ℕ) → ℕ
+all_weight [] = 0
+all_weight (p ∷ rest) = weight_of p + all_weight rest
+
+-- how many nodes have a potential: no potential is more than 10,000,000 ft for each of these
+abbrev pub one_if_known : Option ℕ → ℕ
+one_if_known None = 0
+one_if_known (Some d) = 1
+
+abbrev pub known : List (Option ℕ) → ℕ
+known [] = 0
+known (p ∷ rest) = one_if_known p + known rest
+
+-- a waiting node is in the queue
+abbrev pub IsIn : Waiting → List Waiting → Type 0
+IsIn w queue = Contains queue w
+
+-- u has a potential, at most this
+pub record IsBelow (potentials : List (Option ℕ)) (u most : ℕ) : Type 0 where
+  pub value : ℕ
+  pub at : slice_get potentials u ≡ Some (Some value)
+  pub below : value ≤ most
+
+-- the segments into v numbered from `least` on lead to no shorter way than d by v
+abbrev pub IsSettledFrom : List Segment → (ℕ → Bool) → List (Option ℕ) → ℕ → ℕ → ℕ → Type 0
+IsSettledFrom segments may potentials v d least =
+    (i : ℕ) (s : Segment) → least ≤ i → slice_get segments i ≡ Some s → may i ≡ true → s.to ≡ v → IsBelow potentials s.from (d + s.feet)
+
+-- what every try keeps: the goal has 0, each potential is the length of some walk and is bounded, and the nodes that wait are
+-- there
+pub record IsKept (roads : Roads) (may : ℕ → Bool) (goal : ℕ) (potentials : List (Option ℕ)) (queue : List Waiting) : Type 0 where
+  pub many : length potentials ≡ length roads.nodes
+  pub zero : slice_get potentials goal ≡ Some (Some 0)
+  pub reached : (v d : ℕ) → slice_get potentials v ≡ Some (Some d) → (path : List ℕ) × IsWalk roads.segments may v goal path × (feet_of roads.segments path ≡ d)
+  pub bounded : (v d : ℕ) → slice_get potentials v ≡ Some (Some d) → d ≤ 10000000 * known potentials
+  pub ranged : (w : Waiting) → IsIn w queue → w.node < length roads.nodes
+
+-- each potential waits in the queue, or the segments into its node lead to no shorter way: where nothing waits, no walk is
+-- shorter than the potentials say
+pub record IsSearching (roads : Roads) (may : ℕ → Bool) (goal : ℕ) (potentials : List (Option ℕ)) (queue : List Waiting) : Type 0 where
+  pub kept : IsKept roads may goal potentials queue
+  pub waits : (v d : ℕ) → slice_get potentials v ≡ Some (Some d) → IsIn (record { length = d; node = v }) queue ⊎ IsSettledFrom roads.segments may potentials v d 0
+
+-- the same but for v, of which these arrivals are settled
+pub record IsRelaxing (roads : Roads) (may : ℕ → Bool) (goal : ℕ) (potentials : List (Option ℕ)) (queue : List Waiting) (v d : ℕ) (tried : List Arrival) : Type 0 where
+  pub kept : IsKept roads may goal potentials queue
+  pub here : slice_get potentials v ≡ Some (Some d)
+  pub settled : (j : ℕ) (a : Arrival) → slice_get tried j ≡ Some a → may a.segment ≡ true → IsBelow potentials a.from (d + a.feet)
+  pub waits : (u e : ℕ) → slice_get potentials u ≡ Some (Some e) → (u ≡ v) ⊎ (IsIn (record { length = e; node = u }) queue ⊎ IsSettledFrom roads.segments may potentials u e 0)
+
+-- the queue holds one more
+pub record IsPushed (old new : List Waiting) (w : Waiting) : Type 0 where
+  pub len : length new ≡ length old + 1
+  pub one : IsIn w new
+  pub others : (x : Waiting) → IsIn x old → IsIn x new
+  pub no_more : (x : Waiting) → IsIn x new → (x ≡ w) ⊎ IsIn x old
+
+-- the potential of u fell to d, and u waits
+pub record IsShortened (potentials : List (Option ℕ)) (queue : List Waiting) (now : List (Option ℕ)) (waiting : List Waiting) (u d : ℕ) : Type 0 where
+  pub list : now ≡ slice_set potentials u (Some d)
+  pub less : d < weight_of (slice_index_or potentials u None)
+  pub pushed : IsPushed queue waiting (record { length = d; node = u })
+
+-- the potential of u was at most d
+pub record IsLeft (potentials : List (Option ℕ)) (queue : List Waiting) (now : List (Option ℕ)) (waiting : List Waiting) (u d : ℕ) : Type 0 where
+  pub list : now ≡ potentials
+  pub same : waiting ≡ queue
+  pub below : IsBelow potentials u d
+
+abbrev pub IsTried : List (Option ℕ) → List Waiting → List (Option ℕ) → List Waiting → ℕ → ℕ → Type 0
+IsTried potentials queue now waiting u d = IsShortened potentials queue now waiting u d ⊎ IsLeft potentials queue now waiting u d

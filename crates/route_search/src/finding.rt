@@ -1,0 +1,101 @@
+// The search from one node to another.
+
+ghost use Rattle.std.specs.Prelude.{◌≡◌, ◌<◌, length, IfOk};
+ghost use Rattle.route_search.specs.Walks.{CanReach, flagged};
+ghost use Rattle.route_search.specs.Founds.{IsFound};
+
+use crate::follow::follow;
+use crate::found::{Found, Potentials};
+use crate::reach::{listed, reach};
+use crate::settle::settle;
+use office_io::NoMemory;
+use road_graph::{Network, Numbers};
+use std::alloc::{AllocError, Global};
+
+/// The shortest passable walk from one node to another, ties going to the list of segment numbers that comes first in
+/// dictionary order; or, where there is none, the nodes that are reached. `passable` has a flag for each segment.
+///
+/// A walk from a node to itself has no segment. `NoMemory` where no memory was left.
+pub fn search(
+    alloc: Global,
+    network: &Network,
+    passable: &[bool],
+    from: u32,
+    to: u32,
+) -> Result<Found, NoMemory>
+    requires flags { length passable.now ≡ length network.now.segments }
+    requires from { from < length network.now.nodes }
+    requires to { to < length network.now.nodes }
+    ensures { IfOk result (IsFound network.now passable.now from to) }
+{
+    match find(alloc, network, passable, from, to) {
+        Ok(found) => Ok(found),
+        Err(_) => Err(NoMemory),
+    }
+}
+
+// The potentials first, and then the route that they show, or why there is none.
+fn find(
+    alloc: Global,
+    network: &Network,
+    passable: &[bool],
+    from: u32,
+    to: u32,
+) -> Result<Found, AllocError>
+    requires flags { length passable.now ≡ length network.now.segments }
+    requires from { from < length network.now.nodes }
+    requires to { to < length network.now.nodes }
+    ensures { IfOk result (IsFound network.now passable.now from to) }
+{
+    let potentials = settle(alloc, network, passable, to)?;
+    let nearest = potentials[from as usize];
+    match nearest {
+        Some(length) => {
+            let segments = follow(
+                alloc,
+                network,
+                passable,
+                potentials.as_slice(),
+                from,
+                to,
+                length,
+            )?;
+            Ok(Found::Route {
+                segments: Numbers::of(segments),
+                length,
+                potential: Potentials::of(potentials),
+            })
+        }
+        None => no_route(alloc, network, passable, from, to),
+    }
+}
+
+// Why there is no passable walk.
+fn no_route(
+    alloc: Global,
+    network: &Network,
+    passable: &[bool],
+    from: u32,
+    to: u32,
+) -> Result<Found, AllocError>
+    requires flags { length passable.now ≡ length network.now.segments }
+    requires from { from < length network.now.nodes }
+    requires to { to < length network.now.nodes }
+    requires none { CanReach network.now.segments (flagged passable.now) from to → ⊥ }
+    ensures { IfOk result (IsFound network.now passable.now from to) }
+{
+    let open = vec![in alloc; true; network.segments() as usize]?;
+    let all = reach(alloc, network, open.as_slice(), from)?;
+    if all[to as usize] {
+        let marked = reach(alloc, network, passable, from)?;
+        let reached = listed(alloc, network, passable, from, marked.as_slice())?;
+        Ok(Found::Cut {
+            reached: Numbers::of(reached),
+        })
+    } else {
+        let reached = listed(alloc, network, open.as_slice(), from, all.as_slice())?;
+        Ok(Found::NoRoad {
+            reached: Numbers::of(reached),
+        })
+    }
+}

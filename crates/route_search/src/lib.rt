@@ -1,0 +1,26 @@
+//! The search for the shortest passable walk from one node of a road network to another, or for what shows that there is
+//! none.
+//!
+//! The lengths are those of Dijkstra's algorithm ("A note on two problems in connexion with graphs", 1959), from the goal
+//! against the direction of the segments, with the nodes that wait in buckets by length. To the crate above it promises
+//! that a route that it answers is a passable walk of least length, and the first of these in dictionary order; that the
+//! potentials beside it are the least lengths from every node, which anyone can check against each segment; and that where
+//! it answers no route there is none, with the nodes that are reached.
+#![tactic(auto)]
+
+mod buckets;
+mod finding;
+mod follow;
+mod found;
+mod laws;
+mod reach;
+mod settle;
+mod waiting;
+mod width;
+
+pub use finding::search;
+pub use found::{Found, Potentials};
+pub use laws::{cuts_hold, findings_are_one, potentials_certify};
+
+#[cfg(test)]
+mod tests;
