@@ -1,0 +1,5 @@
+use Rattle.clearance_rules.specs.Limits.{AreOf}
+use Rattle.clearance_rules.proofs.tests.state_after.Given as goal
+
+abbrev pub invariant-changes : goal.invariant-changes
+invariant-changes g l = AreOf l.network l.state

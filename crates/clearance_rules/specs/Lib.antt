@@ -1,0 +1,10 @@
+pub use Rattle.axle_train.specs.Bounds
+pub use Rattle.axle_limits.specs.Findings
+pub use Rattle.axle_limits.specs.Worst
+pub use Rattle.influence_line.specs.Peaks
+pub use Rattle.hs20_truck.specs.Effects
+pub use Rattle.road_graph.specs.Roads
+pub use Rattle.restriction_log.specs.States
+pub mod Loads
+pub mod Limits
+pub mod Laws

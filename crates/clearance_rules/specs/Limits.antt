@@ -1,0 +1,102 @@
+-- Which limit of a segment fails a load first, in a state of what is posted.
+use Rattle.std.specs.Prelude.{◌≡◌, ℕ, ◌*◌, ◌≤◌, Bool, false, nat_lt, List, [], ◌∷◌, length, slice_get, Option, Some, None, is_none, if◌then◌else◌}
+use Rattle.std.specs.List.{list_any}
+use Rattle.std.specs.Option.{option_or}
+use Rattle.axle_train.specs.declared.axle.Axle.{Axle}
+use Rattle.axle_limits.specs.Worst.{AllPass}
+use Rattle.axle_limits.specs.declared.worst_group.WorstGroup.{WorstGroup}
+use Rattle.influence_line.specs.Peaks.{IsTrainPlaced, IsHs20Placed}
+use Rattle.span_rating.specs.declared.loading.Effects.{Effects}
+use Rattle.span_rating.specs.declared.judgement.Fit.{Fit}
+use Rattle.span_rating.specs.declared.judgement.Fit.TheVariants as fit
+use Rattle.span_rating.specs.Judgement.{fit_of}
+use Rattle.span_rating.specs.Laws.{MomentFits, ShearFits}
+use Rattle.hs20_truck.specs.Effects.{effects_of, design_of}
+use Rattle.road_graph.specs.declared.values.Values.{Values}
+use Rattle.road_graph.specs.declared.segment.Span.{Span}
+use Rattle.road_graph.specs.Roads.{Roads, span_at, spans_of}
+use Rattle.restriction_log.specs.States.{InForce, values_at, rating_at}
+use Rattle.clearance_rules.specs.Loads.{LoadParts, gross_of, groups_of, worst_of}
+use Rattle.clearance_rules.specs.declared.limit.Limit.{Limit}
+use Rattle.clearance_rules.specs.declared.limit.Limit.TheVariants.{Closed, Height, Width, Length, Gross, Group, Moment, Shear}
+
+-- the state is of this network: it has limits for each segment, and for each span a rating that is in range
+pub record AreOf (roads : Roads) (state : InForce) : Type 0 where
+  pub values : length state.values ≡ length roads.segments
+  pub ratings : length state.ratings ≡ length roads.spans
+  pub in_range : (i : ℕ) → rating_at state.ratings i ≤ 100000
+
+-- the first posted value that fails the load: the segment is closed, or the load is higher, wider, longer or heavier
+unfoldable pub posted_limit : Values → LoadParts → ℕ → Option Limit
+posted_limit values load segment =
+    if values.closed then Some (Closed segment)
+    else (if nat_lt values.height load.height then Some (Height segment load.height values.height)
+    else (if nat_lt values.width load.width then Some (Width segment load.width values.width)
+    else (if nat_lt values.length load.length then Some (Length segment load.length values.length)
+    else (if nat_lt values.gross (gross_of load.train) then Some (Gross segment (gross_of load.train) values.gross)
+    else None))))
+
+-- the group weighs more than so many thousandths of its limit
+abbrev pub is_over : ℕ → WorstGroup → Bool
+is_over allowance g = nat_lt (allowance * g.limit) (1000 * g.weight)
+
+-- the failing limit on groups of axles: where any group is over the allowance, the worst one is named
+unfoldable pub group_limit : ℕ → LoadParts → ℕ → Option Limit
+group_limit allowance load segment =
+    let worst = worst_of load.train in
+    if list_any (is_over allowance) (groups_of load.train)
+    then Some (Group segment worst.i worst.j worst.weight worst.limit allowance)
+    else None
+
+-- what a judgement of a span says of the limit that fails
+abbrev pub limit_of_fit : Fit → Effects → Effects → ℕ → ℕ → ℕ → Option Limit
+limit_of_fit fit.Fits truck design rating segment span = None
+limit_of_fit fit.Moment truck design rating segment span = Some (Moment segment span truck.moment design.moment rating)
+limit_of_fit fit.Shear truck design rating segment span = Some (Shear segment span truck.shear design.shear rating)
+
+-- the failing limit of a span of so many inches with this rating, moment before shear
+unfoldable pub span_limit : List Axle → ℕ → ℕ → ℕ → ℕ → Option Limit
+span_limit axles inches rating segment span =
+    let truck = effects_of axles inches in
+    let design = design_of inches in
+    limit_of_fit (fit_of truck design rating) truck design rating segment span
+
+-- the first failing limit of these spans of a segment
+abbrev pub spans_limit : Roads → List ℕ → List Axle → ℕ → List ℕ → Option Limit
+spans_limit roads ratings axles segment [] = None
+spans_limit roads ratings axles segment (span ∷ spans) = option_or
+    (span_limit axles (span_at roads.spans span).inches (rating_at ratings span) segment span)
+    (spans_limit roads ratings axles segment spans)
+
+-- the first limit of the segment that fails the load: a posted value, a group of axles, a span by rising number
+unfoldable pub limit_of : Roads → InForce → LoadParts → ℕ → Option Limit
+limit_of roads state load segment =
+    let values = values_at state.values segment in
+    option_or (posted_limit values load segment)
+    (option_or (group_limit values.allowance load segment)
+    (spans_limit roads state.ratings load.train segment (spans_of roads.spans segment)))
+
+-- whether the segment meets the load: no limit fails
+abbrev pub meets : Roads → InForce → LoadParts → ℕ → Bool
+meets roads state load segment = is_none (limit_of roads state load segment)
+
+-- a span of so many inches with this rating carries the truck: its peak moment and its peak end shear, over all places of
+-- its axles, are at most so many thousandths of those of the HS20-44 truck
+pub record Carries (axles : List Axle) (inches rating : ℕ) : Type 0 where
+  pub moment : MomentFits (IsTrainPlaced axles) IsHs20Placed inches rating
+  pub shear : ShearFits (IsTrainPlaced axles) IsHs20Placed inches rating
+
+-- the load is within the posted values of an open segment
+pub record IsWithinPosted (values : Values) (load : LoadParts) : Type 0 where
+  pub is_open : values.closed ≡ false
+  pub height : load.height ≤ values.height
+  pub width : load.width ≤ values.width
+  pub length : load.length ≤ values.length
+  pub gross : gross_of load.train ≤ values.gross
+
+-- the segment meets the load, in words: it is open, the load is within its posted values, every group of axles passes the
+-- allowance, and every span on it carries the truck
+pub record Meets (roads : Roads) (state : InForce) (load : LoadParts) (segment : ℕ) : Type 0 where
+  pub posted : IsWithinPosted (values_at state.values segment) load
+  pub groups : AllPass load.train (values_at state.values segment).allowance
+  pub spans : (i : ℕ) (t : Span) → slice_get roads.spans i ≡ Some t → t.segment ≡ segment → Carries load.train t.inches (rating_at state.ratings i)

@@ -1,0 +1,23 @@
+//! Which limit of a road segment a load fails first.
+//!
+//! A load is a truck as the road sees it: its height, width and length, and its axles. A segment is tested in this order:
+//! it is closed; the load is higher, wider, longer or heavier than is posted; a group of axles weighs more than the
+//! allowance of its limit by 23 CFR 658.17; and then, for each bridge span by rising number, the peak moment and the peak
+//! end shear are over the span's rating in thousandths of the HS20-44 truck's of the AASHTO Standard Specifications.
+//! Every limit is met at equality. The order, and the legal height of 162 in, are this project's own.
+#![tactic(auto)]
+
+mod first_limit;
+mod laws;
+mod limit;
+mod load;
+mod steps;
+
+pub use first_limit::first_failing;
+pub use laws::{limits_are_of_their_segment, states_are_of_their_network};
+pub use limit::Limit;
+pub use load::{Load, Range, is_cross_section, is_length};
+pub use steps::Steps;
+
+#[cfg(test)]
+mod tests;

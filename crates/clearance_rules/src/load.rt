@@ -1,0 +1,143 @@
+// A load: a truck as the road sees it.
+
+ghost use Rattle.std.specs.Prelude.{◌≡◌, ◌&&◌, IfOk, OnOk, OnErr, IsTrue, ◌↔◌, true, false};
+ghost use Rattle.axle_train.specs.Bounds.{IsTrain};
+ghost use Rattle.axle_limits.specs.Worst.{IsWorst};
+ghost use Rattle.clearance_rules.specs.Loads.{is_cross_section, is_length, is_load, worst_of, is_legal, IsLegal, is_legal_by_weight, is_legal_size};
+
+use axle_limits::{WorstGroup, worst};
+use axle_train::Train;
+use std::marker::Model;
+use thiserror::Error;
+
+/// A number is out of its range.
+#[derive(Clone, Copy, Debug, Drop, PartialEq, Eq, Error)]
+#[error("a number is out of its range")]
+pub struct Range;
+
+/// Height and width (1 to 999 in), length (1 to 9,999 in) and the axles of a truck.
+///
+/// The worst group of the axles and whether the load is legal are found once, when the load is made.
+#[derive(Drop)]
+pub struct Load {
+    height: u32,
+    width: u32,
+    length: u32,
+    train: Train,
+    worst: WorstGroup,
+    legal: bool,
+}
+
+impl Model for Load {
+    ghost use Rattle.clearance_rules.specs.Loads.{LoadParts, IsKept};
+
+    ghost Value = { LoadParts };
+
+    ghost view = { λ a. record { height = a.height; width = a.width; length = a.length; train = a.train } };
+
+    ghost invariant = { λ a. IsKept (record { height = a.height; width = a.width; length = a.length; train = a.train }) a.worst a.legal };
+}
+
+impl Load {
+    /// The load of these numbers of inches and this train. Takes no memory.
+    #[tactic(auto, using(crate::proofs::Worst::worst_is_computed))]
+    pub fn new(height: u32, width: u32, length: u32, train: Train) -> Result<Load, Range>
+        ensures ok { IfOk result (λ load. load ≡ record { height = height; width = width; length = length; train = train }) }
+        ensures taken { OnOk result (is_load height width length ≡ true) }
+        ensures range { OnErr result (is_load height width length ≡ false) }
+    {
+        if !is_cross_section(height) || !is_cross_section(width) || !is_length(length) {
+            return Err(Range);
+        }
+        let axles = train.len();
+        prove!(axles <= 32);
+        let worst = worst(&train);
+        let by_weight = is_legal_by_weight(&train, &worst);
+        let by_size = is_legal_size(height, width);
+        Ok(Load {
+            height,
+            width,
+            length,
+            train,
+            worst,
+            legal: by_weight && by_size,
+        })
+    }
+
+    /// The height in inches.
+    pub fn height(&self) -> u32
+        ensures { result ≡ self.now.height }
+    {
+        self.height
+    }
+
+    /// The width in inches.
+    pub fn width(&self) -> u32
+        ensures { result ≡ self.now.width }
+    {
+        self.width
+    }
+
+    /// The length in inches.
+    pub fn length(&self) -> u32
+        ensures { result ≡ self.now.length }
+    {
+        self.length
+    }
+
+    /// The axles.
+    pub fn train(&self) -> &Train
+        ensures value { result.now ≡ self.now.train }
+        ensures bounds { IsTrain self.now.train }
+    {
+        &self.train
+    }
+
+    /// The worst group of the axles: of all groups, single axles among them, the one whose weight is the greatest part of
+    /// its limit, and of groups that are equally bad the first.
+    pub fn worst(&self) -> WorstGroup
+        ensures value { result ≡ worst_of self.now.train }
+        ensures meaning { IsWorst self.now.train result }
+    {
+        self.worst
+    }
+
+    /// Whether the load is legal: no group of axles is over its limit and the gross weight is at most 80,000 lb
+    /// (23 CFR 658.17), the width is at most 102 in (23 CFR 658.15), and the height is at most 162 in.
+    pub fn legal(&self) -> bool
+        ensures value { result ≡ is_legal self.now }
+        ensures meaning { IsTrue result ↔ IsLegal self.now }
+    {
+        self.legal
+    }
+}
+
+/// Whether a height or a width is 1 to 999 in.
+pub fn is_cross_section(inches: u32) -> bool
+    ensures { result ≡ is_cross_section inches }
+{
+    1 <= inches && inches <= 999
+}
+
+/// Whether a length is 1 to 9,999 in.
+pub fn is_length(inches: u32) -> bool
+    ensures { result ≡ is_length inches }
+{
+    1 <= inches && inches <= 9999
+}
+
+/// Whether a truck is legal by its size.
+fn is_legal_size(height: u32, width: u32) -> bool
+    ensures { result ≡ is_legal_size height width }
+{
+    height <= 162 && width <= 102
+}
+
+/// Whether a truck is legal by its weights. No group is over its limit exactly where the worst one is not.
+#[tactic(auto, using(crate::proofs::Worst::legal_by_worst))]
+fn is_legal_by_weight(train: &Train, worst: &WorstGroup) -> bool
+    requires { IsWorst train.now worst.now }
+    ensures { result ≡ is_legal_by_weight train.now }
+{
+    worst.weight <= worst.limit && train.gross() <= 80000
+}
