@@ -1,0 +1,5 @@
+use Rattle.clearance_rules.specs.Limits.{AreOf}
+use Rattle.trip_analysis.proofs.tests.lowered.Given as goal
+
+abbrev pub invariant-low : goal.invariant-low
+invariant-low g l = AreOf l.network l.state

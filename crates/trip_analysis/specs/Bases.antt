@@ -1,0 +1,17 @@
+-- What an office is about, as plain lists.
+use Rattle.std.specs.Prelude.{ℕ, List, [], slice_index_or}
+use Rattle.road_graph.specs.Roads.{Roads}
+use Rattle.trip_analysis.specs.declared.base.Truck.{Truck}
+
+-- a road network, and trucks that are numbered by their places, from 0
+pub record BaseLists : Type 0 where
+  pub roads : Roads
+  pub fleet : List Truck
+
+-- what stands past the last truck: nothing
+abbrev pub no_truck : Truck
+no_truck = record { name = []; carrier = []; load = record { height = 0; width = 0; length = 0; train = [] } }
+
+-- the truck of a number
+abbrev pub truck_of : BaseLists → ℕ → Truck
+truck_of base number = slice_index_or base.fleet number no_truck

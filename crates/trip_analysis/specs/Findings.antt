@@ -1,0 +1,100 @@
+-- What is found for an application in a state of the roads.
+use Rattle.std.specs.Prelude.{◌≡◌, ℕ, ◌-◌, ◌<◌, Bool, true, false, not, ◌&&◌, ◌==◌, List, [], ◌∷◌, map, filter, length, slice_get, Option, Some, None, is_none, if◌then◌else◌, All}
+use Rattle.std.specs.List.{list_any, range_with_len}
+use Rattle.restriction_log.specs.States.{InForce}
+use Rattle.road_graph.specs.Roads.{Roads, segment_at}
+use Rattle.clearance_rules.specs.declared.limit.Limit.{Limit}
+use Rattle.clearance_rules.specs.Loads.{is_legal}
+use Rattle.clearance_rules.specs.Limits.{limit_of}
+use Rattle.route_search.specs.declared.found.Found.{Found}
+use Rattle.route_search.specs.declared.found.Found.TheVariants as found
+use Rattle.route_search.specs.Founds.{IsFound}
+use Rattle.trip_analysis.specs.declared.application.Application.{Application}
+use Rattle.trip_analysis.specs.declared.finding.Failing.{Failing}
+use Rattle.trip_analysis.specs.declared.finding.What.{What}
+use Rattle.trip_analysis.specs.declared.finding.What.TheVariants as what
+use Rattle.trip_analysis.specs.Bases.{BaseLists, truck_of}
+
+-- whether a truck of the fleet is legal and needs no permit
+abbrev pub needs_none : BaseLists → ℕ → Bool
+needs_none base truck = is_legal (truck_of base truck).load
+
+-- the first limit of a segment that fails a truck of the fleet
+abbrev pub limit_for : BaseLists → InForce → ℕ → ℕ → Option Limit
+limit_for base state truck s = limit_of base.roads state (truck_of base truck).load s
+
+-- whether a truck of the fleet may pass a segment: no limit fails
+abbrev pub is_passable : BaseLists → InForce → ℕ → ℕ → Bool
+is_passable base state truck s = is_none (limit_for base state truck s)
+
+abbrev pub first_or : Option Limit → ℕ → Option Failing → Option Failing
+first_or (Some limit) s rest = Some (record { segment = s; limit = limit })
+first_or None s rest = rest
+
+-- the first of these segments that fails, with its first failing limit
+abbrev pub first_on : BaseLists → InForce → ℕ → List ℕ → Option Failing
+first_on base state truck [] = None
+first_on base state truck (s ∷ rest) = first_or (limit_for base state truck s) s (first_on base state truck rest)
+
+-- the first of these segments that may be passed
+abbrev pub first_meeting : BaseLists → InForce → ℕ → List ℕ → Option ℕ
+first_meeting base state truck [] = None
+first_meeting base state truck (s ∷ rest) = if is_passable base state truck s then Some s else first_meeting base state truck rest
+
+abbrev pub is_in : ℕ → List ℕ → Bool
+is_in n numbers = list_any (λ k. k == n) numbers
+
+-- each number is less than those behind it
+pub record AreRising (numbers : List ℕ) : Type 0 where
+  pub rising : (j k x y : ℕ) → j < k → slice_get numbers j ≡ Some x → slice_get numbers k ≡ Some y → x < y
+
+-- whether a segment leaves a set of nodes: it begins in it and does not end in it
+abbrev pub leaves : Roads → List ℕ → ℕ → Bool
+leaves roads nodes s = is_in (segment_at roads.segments s).from nodes && not (is_in (segment_at roads.segments s).to nodes)
+
+-- the segments from a number on that leave a set of nodes, rising
+abbrev pub leaving_from : Roads → List ℕ → ℕ → List ℕ
+leaving_from roads nodes start = filter (leaves roads nodes) (range_with_len start (length roads.segments - start))
+
+-- all segments that leave a set of nodes, rising
+abbrev pub leaving : Roads → List ℕ → List ℕ
+leaving roads nodes = leaving_from roads nodes 0
+
+-- for each segment whether a truck may pass it
+abbrev pub flags_of : BaseLists → InForce → ℕ → List Bool
+flags_of base state truck = map (is_passable base state truck) (range_with_len 0 (length base.roads.segments))
+
+-- what a search found, as it is proposed
+abbrev pub what_of : Found → What
+what_of (found.Route segments feet potential) = what.Route segments
+what_of (found.Cut reached) = what.Cut reached
+what_of (found.NoRoad reached) = what.Cut reached
+
+-- what is found on an asked route
+abbrev pub asked_finding : Option Failing → List ℕ → What
+asked_finding (Some failing) route = what.Fails failing.segment
+asked_finding None route = what.Route route
+
+-- what is found with an asked route or, without one, by a search over the segments that the truck may pass
+abbrev pub IsFoundBy : BaseLists → InForce → Application → Option (List ℕ) → What → Type 0
+IsFoundBy base state a (Some route) w = w ≡ asked_finding (first_on base state a.truck route) route
+IsFoundBy base state a None w = (f : Found) × IsFound base.roads (flags_of base state a.truck) a.from a.to f × (w ≡ what_of f)
+
+-- what is found for an application in a state: nothing is needed where the truck is legal
+pub record IsFinding (base : BaseLists) (state : InForce) (a : Application) (w : What) : Type 0 where
+  pub legal : needs_none base a.truck ≡ true → w ≡ what.NotNeeded
+  pub found : needs_none base a.truck ≡ false → IsFoundBy base state a a.asked w
+
+-- the segments that are found are there, and the nodes of a cut rise
+abbrev pub InRange : BaseLists → What → Type 0
+InRange base what.NotNeeded = Unit {0}
+InRange base (what.Route route) = All (λ s. s < length base.roads.segments) route
+InRange base (what.Fails s) = s < length base.roads.segments
+InRange base (what.Cut nodes) = AreRising nodes
+
+-- what a finding says of the state in which it was found
+abbrev pub HoldsIn : BaseLists → InForce → ℕ → What → Type 0
+HoldsIn base state truck what.NotNeeded = needs_none base truck ≡ true
+HoldsIn base state truck (what.Route route) = first_on base state truck route ≡ None
+HoldsIn base state truck (what.Fails s) = is_passable base state truck s ≡ false
+HoldsIn base state truck (what.Cut nodes) = first_meeting base state truck (leaving base.roads nodes) ≡ None

@@ -1,0 +1,9 @@
+pub mod Bases
+pub mod Applications
+pub mod Findings
+pub mod Laws
+pub use Rattle.road_graph.specs.Roads
+pub use Rattle.route_search.specs.Walks
+pub use Rattle.restriction_log.specs.States
+pub use Rattle.clearance_rules.specs.Loads
+pub use Rattle.clearance_rules.specs.Limits

@@ -1,0 +1,32 @@
+// What is found for an application.
+
+use clearance_rules::Limit;
+use road_graph::Numbers;
+
+/// A segment that fails a load, with its first failing limit.
+#[derive(Clone, Copy, Debug, Drop, PartialEq, Eq)]
+pub struct Failing {
+    pub segment: u32,
+    pub limit: Limit,
+}
+
+/// What is found for an application in a state of the roads.
+#[derive(Debug, Drop)]
+pub enum What {
+    /// The truck is legal and needs no permit.
+    NotNeeded,
+    /// A route whose segments all meet: the asked one, or the first of the shortest.
+    Route(Numbers),
+    /// The first segment of the asked route that fails.
+    Fails { segment: u32 },
+    /// No passable walk leads there: the nodes that passable walks reach, or, where no walk leads there at all, those that
+    /// any walk reaches, rising.
+    Cut(Numbers),
+}
+
+/// What was found at a version.
+#[derive(Debug, Drop)]
+pub struct Proposal {
+    pub seen: u32,
+    pub what: What,
+}
