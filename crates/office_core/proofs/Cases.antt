@@ -1,0 +1,145 @@
+-- What holds of each case of an answer to an application holds of the answer.
+use Rattle.std.proofs.Common.{◌≡◌, ◌∷◌, [], List, ℕ, ◌+◌, ◌⊎◌, inl, inr, false, ap, sym, subst, refl, ◌∙◌, Option, Some, None, length, not, nat_eq, if◌then◌else◌, is_none, arith}
+use Rattle.road_graph.specs.Roads.{IsRoads}
+use Rattle.restriction_log.specs.States.{InForce}
+use Rattle.restriction_log.specs.Changes.{takes}
+use Rattle.clearance_rules.specs.declared.limit.Limit.{Limit}
+use Rattle.permit_days.specs.Days.{is_before}
+use Rattle.permit_book.specs.declared.permit.Permit.{Permit}
+use Rattle.permit_book.specs.Permits.{permit_of, is_issued, in_force, status_of}
+use Rattle.trip_analysis.specs.declared.application.Application.{Application}
+use Rattle.trip_analysis.specs.declared.finding.Failing.{Failing}
+use Rattle.trip_analysis.specs.declared.finding.What.{What}
+use Rattle.trip_analysis.specs.Bases.{BaseLists}
+use Rattle.trip_analysis.specs.Applications.{Sound}
+use Rattle.trip_analysis.specs.Findings.{limit_for, first_on, first_meeting, leaving, HoldsIn}
+use Rattle.office_core.specs.declared.entry.Call.{Call}
+use Rattle.office_core.specs.declared.entry.Reply.{Reply}
+use Rattle.office_core.specs.Replies.{route_reply, fails_reply, refused_or, cut_reply, what_reply, is_late, is_free, apply_reply, day_reply, surrender_reply, shown, show_reply, is_full}
+use Rattle.office_core.specs.Machine.{Machine, version_of, state_in, reply_in, posted_reply, IsAnswer}
+use Rattle.office_core.specs.Laws.{IsCurrent}
+use Rattle.office_core.specs.declared.entry.Call.TheVariants as call
+use Rattle.office_core.specs.declared.entry.Reply.TheVariants as reply
+use Rattle.office_core.specs.declared.entry.Cause.TheVariants as cause
+use Rattle.trip_analysis.specs.declared.finding.What.TheVariants as what
+use Rattle.trip_analysis.proofs.Found.{found_holds}
+use Rattle.office_core.proofs.Lists.{pick}
+
+module _ (base : BaseLists) (state : InForce) (v : ℕ) (day : List ℕ) (number : ℕ) (a : Application) (w : What) where
+  pub record Cases (P : Reply → Type 0) : Type 0 where
+    pub late : P (reply.Late day)
+    pub not_needed : P reply.NotNeeded
+    pub no_road : (nodes : List ℕ) → w ≡ what.Cut nodes → leaving base.roads nodes ≡ [] → P reply.NoRoad
+    pub now_fails : (route : List ℕ) (f : Failing) → w ≡ what.Route route → first_on base state a.truck route ≡ Some f → P (reply.Outdated v (cause.NowFails f.limit))
+    pub issued : (route : List ℕ) → w ≡ what.Route route → first_on base state a.truck route ≡ None → P (reply.Issued number v route)
+    pub refused : (s : ℕ) (l : Limit) → w ≡ what.Fails s → limit_for base state a.truck s ≡ Some l → P (reply.Refused v l)
+    pub now_meets : (s : ℕ) → w ≡ what.Fails s → limit_for base state a.truck s ≡ None → P (reply.Outdated v (cause.NowMeets s))
+    pub cut_refused : (nodes rest : List ℕ) (s : ℕ) (l : Limit) → w ≡ what.Cut nodes → leaving base.roads nodes ≡ s ∷ rest → first_meeting base state a.truck (leaving base.roads nodes) ≡ None → limit_for base state a.truck s ≡ Some l → P (reply.Refused v l)
+    pub cut_meets : (nodes : List ℕ) (s : ℕ) → w ≡ what.Cut nodes → first_meeting base state a.truck (leaving base.roads nodes) ≡ Some s → P (reply.Outdated v (cause.NowMeets s))
+
+  module _ (P : Reply → Type 0) (c : Cases P) where
+    route_case : (route : List ℕ) → w ≡ what.Route route → (f : Option Failing) → first_on base state a.truck route ≡ f → P (route_reply number v route f)
+    route_case route e (Some f) h = c.now_fails route f e h
+    route_case route e None h = c.issued route e h
+
+    fails_case : (s : ℕ) → w ≡ what.Fails s → (l : Option Limit) → limit_for base state a.truck s ≡ l → P (fails_reply v s l)
+    fails_case s e (Some l) h = c.refused s l e h
+    fails_case s e None h = c.now_meets s e h
+
+    -- the first that leaves is not of those that meet, where none is
+    first_out : (s : ℕ) (rest : List ℕ) → first_meeting base state a.truck (s ∷ rest) ≡ None → limit_for base state a.truck s ≡ None → ⊥
+    first_out s rest none meets_now = grind (arith, none, meets_now)
+
+    refused_case : (nodes rest : List ℕ) (s : ℕ) → w ≡ what.Cut nodes → leaving base.roads nodes ≡ s ∷ rest → first_meeting base state a.truck (leaving base.roads nodes) ≡ None → (l : Option Limit) → limit_for base state a.truck s ≡ l → P (refused_or v l)
+    refused_case nodes rest s e out none (Some l) h = c.cut_refused nodes rest s l e out none h
+    refused_case nodes rest s e out none None h = absurd (first_out s rest (ap (first_meeting base state a.truck) (sym out) ∙ none) h)
+
+    cut_case : (nodes : List ℕ) → w ≡ what.Cut nodes → (out : List ℕ) → leaving base.roads nodes ≡ out → (least : Option ℕ) → first_meeting base state a.truck (leaving base.roads nodes) ≡ least → P (cut_reply base state a.truck v out least)
+    cut_case nodes e [] out least h = c.no_road nodes e out
+    cut_case nodes e (s ∷ rest) out (Some k) h = c.cut_meets nodes k e h
+    cut_case nodes e (s ∷ rest) out None h = refused_case nodes rest s e out h (limit_for base state a.truck s) refl
+
+    what_case : (u : What) → w ≡ u → P (what_reply base state v number a.truck u)
+    what_case what.NotNeeded e = c.not_needed
+    what_case (what.Route route) e = route_case route e (first_on base state a.truck route) refl
+    what_case (what.Fails s) e = fails_case s e (limit_for base state a.truck s) refl
+    what_case (what.Cut nodes) e = cut_case nodes e (leaving base.roads nodes) refl (first_meeting base state a.truck (leaving base.roads nodes)) refl
+
+    found_case : P (what_reply base state v number a.truck w)
+    found_case = what_case w refl
+
+  -- the answer, where each case is known if the trip is neither late nor free
+  pub apply_found : (P : Reply → Type 0) → P (reply.Late day) → P reply.NotNeeded → (is_late day a ≡ false → is_free base a ≡ false → Cases P) → P (apply_reply base state v day number a w)
+  apply_found P late free c = pick P (is_late day a) (reply.Late day) _ (λ _. late) (λ early. pick P (is_free base a) reply.NotNeeded _ (λ _. free) (λ needed. found_case P (c early needed)))
+
+  pub apply_cases : (P : Reply → Type 0) → Cases P → P (apply_reply base state v day number a w)
+  apply_cases P c = apply_found P c.late c.not_needed (λ _ _. c)
+
+abbrev NotFull : Reply → Type 0
+NotFull r = is_full r ≡ false
+
+apply_open : (base : BaseLists) (state : InForce) (v : ℕ) (day : List ℕ) (number : ℕ) (a : Application) (w : What) → NotFull (apply_reply base state v day number a w)
+apply_open base state v day number a w = apply_cases base state v day number a w NotFull (record {
+  late = refl;
+  not_needed = refl;
+  no_road = λ _ _ _. refl;
+  now_fails = λ _ _ _ _. refl;
+  issued = λ _ _ _. refl;
+  refused = λ _ _ _ _. refl;
+  now_meets = λ _ _ _. refl;
+  cut_refused = λ _ _ _ _ _ _ _ _. refl;
+  cut_meets = λ _ _ _ _. refl;
+})
+
+given_open : {N : Type 0} (x r : Reply) → NotFull x → (r ≡ x) ⊎ ((r ≡ reply.NoMemory) × N) → NotFull r
+given_open x r h (inl e) = ap is_full e ∙ h
+given_open x r h (inr e) = ap is_full e.0
+
+held_open : (base : BaseLists) (m : Machine) (caller : ℕ) (a : Application) (r : Reply) → IsAnswer base m caller (call.Held a) r → NotFull r
+held_open base m caller a r (inl g) = ap is_full g.2 ∙ apply_open base (state_in base m) (version_of m) m.day (length m.permits + 1) a g.0
+held_open base m caller a r (inr e) = ap is_full e.0
+
+surrender_open : (permits : List Permit) (day : List ℕ) (caller number : ℕ) → NotFull (surrender_reply permits day caller number)
+surrender_open permits day caller number = pick NotFull (not (is_issued permits number)) reply.Unknown (if not (nat_eq (permit_of permits number).caller caller) then reply.NotYours else if not (in_force day (permit_of permits number)) then reply.NotInForce (status_of (permit_of permits number) day) else reply.Surrendered) (λ _. refl)
+    (λ _. pick NotFull (not (nat_eq (permit_of permits number).caller caller)) reply.NotYours (if not (in_force day (permit_of permits number)) then reply.NotInForce (status_of (permit_of permits number) day) else reply.Surrendered) (λ _. refl)
+    (λ _. pick NotFull (not (in_force day (permit_of permits number))) (reply.NotInForce (status_of (permit_of permits number) day)) reply.Surrendered (λ _. refl) (λ _. refl)))
+
+-- an answer of the machine is never `Full`
+pub never_full : (base : BaseLists) (m : Machine) (caller : ℕ) (c : Call) (r : Reply) → IsAnswer base m caller c r → is_full r ≡ false
+never_full base m caller call.Snapshot r answer = given_open (reply.SnapshotAt (version_of m)) r refl answer
+never_full base m caller (call.Submit a p) r answer = given_open (reply_in base m a p.what) r (apply_open base (state_in base m) (version_of m) m.day (length m.permits + 1) a p.what) answer
+never_full base m caller (call.Held a) r answer = held_open base m caller a r answer
+never_full base m caller (call.Post change) r answer = given_open (posted_reply base m change) r (pick NotFull (takes base.roads change) (reply.Posted _ _) reply.OutOfRange (λ _. refl) (λ _. refl)) answer
+never_full base m caller (call.Day day) r answer = given_open (day_reply m.day day) r (pick NotFull (is_before day m.day) (reply.DayBack m.day) (reply.DayIs day) (λ _. refl) (λ _. refl)) answer
+never_full base m caller (call.Surrender number) r answer = given_open (surrender_reply m.permits m.day caller number) r (surrender_open m.permits m.day caller number) answer
+never_full base m caller (call.Show number) r answer = given_open (show_reply m.permits m.day number) r (pick NotFull (not (is_issued m.permits number)) reply.Unknown (shown (permit_of m.permits number) number m.day) (λ _. refl) (λ _. refl)) answer
+
+some_none : {A : Type 0} {x : Option A} (y : A) → x ≡ None → x ≡ Some y → ⊥
+some_none y e f = absurd (grind (arith, e, f))
+
+meets_not : (l : Option Limit) → l ≡ None → is_none l ≡ false → ⊥
+meets_not None e h = absurd (grind (arith, h))
+meets_not (Some l) e h = absurd (grind (arith, e))
+
+-- an answer to what was found in this very state is never out of date
+current_cases : (base : BaseLists) (state : InForce) (v : ℕ) (day : List ℕ) (number : ℕ) (a : Application) (w : What) → HoldsIn base state a.truck w → Cases base state v day number a w IsCurrent
+current_cases base state v day number a w h = record {
+  late = tt;
+  not_needed = tt;
+  no_road = λ _ _ _. tt;
+  now_fails = λ route f e g. some_none f (subst (HoldsIn base state a.truck) e h) g;
+  issued = λ _ _ _. tt;
+  refused = λ _ _ _ _. tt;
+  now_meets = λ s e g. meets_not (limit_for base state a.truck s) g (subst (HoldsIn base state a.truck) e h);
+  cut_refused = λ _ _ _ _ _ _ _ _. tt;
+  cut_meets = λ nodes s e g. some_none s (subst (HoldsIn base state a.truck) e h) g;
+}
+
+pub apply_current : (base : BaseLists) (state : InForce) (v : ℕ) (day : List ℕ) (number : ℕ) (a : Application) (w : What) → HoldsIn base state a.truck w → IsCurrent (apply_reply base state v day number a w)
+apply_current base state v day number a w h = apply_cases base state v day number a w IsCurrent (current_cases base state v day number a w h)
+
+-- the answer to a held application is never out of date
+pub held_current : (base : BaseLists) (m : Machine) (caller : ℕ) (a : Application) (r : Reply) → IsRoads base.roads → Sound base a → IsAnswer base m caller (call.Held a) r → IsCurrent r
+held_current base m caller a r roads sound (inl g) = subst IsCurrent (sym g.2) (apply_found base (state_in base m) (version_of m) m.day (length m.permits + 1) a g.0 IsCurrent tt tt
+    (λ early needed. current_cases base (state_in base m) (version_of m) m.day (length m.permits + 1) a g.0 (found_holds base (state_in base m) a g.0 roads sound (g.1 early needed))))
+held_current base m caller a r roads sound (inr e) = subst IsCurrent (sym e.0) tt

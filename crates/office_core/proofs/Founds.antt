@@ -1,0 +1,50 @@
+-- What is known of findings, from below.
+use Rattle.std.proofs.Common.{◌≡◌, ℕ, List, [], ◌∷◌, ◌++◌, true, length, take, ap, sym, subst, ◌∙◌, arith}
+use Rattle.std.proofs.lemmas.List.{take_all}
+use Rattle.std.specs.List.{All}
+use Rattle.road_graph.specs.Roads.{Roads, IsRoads}
+use Rattle.restriction_log.specs.declared.change.Change.{Change}
+use Rattle.restriction_log.specs.States.{InForce, state_of, state_after, is_named}
+use Rattle.restriction_log.specs.Changes.{takes}
+use Rattle.clearance_rules.specs.Limits.{AreOf}
+use Rattle.trip_analysis.specs.declared.application.Application.{Application}
+use Rattle.trip_analysis.specs.declared.finding.What.{What}
+use Rattle.trip_analysis.specs.declared.finding.Proposal.{Proposal}
+use Rattle.trip_analysis.specs.Bases.{BaseLists}
+use Rattle.trip_analysis.specs.Applications.{Sound}
+use Rattle.trip_analysis.specs.Findings.{IsFinding, HoldsIn}
+use Rattle.office_core.specs.Machine.{Machine, version_of, state_in, IsFound}
+use Rattle.restriction_log.proofs.Standing.{named_by_count}
+use Rattle.restriction_log.proofs.Elsewhere.{state-posted}
+use Rattle.clearance_rules.proofs.Standing.{state_is_of, stays_of}
+use Rattle.trip_analysis.proofs.Found as found
+pub use Rattle.trip_analysis.proofs.Found.{found_in_range, found_holds}
+
+-- what is found now was found at the current version
+pub holds_now : (base : BaseLists) (postings : List Change) (n : ℕ) (state : InForce) (a : Application) (w : What) → IsRoads base.roads → state ≡ state_of base.roads postings → n ≡ length postings → Sound base a → IsFinding base state a w → HoldsIn base (state_of base.roads (take n postings)) a.truck w
+holds_now base postings n state a w roads same now sound is = subst (λ (s : InForce). HoldsIn base s a.truck w)
+    (same ∙ ap (state_of base.roads) (sym (take_all n postings (omega (arith, now))))) (found.found_holds base state a w roads sound is)
+
+-- the state has what the network takes
+pub named_of : (roads : Roads) (state : InForce) (change : Change) → AreOf roads state → takes roads change ≡ true → is_named state change ≡ true
+named_of roads state change is taken = named_by_count roads state change is.values is.ratings taken
+
+-- the state is of the network after a change that it takes
+pub of_after : (roads : Roads) (state : InForce) (change : Change) → AreOf roads state → takes roads change ≡ true → AreOf roads (state_after state change)
+of_after roads state change is taken = stays_of roads state change is taken
+
+-- a posting leaves the state that its change makes of the one before
+pub state_posted : (roads : Roads) (postings : List Change) (change : Change) → state_of roads (postings ++ change ∷ []) ≡ state_after (state_of roads postings) change
+state_posted roads postings change = state-posted roads postings change
+
+-- the state of postings that the network takes is of the network
+pub of_base : (roads : Roads) (postings : List Change) → IsRoads roads → All (λ c. takes roads c ≡ true) postings → AreOf roads (state_of roads postings)
+of_base roads postings is taken = state_is_of roads postings is taken
+
+-- what is found now may be asked as a proposal of the current version
+pub found_now : (base : BaseLists) (m : Machine) (a : Application) (n : ℕ) (state : InForce) (w : What) → n ≡ version_of m → state ≡ state_in base m → Sound base a → IsFinding base state a w → IsFound base m a (let p : Proposal = record { seen = n; what = w } in p)
+found_now base m a n state w now same sound is = record {
+  sound = sound;
+  seen = omega (arith, now);
+  found = subst (λ (s : InForce). IsFinding base s a w) (same ∙ ap (state_of base.roads) (sym (take_all n m.postings (omega (arith, now))))) is;
+}

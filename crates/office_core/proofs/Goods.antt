@@ -1,0 +1,170 @@
+-- What every legal history leaves: permits numbered by their places, with trucks and segments that exist, in force only where they meet.
+use Rattle.std.proofs.Common.{◌≡◌, ◌∷◌, ◌++◌, [], List, ℕ, zero, suc, ◌+◌, ◌-◌, ◌<◌, ◌≤◌, ◌⊎◌, inl, inr, true, false, map, set, get_or, length, sym, subst, refl, ◌∙◌, arith}
+use Rattle.std.specs.List.{All}
+use Rattle.std.proofs.lemmas.List.{set_past}
+use Rattle.std.proofs.lemmas.Bool.{cases_lt}
+use Rattle.std.proofs.lemmas.List.Elements.{All-append, All-set, All-nil, All-cons}
+use Rattle.road_graph.specs.Roads.{IsRoads}
+use Rattle.restriction_log.specs.declared.change.Change.{Change}
+use Rattle.restriction_log.specs.States.{InForce, state_of}
+use Rattle.restriction_log.specs.Changes.{takes}
+use Rattle.permit_book.specs.declared.permit.Permit.{Permit}
+use Rattle.permit_book.specs.declared.permit.Mark.{Mark}
+use Rattle.permit_book.specs.Permits.{no_permit, in_force, AreNumbered}
+use Rattle.trip_analysis.specs.declared.application.Application.{Application}
+use Rattle.trip_analysis.specs.declared.finding.What.{What}
+use Rattle.trip_analysis.specs.Bases.{BaseLists}
+use Rattle.trip_analysis.specs.Applications.{Sound}
+use Rattle.trip_analysis.specs.Findings.{InRange}
+use Rattle.office_core.specs.declared.entry.Call.{Call}
+use Rattle.office_core.specs.declared.entry.Reply.{Reply}
+use Rattle.office_core.specs.declared.entry.Entry.{Entry}
+use Rattle.office_core.specs.Recalls.{fails, is_recalled, recalled_if, IsRanged}
+use Rattle.office_core.specs.Replies.{is_late, is_free}
+use Rattle.office_core.specs.Machine.{Machine, opened, version_of, state_in, state_at, reply_in, MayAsk, IsAnswer, with_permit, with_posting, with_day, with_surrender, after, Step, after_entry, after_all, IsLegalFrom, IsLegal, machine_of, IsGood}
+use Rattle.permit_book.specs.declared.permit.Mark.TheVariants as mark
+use Rattle.office_core.specs.declared.entry.Call.TheVariants as call
+use Rattle.office_core.specs.declared.entry.Reply.TheVariants as reply
+use Rattle.trip_analysis.proofs.Found.{found_in_range}
+use Rattle.office_core.proofs.Cases.{apply_found}
+use Rattle.office_core.proofs.Lists.{pick, All-map}
+use Rattle.office_core.proofs.Forces.{answer_meets}
+
+-- of a reply that issues a permit, its number and its route
+abbrev IssuedAs : BaseLists → ℕ → Reply → Type 0
+IssuedAs base number (reply.Issued n version route) = (n ≡ number) × All (λ s. s < length base.roads.segments) route
+IssuedAs base number _ = Unit {0}
+
+issued_as : (base : BaseLists) (m : Machine) (a : Application) (w : What) → (is_late m.day a ≡ false → is_free base a ≡ false → InRange base w) → IssuedAs base (length m.permits + 1) (reply_in base m a w)
+issued_as base m a w h = apply_found base (state_in base m) (version_of m) m.day (length m.permits + 1) a w (IssuedAs base (length m.permits + 1)) tt tt (λ early needed. record {
+  late = tt;
+  not_needed = tt;
+  no_road = λ _ _ _. tt;
+  now_fails = λ _ _ _ _. tt;
+  issued = λ route e meets. (refl, subst (InRange base) e (h early needed));
+  refused = λ _ _ _ _. tt;
+  now_meets = λ _ _ _. tt;
+  cut_refused = λ _ _ _ _ _ _ _ _. tt;
+  cut_meets = λ _ _ _ _. tt;
+})
+
+numbered-append : (n : ℕ) (ps : List Permit) (p : Permit) → AreNumbered n ps → p.number ≡ n + length ps + 1 → AreNumbered n (ps ++ p ∷ [])
+numbered-append n [] p h e = (omega (arith, e), tt)
+numbered-append n (q ∷ ps) p h e = (h.0, numbered-append (n + 1) ps p h.1 (omega (arith, e)))
+
+numbered-map : (f : Permit → Permit) → ((p : Permit) → (f p).number ≡ p.number) → (n : ℕ) (ps : List Permit) → AreNumbered n ps → AreNumbered n (map f ps)
+numbered-map f keep n [] h = tt
+numbered-map f keep n (p ∷ ps) h = (keep p ∙ h.0, numbered-map f keep (n + 1) ps h.1)
+
+numbered-mark : (m : Mark) (n k : ℕ) (ps : List Permit) → AreNumbered n ps → AreNumbered n (set ps k (record (get_or ps k no_permit) { mark = m }))
+numbered-mark m n k [] h = h
+numbered-mark m n zero (p ∷ ps) h = h
+numbered-mark m n (suc k) (p ∷ ps) h = (h.0, numbered-mark m (n + 1) k ps h.1)
+
+recalled_number : (base : BaseLists) (state : InForce) (day : List ℕ) (v : ℕ) (p : Permit) → (recalled_if base state day v p).number ≡ p.number
+recalled_number base state day v p = pick (λ (q : Permit). q.number ≡ p.number) (is_recalled base state day p) (record p { mark = mark.Recalled v }) p (λ _. refl) (λ _. refl)
+
+recalled_ranged : (base : BaseLists) (state : InForce) (day : List ℕ) (v : ℕ) (p : Permit) → IsRanged base p → IsRanged base (recalled_if base state day v p)
+recalled_ranged base state day v p h = pick (IsRanged base) (is_recalled base state day p) (record p { mark = mark.Recalled v }) p (λ _. record { truck = h.truck; route = h.route }) (λ _. h)
+
+ranged-mark : (base : BaseLists) (m : Mark) (k : ℕ) (ps : List Permit) → k < length ps → All (IsRanged base) ps → All (IsRanged base) (set ps k (record (get_or ps k no_permit) { mark = m }))
+ranged-mark base m k ps inside h = let old = h k no_permit inside in All-set (IsRanged base) ps k _ (record { truck = old.truck; route = old.route }) h
+
+abbrev Kept : BaseLists → Machine → Type 0
+Kept base m = AreNumbered 0 m.permits × All (IsRanged base) m.permits
+
+issue_kept : (base : BaseLists) (m : Machine) (caller : ℕ) (a : Application) (seen : ℕ) (r : Reply) → a.truck < length base.fleet → IssuedAs base (length m.permits + 1) r → Kept base m → Kept base (with_permit m caller a seen r)
+issue_kept base m caller a seen (reply.Issued n v route) truck is had = (
+  numbered-append 0 m.permits _ had.0 (omega (arith, is.0)),
+  All-append (IsRanged base) m.permits _ had.1 (All-cons (IsRanged base) _ [] (record { truck = truck; route = is.1 }) (All-nil (IsRanged base))),
+)
+issue_kept base m caller a seen _ truck is had = had
+
+post_kept : (base : BaseLists) (m : Machine) (change : Change) (r : Reply) → Kept base m → Kept base (with_posting base m change r)
+post_kept base m change (reply.Posted v recalled) had = let state = state_of base.roads (m.postings ++ change ∷ []) in
+    (numbered-map (recalled_if base state m.day v) (recalled_number base state m.day v) 0 m.permits had.0, All-map (IsRanged base) (IsRanged base) (recalled_if base state m.day v) (recalled_ranged base state m.day v) m.permits had.1)
+post_kept base m change _ had = had
+
+day_kept : (base : BaseLists) (m : Machine) (r : Reply) → Kept base m → Kept base (with_day m r)
+day_kept base m (reply.DayIs day) had = had
+day_kept base m _ had = had
+
+ranged-marked : (base : BaseLists) (m : Mark) (k : ℕ) (ps : List Permit) → (k < length ps) ⊎ (length ps ≤ k) → All (IsRanged base) ps → All (IsRanged base) (set ps k (record (get_or ps k no_permit) { mark = m }))
+ranged-marked base m k ps (inl h) had = ranged-mark base m k ps h had
+ranged-marked base m k ps (inr h) had = subst (All (IsRanged base)) (sym (set_past ps k _ h)) had
+
+surrender_kept : (base : BaseLists) (m : Machine) (number : ℕ) (r : Reply) → Kept base m → Kept base (with_surrender m number r)
+surrender_kept base m number reply.Surrendered had = (numbered-mark mark.Surrendered 0 (number - 1) m.permits had.0, ranged-marked base mark.Surrendered (number - 1) m.permits (cases_lt (number - 1) (length m.permits)) had.1)
+surrender_kept base m number _ had = had
+
+submit_as : (base : BaseLists) (m : Machine) (caller number : ℕ) (c : Call) (r s : Reply) {N : Type 0} → IssuedAs base number s → (r ≡ s) ⊎ ((r ≡ reply.NoMemory) × N) → IssuedAs base number r
+submit_as base m caller number c r s is (inl e) = subst (IssuedAs base number) (sym e) is
+submit_as base m caller number c r s is (inr e) = subst (IssuedAs base number) (sym e.0) tt
+
+held_as : (base : BaseLists) (m : Machine) (caller : ℕ) (a : Application) (r : Reply) → IsRoads base.roads → Sound base a → IsAnswer base m caller (call.Held a) r → IssuedAs base (length m.permits + 1) r
+held_as base m caller a r roads sound (inl g) = subst (IssuedAs base (length m.permits + 1)) (sym g.2) (issued_as base m a g.0 (λ early needed. found_in_range base (state_in base m) a g.0 roads sound (g.1 early needed)))
+held_as base m caller a r roads sound (inr e) = subst (IssuedAs base (length m.permits + 1)) (sym e.0) tt
+
+kept_after : (base : BaseLists) (m : Machine) (caller : ℕ) (c : Call) (r : Reply) → IsRoads base.roads → MayAsk base m c → IsAnswer base m caller c r → Kept base m → Kept base (after base m caller c r)
+kept_after base m caller call.Snapshot r roads ask answer had = had
+kept_after base m caller (call.Submit a p) r roads ask answer had = issue_kept base m caller a p.seen r ask.sound.truck
+    (submit_as base m caller (length m.permits + 1) (call.Submit a p) r (reply_in base m a p.what) (issued_as base m a p.what (λ _ _. found_in_range base (state_at base m p.seen) a p.what roads ask.sound ask.found)) answer) had
+kept_after base m caller (call.Held a) r roads ask answer had = issue_kept base m caller a (version_of m) r ask.truck (held_as base m caller a r roads ask answer) had
+kept_after base m caller (call.Post change) r roads ask answer had = post_kept base m change r had
+kept_after base m caller (call.Day day) r roads ask answer had = day_kept base m r had
+kept_after base m caller (call.Surrender number) r roads ask answer had = surrender_kept base m number r had
+kept_after base m caller (call.Show number) r roads ask answer had = had
+
+-- the network takes each posting
+abbrev AreTaken : BaseLists → List Change → Type 0
+AreTaken base postings = All (λ c. takes base.roads c ≡ true) postings
+
+-- of a reply that posts a change, that the network takes it
+abbrev PostedTaken : BaseLists → Change → Reply → Type 0
+PostedTaken base change (reply.Posted version recalled) = takes base.roads change ≡ true
+PostedTaken base change _ = Unit {0}
+
+posted_taken : (base : BaseLists) (m : Machine) (caller : ℕ) (change : Change) (r : Reply) → IsAnswer base m caller (call.Post change) r → PostedTaken base change r
+posted_taken base m caller change r (inl e) = subst (PostedTaken base change) (sym e) (pick (PostedTaken base change) (takes base.roads change) (reply.Posted _ _) reply.OutOfRange (λ t. t) (λ _. tt))
+posted_taken base m caller change r (inr e) = subst (PostedTaken base change) (sym e.0) tt
+
+post_taken : (base : BaseLists) (m : Machine) (change : Change) (r : Reply) → PostedTaken base change r → AreTaken base m.postings → AreTaken base (with_posting base m change r).postings
+post_taken base m change (reply.Posted v recalled) taken had = All-append (λ c. takes base.roads c ≡ true) m.postings (change ∷ []) had (All-cons (λ c. takes base.roads c ≡ true) change [] taken (All-nil (λ c. takes base.roads c ≡ true)))
+post_taken base m change _ taken had = had
+
+day_taken : (base : BaseLists) (m : Machine) (r : Reply) → AreTaken base m.postings → AreTaken base (with_day m r).postings
+day_taken base m (reply.DayIs day) had = had
+day_taken base m _ had = had
+
+surrender_taken : (base : BaseLists) (m : Machine) (number : ℕ) (r : Reply) → AreTaken base m.postings → AreTaken base (with_surrender m number r).postings
+surrender_taken base m number reply.Surrendered had = had
+surrender_taken base m number _ had = had
+
+taken_after : (base : BaseLists) (m : Machine) (caller : ℕ) (c : Call) (r : Reply) → IsAnswer base m caller c r → AreTaken base m.postings → AreTaken base (after base m caller c r).postings
+taken_after base m caller call.Snapshot r answer had = had
+taken_after base m caller (call.Submit a p) r answer had = had
+taken_after base m caller (call.Held a) r answer had = had
+taken_after base m caller (call.Post change) r answer had = post_taken base m change r (posted_taken base m caller change r answer) had
+taken_after base m caller (call.Day day) r answer had = day_taken base m r had
+taken_after base m caller (call.Surrender number) r answer had = surrender_taken base m number r had
+taken_after base m caller (call.Show number) r answer had = had
+
+pub good_after : (base : BaseLists) (m : Machine) (e : Entry) → IsRoads base.roads → Step base m e (after_entry base m e) → IsGood base m → IsGood base (after_entry base m e)
+good_after base m e roads step good = let kept = kept_after base m e.caller e.call e.reply roads step.asked step.answer (good.numbered, good.ranged) in record {
+  taken = taken_after base m e.caller e.call e.reply step.answer good.taken;
+  numbered = kept.0;
+  ranged = kept.1;
+  meets = answer_meets base m e.caller e.call e.reply step.answer good.meets;
+}
+
+good_all : (base : BaseLists) (m : Machine) (es : List Entry) → IsRoads base.roads → IsLegalFrom base m es → IsGood base m → IsGood base (after_all base m es)
+good_all base m [] roads legal good = good
+good_all base m (e ∷ es) roads legal good = good_all base (after_entry base m e) es roads legal.1 (good_after base m e roads legal.0 good)
+
+pub good_of : (base : BaseLists) (day : List ℕ) (es : List Entry) → IsRoads base.roads → IsLegal base day es → IsGood base (machine_of base day es)
+good_of base day es roads legal = good_all base (opened day) es roads legal (record {
+  taken = All-nil (λ c. takes base.roads c ≡ true);
+  numbered = tt;
+  ranged = All-nil (IsRanged base);
+  meets = All-nil (λ p. in_force day p ≡ true → fails base (state_in base (opened day)) p ≡ false);
+})

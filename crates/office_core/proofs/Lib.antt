@@ -1,0 +1,15 @@
+pub mod DayOrders
+pub mod Lists
+pub mod Cases
+pub mod Replies
+pub mod Forces
+pub mod Prefixes
+pub mod Ends
+pub mod Trips
+pub mod Sames
+pub mod Recalls
+pub mod Goods
+pub mod Founds
+pub mod Histories
+pub mod Later
+pub mod Says

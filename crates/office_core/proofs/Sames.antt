@@ -1,0 +1,39 @@
+-- An answer other than want of memory is determined.
+use Rattle.std.proofs.Common.{◌≡◌, ◌≢◌, List, ℕ, ◌⊎◌, inl, inr, Bool, cond, true, false, ap, sym, refl, ◌∙◌}
+use Rattle.restriction_log.specs.States.{InForce}
+use Rattle.trip_analysis.specs.declared.application.Application.{Application}
+use Rattle.trip_analysis.specs.declared.finding.What.{What}
+use Rattle.trip_analysis.specs.Bases.{BaseLists}
+use Rattle.office_core.specs.declared.entry.Call.{Call}
+use Rattle.office_core.specs.declared.entry.Reply.{Reply}
+use Rattle.office_core.specs.Replies.{what_reply, is_late, is_free, apply_reply, day_reply, surrender_reply, show_reply}
+use Rattle.office_core.specs.Machine.{Machine, version_of, state_in, reply_in, posted_reply, IsHeld, IsAnswer}
+use Rattle.office_core.specs.declared.entry.Call.TheVariants as call
+use Rattle.office_core.specs.declared.entry.Reply.TheVariants as reply
+use Rattle.trip_analysis.proofs.OneFinding.{one_finding}
+
+one : {N M : Type 0} (x r s : Reply) → (r ≡ x) ⊎ ((r ≡ reply.NoMemory) × N) → (s ≡ x) ⊎ ((s ≡ reply.NoMemory) × M) → r ≢ reply.NoMemory → s ≢ reply.NoMemory → r ≡ s
+one x r s (inl e) (inl f) p q = e ∙ sym f
+one x r s (inl e) (inr f) p q = absurd (q f.0)
+one x r s (inr e) f p q = absurd (p e.0)
+
+choice : {A : Type 0} (b : Bool) (x y z : A) → (b ≡ false → y ≡ z) → cond b x y ≡ cond b x z
+choice true x y z h = refl
+choice false x y z h = h refl
+
+held_one : (base : BaseLists) (state : InForce) (v : ℕ) (day : List ℕ) (number : ℕ) (a : Application) (w u : What) → IsHeld base state day a w → IsHeld base state day a u → apply_reply base state v day number a w ≡ apply_reply base state v day number a u
+held_one base state v day number a w u f g = choice (is_late day a) (reply.Late day) _ _ (λ early. choice (is_free base a) reply.NotNeeded _ _ (λ needed. ap (what_reply base state v number a.truck) (one_finding base state a w u (f early needed) (g early needed))))
+
+held : (base : BaseLists) (m : Machine) (caller : ℕ) (a : Application) (r s : Reply) → IsAnswer base m caller (call.Held a) r → IsAnswer base m caller (call.Held a) s → r ≢ reply.NoMemory → s ≢ reply.NoMemory → r ≡ s
+held base m caller a r s (inl g) (inl h) p q = g.2 ∙ (held_one base (state_in base m) (version_of m) m.day _ a g.0 h.0 g.1 h.1 ∙ sym h.2)
+held base m caller a r s (inl g) (inr f) p q = absurd (q f.0)
+held base m caller a r s (inr e) f p q = absurd (p e.0)
+
+pub answers_one : (base : BaseLists) (m : Machine) (caller : ℕ) (c : Call) (r s : Reply) → IsAnswer base m caller c r → IsAnswer base m caller c s → r ≢ reply.NoMemory → s ≢ reply.NoMemory → r ≡ s
+answers_one base m caller call.Snapshot r s = one (reply.SnapshotAt (version_of m)) r s
+answers_one base m caller (call.Submit a p) r s = one (reply_in base m a p.what) r s
+answers_one base m caller (call.Held a) r s = held base m caller a r s
+answers_one base m caller (call.Post change) r s = one (posted_reply base m change) r s
+answers_one base m caller (call.Day day) r s = one (day_reply m.day day) r s
+answers_one base m caller (call.Surrender number) r s = one (surrender_reply m.permits m.day caller number) r s
+answers_one base m caller (call.Show number) r s = one (show_reply m.permits m.day number) r s

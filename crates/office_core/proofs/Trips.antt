@@ -1,0 +1,195 @@
+-- What a finding says of the walks of its trip.
+use Rattle.std.proofs.Common.{◌≡◌, ◌≢◌, ◌⊎◌, inl, inr, ◌+◌, ◌-◌, ◌<◌, ◌≤◌, ◌∷◌, [], ◌&&◌, ◌||◌, ◌==◌, not, ℕ, zero, suc, List, Bool, cond, true, false, length, filter, get_or, refl, ap, sym, ◌∙◌, subst, arith, Option, Some, None, is_none, if◌then◌else◌, eq-eqb}
+use Rattle.std.specs.Prelude.{slice_get}
+use Rattle.std.specs.List.{range_with_len}
+use Rattle.std.proofs.lemmas.Bool.{cases_Bool, cases_eq, false≢true}
+use Rattle.std.proofs.lemmas.Bool.Decides.{nat_tests}
+use Rattle.std.proofs.lemmas.List.Folds.{list_any_at}
+use Rattle.std.proofs.lemmas.Option.{get_or_from_slice_get, slice_get_within}
+use Rattle.road_graph.specs.Roads.{Roads, no_segment}
+use Rattle.restriction_log.specs.States.{InForce}
+use Rattle.clearance_rules.specs.declared.limit.Limit.{Limit}
+use Rattle.road_graph.specs.declared.segment.Segment.{Segment}
+use Rattle.trip_analysis.specs.declared.application.Application.{Application}
+use Rattle.trip_analysis.specs.declared.finding.Failing.{Failing}
+use Rattle.trip_analysis.specs.declared.finding.What.{What}
+use Rattle.trip_analysis.specs.Bases.{BaseLists}
+use Rattle.trip_analysis.specs.Applications.{Sound, IsAskedWalk}
+use Rattle.trip_analysis.specs.Findings.{limit_for, is_passable, first_on, first_or, first_meeting, leaving, leaves, IsFinding, IsFoundBy, asked_finding, flags_of, is_in, what_of, needs_none}
+use Rattle.trip_analysis.specs.declared.finding.What.TheVariants as what
+use Rattle.route_search.specs.Walks.{IsWalk, every, flagged, CanReach, AreReached, IsAmong}
+use Rattle.route_search.specs.declared.found.Found.{Found}
+use Rattle.route_search.specs.declared.found.Found.TheVariants as found
+use Rattle.route_search.specs.Founds.{IsFound as IsSearched}
+use Rattle.trip_analysis.proofs.Meanings.{asked_meet, routes_are_first}
+use Rattle.office_core.proofs.Replies.{first_or_none}
+
+walk_every : (segments : List Segment) (may : ℕ → Bool) (a b : ℕ) (path : List ℕ) → IsWalk segments may a b path → IsWalk segments every a b path
+walk_every segments may a b [] walk = walk
+walk_every segments may a b (i ∷ path) walk = let (s, at, may1, from, rest) = walk in (s, at, refl, from, walk_every segments may s.to b path rest)
+
+-- a walk on which nothing fails is passable
+pub walk_now : (base : BaseLists) (state : InForce) (truck a b : ℕ) (path : List ℕ) → IsWalk base.roads.segments every a b path → first_on base state truck path ≡ None → IsWalk base.roads.segments (is_passable base state truck) a b path
+walk_now base state truck a b [] walk e = walk
+walk_now base state truck a b (i ∷ path) walk e =
+    let (s, at, may1, from, rest) = walk in
+    let both = first_or_none (limit_for base state truck i) i (first_on base state truck path) e in
+    (s, at, ap is_none both.0, from, walk_now base state truck s.to b path rest both.1)
+
+-- what is found is not that nothing is needed
+found_by : (base : BaseLists) (state : InForce) (a : Application) (w : What) → (w ≡ what.NotNeeded → ⊥) → IsFinding base state a w → IsFoundBy base state a a.asked w
+found_by base state a w off h = elim (cases_Bool (needs_none base a.truck)) [ inl e ↦ absurd (off (h.legal e)) | inr e ↦ h.found e ]
+
+-- a route that is found is a walk of its trip
+pub route_walk : (base : BaseLists) (state : InForce) (a : Application) (route : List ℕ) → Sound base a → IsFinding base state a (what.Route route) → IsWalk base.roads.segments every a.from a.to route
+route_walk base state a route sound h = by a.asked refl sound.asked
+  where
+    by : (asked : Option (List ℕ)) → a.asked ≡ asked → IsAskedWalk base.roads a.from a.to asked → IsWalk base.roads.segments every a.from a.to route
+    by (Some list) is walk = subst (λ (l : List ℕ). IsWalk base.roads.segments every a.from a.to l) (sym (asked_meet base state a list route is h).0) walk
+    by None none walk = walk_every base.roads.segments (is_passable base state a.truck) a.from a.to route (routes_are_first base state a route none h).walk
+
+-- a segment that is found to fail is on the asked route
+pub record IsOnAsked (a : Application) (s : ℕ) : Type 0 where
+  pub route : List ℕ
+  pub asked : a.asked ≡ Some route
+  pub on : is_in s route ≡ true
+
+here_or : (s t : ℕ) (b : Bool) → s ≡ t → ((s == t) || b) ≡ true
+here_or s t b e = rw (eq-eqb s t e) refl
+
+later_or : (b c : Bool) → c ≡ true → (b || c) ≡ true
+later_or true c e = refl
+later_or false c e = e
+
+first_in : (base : BaseLists) (state : InForce) (truck : ℕ) (f : Failing) (route : List ℕ) → first_on base state truck route ≡ Some f → is_in f.segment route ≡ true
+first_in base state truck f [] e = cc
+first_in base state truck f (s ∷ rest) e = by (limit_for base state truck s) e (first_in base state truck f rest)
+  where
+    by : (l : Option Limit) → first_or l s (first_on base state truck rest) ≡ Some f → (first_on base state truck rest ≡ Some f → is_in f.segment rest ≡ true) → is_in f.segment (s ∷ rest) ≡ true
+    by (Some l) e again = let is : s ≡ f.segment = cc in here_or s f.segment (is_in f.segment rest) is
+    by None e again = later_or (s == f.segment) (is_in f.segment rest) (again e)
+
+pub fails_asked : (base : BaseLists) (state : InForce) (a : Application) (s : ℕ) → IsFinding base state a (what.Fails s) → IsOnAsked a s
+fails_asked base state a s h = by a.asked refl (found_by base state a (what.Fails s) (λ e. cc) h)
+  where
+    searched : (f : Found) → what.Fails s ≡ what_of f → IsOnAsked a s
+    searched (found.Route segments feet potential) same = cc
+    searched (found.Cut reached) same = cc
+    searched (found.NoRoad reached) same = cc
+
+    asked_by : (route : List ℕ) (f : Option Failing) → a.asked ≡ Some route → first_on base state a.truck route ≡ f → what.Fails s ≡ asked_finding f route → IsOnAsked a s
+    asked_by route (Some f) asked e is = let same : f.segment ≡ s = cc in record { route = route; asked = asked; on = ap (λ (n : ℕ). is_in n route) (sym same) ∙ first_in base state a.truck f route e }
+    asked_by route None asked e is = cc
+
+    by : (asked : Option (List ℕ)) → a.asked ≡ asked → IsFoundBy base state a asked (what.Fails s) → IsOnAsked a s
+    by (Some route) asked is = asked_by route (first_on base state a.truck route) asked refl is
+    by None asked is = let (f, is_found, same) = is in searched f same
+
+-- nodes that hold the one and not the other
+pub record Separates (nodes : List ℕ) (a b : ℕ) : Type 0 where
+  pub inside : is_in a nodes ≡ true
+  pub outside : is_in b nodes ≡ false
+
+among_in : (nodes : List ℕ) (v k : ℕ) → slice_get nodes k ≡ Some v → is_in v nodes ≡ true
+among_in nodes v k at =
+    let within : k < length nodes = slice_get_within nodes k v at in
+    let is : get_or nodes k 0 ≡ v = get_or_from_slice_get nodes k v 0 at in
+    list_any_at (λ n. n == v) nodes k 0 within (eq-eqb (get_or nodes k 0) v is)
+
+in_among : (nodes : List ℕ) (v : ℕ) → is_in v nodes ≡ true → IsAmong nodes v
+in_among [] v e = cc
+in_among (n ∷ rest) v e = by (n == v) refl e (in_among rest v)
+  where
+    by : (b : Bool) → (n == v) ≡ b → (b || is_in v rest) ≡ true → (is_in v rest ≡ true → IsAmong rest v) → IsAmong (n ∷ rest) v
+    by true is h again = let same : n ≡ v = grind (arith, nat_tests, is) in (0, ap (λ (k : ℕ). Some k) same)
+    by false is h again = let (k, at) = again h in (suc k, at)
+
+reached_separate : (segments : List Segment) (may : ℕ → Bool) (a b : ℕ) (nodes : List ℕ) → AreReached segments may a nodes → (CanReach segments may a b → ⊥) → Separates nodes a b
+reached_separate segments may a b nodes h none = record {
+  inside = let (k, at) = h.complete a ([], refl) in among_in nodes a k at;
+  outside = elim (cases_Bool (is_in b nodes)) [ inl e ↦ absurd (let (k, at) = in_among nodes b e in none (h.sound k b at)) | inr e ↦ e ];
+}
+
+-- a cut is found where no route is asked for, and its nodes hold the beginning of the trip and not its end
+pub record IsCutOf (a : Application) (nodes : List ℕ) : Type 0 where
+  pub asked : a.asked ≡ None
+  pub apart : Separates nodes a.from a.to
+
+pub cut_of : (base : BaseLists) (state : InForce) (a : Application) (nodes : List ℕ) → IsFinding base state a (what.Cut nodes) → IsCutOf a nodes
+cut_of base state a nodes h = by a.asked refl (found_by base state a (what.Cut nodes) (λ e. cc) h)
+  where
+    searched : a.asked ≡ None → (f : Found) → IsSearched base.roads (flags_of base state a.truck) a.from a.to f → what.Cut nodes ≡ what_of f → IsCutOf a nodes
+    searched none (found.Route segments feet potential) is same = cc
+    searched none (found.Cut reached) is same = let e : reached ≡ nodes = cc in
+        record { asked = none; apart = subst (λ (l : List ℕ). Separates l a.from a.to) e (reached_separate base.roads.segments (flagged (flags_of base state a.truck)) a.from a.to reached is.nodes is.none) }
+    searched none (found.NoRoad reached) is same = let e : reached ≡ nodes = cc in
+        record { asked = none; apart = subst (λ (l : List ℕ). Separates l a.from a.to) e (reached_separate base.roads.segments every a.from a.to reached is.nodes is.none) }
+
+    asked_by : (route : List ℕ) (f : Option Failing) → what.Cut nodes ≡ asked_finding f route → IsCutOf a nodes
+    asked_by route (Some f) is = cc
+    asked_by route None is = cc
+
+    by : (asked : Option (List ℕ)) → a.asked ≡ asked → IsFoundBy base state a asked (what.Cut nodes) → IsCutOf a nodes
+    by (Some route) asked is = asked_by route (first_on base state a.truck route) is
+    by None asked is = let (f, is_found, same) = is in searched asked f is_found same
+
+-- a walk out of nodes that no segment leaves stays in them
+stays_in : (segments : List Segment) (may : ℕ → Bool) (nodes : List ℕ) → ((i : ℕ) (s : Segment) → slice_get segments i ≡ Some s → may i ≡ true → is_in s.from nodes ≡ true → is_in s.to nodes ≡ true)
+    → (a b : ℕ) (path : List ℕ) → IsWalk segments may a b path → is_in a nodes ≡ true → is_in b nodes ≡ true
+stays_in segments may nodes closed a b [] walk inside = subst (λ (n : ℕ). is_in n nodes ≡ true) walk inside
+stays_in segments may nodes closed a b (i ∷ path) walk inside =
+    let (s, at, may1, from, rest) = walk in
+    stays_in segments may nodes closed s.to b path rest (closed i s at may1 (subst (λ (n : ℕ). is_in n nodes ≡ true) (sym from) inside))
+
+-- a segment that does not leave nodes in which it begins ends in them
+ends_in : (roads : Roads) (nodes : List ℕ) (i : ℕ) (s : Segment) → slice_get roads.segments i ≡ Some s → (leaves roads nodes i ≡ true → ⊥) → is_in s.from nodes ≡ true → is_in s.to nodes ≡ true
+ends_in roads nodes i s at off begins = elim (cases_Bool (is_in s.to nodes)) [
+  | inl e ↦ e
+  | inr e ↦ absurd (off (ap (λ (t : Segment). is_in t.from nodes && not (is_in t.to nodes)) (get_or_from_slice_get roads.segments i s no_segment at) ∙ both begins e))
+]
+  where
+    both : {b c : Bool} → b ≡ true → c ≡ false → (b && not c) ≡ true
+    both e f = rw (e, f) refl
+
+meet_none : (b : Bool) (a : ℕ) (rest : Option ℕ) → (if b then Some a else rest) ≡ None → (b ≡ false) × (rest ≡ None)
+meet_none true a rest e = cc
+meet_none false a rest e = (refl, e)
+
+none_meets : (base : BaseLists) (state : InForce) (truck : ℕ) (f : ℕ → Bool) (a k : ℕ) → first_meeting base state truck (filter f (range_with_len a k)) ≡ None → (s : ℕ) → a ≤ s → s < a + k → f s ≡ true → is_passable base state truck s ≡ false
+none_meets base state truck f a zero e s low high on = absurd (omega (arith, low, high))
+none_meets base state truck f a (suc k) e s low high on = by (f a) refl e (cases_eq s a) (λ rest other. none_meets base state truck f (a + 1) k rest s (omega (arith, low, other)) (omega (arith, high)) on)
+  where
+    by : (b : Bool) → f a ≡ b → first_meeting base state truck (cond b (a ∷ filter f (range_with_len (a + 1) k)) (filter f (range_with_len (a + 1) k))) ≡ None → (s ≡ a) ⊎ (s ≢ a)
+        → (first_meeting base state truck (filter f (range_with_len (a + 1) k)) ≡ None → s ≢ a → is_passable base state truck s ≡ false) → is_passable base state truck s ≡ false
+    by true fa e (inl same) again = ap (is_passable base state truck) same ∙ (meet_none (is_passable base state truck a) a (first_meeting base state truck (filter f (range_with_len (a + 1) k))) e).0
+    by true fa e (inr other) again = again (meet_none (is_passable base state truck a) a (first_meeting base state truck (filter f (range_with_len (a + 1) k))) e).1 other
+    by false fa e (inl same) again = absurd (false≢true (sym fa ∙ (ap f (sym same) ∙ on)))
+    by false fa e (inr other) again = again e other
+
+none_left : (f : ℕ → Bool) (a k : ℕ) → filter f (range_with_len a k) ≡ [] → (s : ℕ) → a ≤ s → s < a + k → f s ≡ true → ⊥
+none_left f a zero e s low high on = omega (arith, low, high)
+none_left f a (suc k) e s low high on = by (f a) refl e (cases_eq s a) (λ rest other. none_left f (a + 1) k rest s (omega (arith, low, other)) (omega (arith, high)) on)
+  where
+    by : (b : Bool) → f a ≡ b → cond b (a ∷ filter f (range_with_len (a + 1) k)) (filter f (range_with_len (a + 1) k)) ≡ [] → (s ≡ a) ⊎ (s ≢ a)
+        → (filter f (range_with_len (a + 1) k) ≡ [] → s ≢ a → ⊥) → ⊥
+    by true fa e same again = cc
+    by false fa e (inl same) again = false≢true (sym fa ∙ (ap f (sym same) ∙ on))
+    by false fa e (inr other) again = again e other
+
+-- where no segment that leaves the nodes may be passed, no passable walk leads from the one to the other
+pub none_passable : (base : BaseLists) (state : InForce) (truck a b : ℕ) (nodes path : List ℕ) → Separates nodes a b → first_meeting base state truck (leaving base.roads nodes) ≡ None → IsWalk base.roads.segments (is_passable base state truck) a b path → ⊥
+none_passable base state truck a b nodes path apart none walk =
+    false≢true (sym apart.outside ∙ stays_in base.roads.segments (is_passable base state truck) nodes closed a b path walk apart.inside)
+  where
+    closed : (i : ℕ) (s : Segment) → slice_get base.roads.segments i ≡ Some s → is_passable base state truck i ≡ true → is_in s.from nodes ≡ true → is_in s.to nodes ≡ true
+    closed i s at may = let within : i < length base.roads.segments = slice_get_within base.roads.segments i s at in
+        ends_in base.roads nodes i s at (λ out. false≢true (sym (none_meets base state truck (leaves base.roads nodes) 0 (length base.roads.segments - 0) none i (omega arith) (omega (arith, within)) out) ∙ may))
+
+-- where no segment leaves the nodes, no walk leads from the one to the other
+pub none_there : (roads : Roads) (a b : ℕ) (nodes path : List ℕ) → Separates nodes a b → leaving roads nodes ≡ [] → IsWalk roads.segments every a b path → ⊥
+none_there roads a b nodes path apart none walk =
+    false≢true (sym apart.outside ∙ stays_in roads.segments every nodes closed a b path walk apart.inside)
+  where
+    closed : (i : ℕ) (s : Segment) → slice_get roads.segments i ≡ Some s → every i ≡ true → is_in s.from nodes ≡ true → is_in s.to nodes ≡ true
+    closed i s at may = let within : i < length roads.segments = slice_get_within roads.segments i s at in
+        ends_in roads nodes i s at (λ out. none_left (leaves roads nodes) 0 (length roads.segments - 0) none i (omega arith) (omega (arith, within)) out)

@@ -1,0 +1,9 @@
+pub mod Recalls
+pub mod Replies
+pub mod Machine
+pub mod Offices
+pub mod Laws
+pub use Rattle.permit_book.specs.Permits
+pub use Rattle.trip_analysis.specs.Bases
+pub use Rattle.trip_analysis.specs.Applications
+pub use Rattle.trip_analysis.specs.Findings

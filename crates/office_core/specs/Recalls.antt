@@ -1,0 +1,44 @@
+-- Which permits a state of the roads fails, and their recall.
+use Rattle.std.specs.Prelude.{◌≡◌, ◌<◌, ◌∷◌, [], List, ℕ, Bool, true, length, if◌then◌else◌, ◌&&◌, not, filter, map, All}
+use Rattle.std.specs.List.{list_any}
+use Rattle.restriction_log.specs.States.{InForce}
+use Rattle.permit_book.specs.declared.permit.Permit.{Permit}
+use Rattle.permit_book.specs.declared.permit.Mark.{Mark}
+use Rattle.permit_book.specs.declared.permit.Mark.TheVariants as mark
+use Rattle.permit_book.specs.Permits.{in_force, is_issued, is_live, marked, permit_of}
+use Rattle.trip_analysis.specs.Bases.{BaseLists}
+use Rattle.trip_analysis.specs.Findings.{is_passable}
+
+-- whether one of the permit's segments fails its truck
+abbrev pub fails : BaseLists → InForce → Permit → Bool
+fails base state p = list_any (λ s. not (is_passable base state p.truck s)) p.route
+
+-- whether a state recalls the permit: it is in force, and fails
+abbrev pub is_recalled : BaseLists → InForce → List ℕ → Permit → Bool
+is_recalled base state day p = in_force day p && fails base state p
+
+-- the numbers of the permits that a state recalls, rising
+abbrev pub recalled_by : BaseLists → InForce → List ℕ → List Permit → List ℕ
+recalled_by base state day permits = map (λ p. p.number) (filter (is_recalled base state day) permits)
+
+abbrev pub recalled_if : BaseLists → InForce → List ℕ → ℕ → Permit → Permit
+recalled_if base state day version p = if is_recalled base state day p then record p { mark = mark.Recalled version } else p
+
+-- each permit that a state recalls has the mark of its recall, and every other stays
+abbrev pub recalled_now : BaseLists → InForce → List ℕ → ℕ → List Permit → List Permit
+recalled_now base state day version permits = map (recalled_if base state day version) permits
+
+-- these numbers marked, one after another
+abbrev pub marked_all : Mark → List Permit → List ℕ → List Permit
+marked_all m permits [] = permits
+marked_all m permits (n ∷ ns) = marked_all m (marked permits n m) ns
+
+-- each of these numbers is that of a permit which is live still when those before it are marked
+abbrev pub AreLive : Mark → List Permit → List ℕ → Type 0
+AreLive m permits [] = Unit {0}
+AreLive m permits (n ∷ ns) = (is_issued permits n ≡ true) × (is_live (permit_of permits n).mark ≡ true) × AreLive m (marked permits n m) ns
+
+-- the truck and the segments of the permit are there
+pub record IsRanged (base : BaseLists) (p : Permit) : Type 0 where
+  pub truck : p.truck < length base.fleet
+  pub route : All (λ s. s < length base.roads.segments) p.route

@@ -1,0 +1,197 @@
+// The answer to a posting. It comes twice: for the history, and for the caller.
+
+ghost use Rattle.std.specs.Prelude.{◌≡◌, ◌+◌, ◌<◌, ◌≤◌, ◌++◌, ◌∷◌, [], length, All, IfOk, OnErr, true, ◌&&◌, if◌then◌else◌};
+ghost use Rattle.road_graph.specs.Roads.{IsRoads};
+ghost use Rattle.restriction_log.specs.Changes.{takes};
+ghost use Rattle.restriction_log.specs.States.{state_of};
+ghost use Rattle.restriction_log.specs.Logs.{IsLogOf};
+ghost use Rattle.clearance_rules.specs.Limits.{AreOf};
+ghost use Rattle.permit_book.specs.declared.permit.Mark.TheVariants as mark;
+ghost use Rattle.permit_book.specs.Permits.{AreNumbered};
+ghost use Rattle.office_core.specs.declared.entry.Call.TheVariants as call;
+ghost use Rattle.office_core.specs.Recalls.{AreLive, IsRanged, fails, is_recalled, marked_all, recalled_by};
+ghost use Rattle.office_core.specs.Machine.{IsAnswer, after, machine_at, posted_reply, with_posting};
+
+use crate::entry::Reply;
+use clearance_rules::Steps;
+use office_io::NoMemory;
+use permit_book::{Book, Permit};
+use permit_days::Day;
+use restriction_log::{Change, Log, State, takes};
+use road_graph::Numbers;
+use std::alloc::{AllocError, Global};
+use std::sync::ledger::Ledger;
+use trip_analysis::{Base, first_on};
+
+// Whether a segment of the permit fails its truck.
+#[tactic(auto, using(crate::proofs::Replies::found_fails))]
+fn permit_fails<L: Ledger>(
+    base: &Base,
+    state: &State,
+    permit: &Permit,
+    steps: &mut Steps<L>,
+) -> bool
+    requires ranged { IsRanged base.now permit.now }
+    requires of_base { AreOf base.now.roads state.now }
+    ensures { result ≡ fails base.now state.now permit.now }
+{
+    first_on(base, state, permit.truck, permit.route.as_slice(), steps).is_some()
+}
+
+// Whether the state recalls the permit.
+fn is_recalled<L: Ledger>(
+    base: &Base,
+    state: &State,
+    day: Day,
+    permit: &Permit,
+    steps: &mut Steps<L>,
+) -> bool
+    requires ranged { IsRanged base.now permit.now }
+    requires of_base { AreOf base.now.roads state.now }
+    ensures { result ≡ is_recalled base.now state.now day permit.now }
+{
+    permit.status(day).is_in_force() && permit_fails(base, state, permit, steps)
+}
+
+// A number more, where it is one of those.
+fn push_if(numbers: &mut Vec<u32>, is_one: bool, number: u32) -> Result<(), AllocError>
+    ensures { IfOk result (λ _. numbers.new.items ≡ numbers.old.items ++ (if is_one then number ∷ [] else [])) }
+{
+    if is_one {
+        numbers.push(number)?;
+    }
+    Ok(())
+}
+
+// The numbers of the permits that the state recalls.
+#[tactic(auto, using(crate::proofs::Recalls::recalled_more))]
+fn recalled_by<L: Ledger>(
+    alloc: Global,
+    base: &Base,
+    state: &State,
+    day: Day,
+    permits: &[Permit],
+    steps: &mut Steps<L>,
+) -> Result<Vec<u32>, AllocError>
+    requires ranged { All (IsRanged base.now) permits.now }
+    requires of_base { AreOf base.now.roads state.now }
+    ensures { IfOk result (λ numbers. numbers.items ≡ recalled_by base.now state.now day permits.now) }
+{
+    let mut numbers = Vec::new(alloc);
+    for i in 0..permits.len() {
+        let permit = &permits[i];
+        let is_one = is_recalled(base, state, day, permit, steps);
+        push_if(&mut numbers, is_one, permit.number)?;
+    }
+    Ok(numbers)
+}
+
+// Recalls these permits, which are live.
+fn recall_each(book: &mut Book, numbers: &[u32], version: u32)
+    requires { AreLive (mark.Recalled version) book.old numbers.now }
+    ensures { book.new ≡ marked_all (mark.Recalled version) book.old numbers.now }
+{
+    for i in 0..numbers.len() {
+        book.recall(numbers[i], version);
+    }
+}
+
+// Posts a change that the network takes.
+#[tactic(auto, using(crate::proofs::Recalls::recalled_live, crate::proofs::Recalls::recalled_marked, crate::proofs::Founds::state_posted, crate::proofs::Founds::of_after, crate::proofs::Founds::named_of))]
+fn post<L: Ledger>(
+    alloc: Global,
+    base: &Base,
+    state: &mut State,
+    log: &mut Log,
+    book: &mut Book,
+    day: Day,
+    change: &Change,
+    steps: &mut Steps<L>,
+) -> Result<(Reply, Reply), NoMemory>
+    requires takes { takes base.now.roads change.now ≡ true }
+    requires of_base { AreOf base.now.roads state.old }
+    requires log { IsLogOf base.now.roads log.old }
+    requires numbered { AreNumbered 0 book.old }
+    requires ranged { All (IsRanged base.now) book.old }
+    requires state { state.old ≡ state_of base.now.roads log.old.changes }
+    ensures same { IfOk result (λ r. r.1 ≡ r.0) }
+    ensures reply { IfOk result (λ r. r.0 ≡ posted_reply base.now (machine_at log.old.changes book.old day) change.now) }
+    ensures after { IfOk result (λ r. with_posting base.now (machine_at log.old.changes book.old day) change.now r.0 ≡ machine_at log.new.changes book.new day) }
+    ensures state { state.new ≡ state_of base.now.roads log.new.changes }
+    ensures log { IsLogOf base.now.roads log.new }
+    ensures lack { OnErr result ((log.new.changes ≡ log.old.changes) × (book.new ≡ book.old)) }
+{
+    let next = state.with(alloc, change)?;
+    let recalled = Numbers::of(recalled_by(alloc, base, &next, day, book.permits(), steps)?);
+    let told = recalled.try_clone(alloc)?;
+    let Ok(version) = log.post(base.network(), *change) else {
+        return Err(NoMemory);
+    };
+    recall_each(book, recalled.as_slice(), version);
+    *state = next;
+    Ok((
+        Reply::Posted { version, recalled },
+        Reply::Posted {
+            version,
+            recalled: told,
+        },
+    ))
+}
+
+// Posts a change, or answers that it is out of range.
+fn post_or_refuse<L: Ledger>(
+    alloc: Global,
+    base: &Base,
+    state: &mut State,
+    log: &mut Log,
+    book: &mut Book,
+    day: Day,
+    change: &Change,
+    steps: &mut Steps<L>,
+) -> Result<(Reply, Reply), NoMemory>
+    requires of_base { AreOf base.now.roads state.old }
+    requires log { IsLogOf base.now.roads log.old }
+    requires numbered { AreNumbered 0 book.old }
+    requires ranged { All (IsRanged base.now) book.old }
+    requires state { state.old ≡ state_of base.now.roads log.old.changes }
+    ensures same { IfOk result (λ r. r.1 ≡ r.0) }
+    ensures reply { IfOk result (λ r. r.0 ≡ posted_reply base.now (machine_at log.old.changes book.old day) change.now) }
+    ensures after { IfOk result (λ r. with_posting base.now (machine_at log.old.changes book.old day) change.now r.0 ≡ machine_at log.new.changes book.new day) }
+    ensures state { state.new ≡ state_of base.now.roads log.new.changes }
+    ensures log { IsLogOf base.now.roads log.new }
+    ensures lack { OnErr result ((log.new.changes ≡ log.old.changes) × (book.new ≡ book.old) × (takes base.now.roads change.now ≡ true)) }
+{
+    if !takes(base.network(), change) {
+        return Ok((Reply::OutOfRange, Reply::OutOfRange));
+    }
+    post(alloc, base, state, log, book, day, change, steps)
+}
+
+/// Posts a change, and recalls the permits in force that then fail.
+pub(crate) fn answer_post<L: Ledger>(
+    alloc: Global,
+    base: &Base,
+    state: &mut State,
+    log: &mut Log,
+    book: &mut Book,
+    day: Day,
+    caller: u32,
+    change: &Change,
+    steps: &mut Steps<L>,
+) -> (Reply, Reply)
+    requires of_base { AreOf base.now.roads state.old }
+    requires log { IsLogOf base.now.roads log.old }
+    requires numbered { AreNumbered 0 book.old }
+    requires ranged { All (IsRanged base.now) book.old }
+    requires state { state.old ≡ state_of base.now.roads log.old.changes }
+    ensures same { result.1 ≡ result.0 }
+    ensures answer { IsAnswer base.now (machine_at log.old.changes book.old day) caller (call.Post change.now) result.0 }
+    ensures after { after base.now (machine_at log.old.changes book.old day) caller (call.Post change.now) result.0 ≡ machine_at log.new.changes book.new day }
+    ensures state { state.new ≡ state_of base.now.roads log.new.changes }
+    ensures log { IsLogOf base.now.roads log.new }
+{
+    match post_or_refuse(alloc, base, state, log, book, day, change, steps) {
+        Ok(replies) => replies,
+        Err(NoMemory) => (Reply::NoMemory, Reply::NoMemory),
+    }
+}
