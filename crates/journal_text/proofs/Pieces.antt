@@ -1,0 +1,35 @@
+-- A text that grows word by word.
+use Rattle.std.proofs.Common.{◌≡◌, ◌∙◌, ◌∷◌, ◌++◌, [], ℕ, List, sym, refl, ap, append_assoc}
+use Rattle.std.specs.Prelude.{codes, flat_map}
+use Rattle.journal_text.specs.Words.{Adds, Words, joined, list_text, spaced}
+
+pub adds_word : (old middle new text : List ℕ) → middle ≡ old ++ (32 ∷ []) → new ≡ middle ++ text → Adds old new (λ ws. text ∷ ws)
+unfolding spaced
+adds_word old middle new text h k ws = rw (k, h) (simp append_assoc)
+
+-- a word, and another one that is added as a space and its text
+pub adds_named_word : (old a b new first text : List ℕ) → Adds old a (λ ws. first ∷ ws) → b ≡ a ++ (32 ∷ []) → new ≡ b ++ text → Adds old new (λ ws. first ∷ text ∷ ws)
+adds_named_word old a b new first text h i j ws = h (text ∷ ws) ∙ adds_word a b new text i j ws
+
+-- a text of two parts with a byte between them
+pub pair_adds : (old a b new one two : List ℕ) (sep : ℕ) → a ≡ old ++ one → b ≡ a ++ (sep ∷ []) → new ≡ b ++ two → new ≡ old ++ (one ++ (sep ∷ two))
+pair_adds old a b new one two sep h i j = rw (j, i, h) (simp append_assoc)
+
+pub list_adds : (text : ℕ → List ℕ) (old a new numbers rest : List ℕ) (first : ℕ) → numbers ≡ first ∷ rest → a ≡ old ++ text first → new ≡ a ++ flat_map (λ n. 44 ∷ text n) rest → new ≡ old ++ list_text text numbers
+unfolding joined
+list_adds text old a new numbers rest first is one more = rw (more, one, is) (simp append_assoc)
+
+append_nil : (xs : List ℕ) → xs ++ [] ≡ xs
+append_nil [] = refl
+append_nil (x ∷ xs) = ap (λ t. x ∷ t) (append_nil xs)
+
+-- a line, from its first word on
+pub line_adds : (old a b c d new caller : List ℕ) (call reply : Words → Words) → a ≡ old ++ caller → Adds a b call → Adds b c (λ ws. codes "=" ∷ ws) → Adds c d reply → new ≡ d ++ (10 ∷ []) → new ≡ old ++ ((caller ++ spaced (call (codes "=" ∷ reply []))) ++ (10 ∷ []))
+unfolding spaced
+line_adds old a b c d new caller call reply h i j k l =
+    let text : a ++ spaced (call (codes "=" ∷ reply [])) ≡ d ++ [] = i _ ∙ (j _ ∙ k []) in
+    let whole : d ≡ old ++ (caller ++ spaced (call (codes "=" ∷ reply []))) = sym (append_nil d) ∙ (sym text ∙ (ap (λ t. t ++ spaced (call (codes "=" ∷ reply []))) h ∙ append_assoc old caller _)) in
+    l ∙ (ap (λ t. t ++ (10 ∷ [])) whole ∙ append_assoc old _ (10 ∷ []))
+
+pub journal_adds : (a b c d new head lines number : List ℕ) → a ≡ head → b ≡ a ++ lines → c ≡ b ++ codes "end " → d ≡ c ++ number → new ≡ d ++ (10 ∷ []) → new ≡ head ++ (lines ++ ((codes "end " ++ number) ++ (10 ∷ [])))
+journal_adds a b c d new head lines number h i j k l = rw (l, k, j, i, h) (simp append_assoc)

@@ -1,0 +1,7 @@
+use Rattle.std.proofs.Common.{◌∙◌, sym}
+use Rattle.journal_text.proofs.calls.application.Goals as goal
+
+pub returns : goal.returns
+returns c =
+    λ ws. rw (sym c.truck.ensures, sym c.from.ensures, sym c.to.ensures, sym c.first.ensures, sym c.last.ensures)
+    (c.in_ok-named_place.ensures _ ∙ (c.in_ok-named_place-2.ensures _ ∙ (c.in_ok-named_place-3.ensures _ ∙ (c.in_ok-asked.ensures _ ∙ c.in_ok-days.ensures ws))))

@@ -1,0 +1,120 @@
+-- The words of an entry of a journal. Each function puts its words in front of those that follow.
+use Rattle.std.specs.Prelude.{ℕ, Bool, true, false, List, ◌∷◌, codes, Option, Some, None}
+use Rattle.std.specs.Fmt.{decimal}
+use Rattle.influence_line.specs.Fractions.{ratio_text}
+use Rattle.restriction_log.specs.declared.change.Change.{Change}
+use Rattle.restriction_log.specs.declared.change.Change.TheVariants as change
+use Rattle.clearance_rules.specs.declared.limit.Limit.{Limit}
+use Rattle.clearance_rules.specs.declared.limit.Limit.TheVariants as limit
+use Rattle.trip_analysis.specs.declared.application.Application.{Application}
+use Rattle.trip_analysis.specs.declared.finding.What.{What}
+use Rattle.trip_analysis.specs.declared.finding.What.TheVariants as what
+use Rattle.trip_analysis.specs.declared.finding.Proposal.{Proposal}
+use Rattle.permit_book.specs.declared.permit.Status.{Status}
+use Rattle.permit_book.specs.declared.permit.Status.TheVariants as status
+use Rattle.office_core.specs.declared.entry.Call.{Call}
+use Rattle.office_core.specs.declared.entry.Call.TheVariants as call
+use Rattle.office_core.specs.declared.entry.Cause.{Cause}
+use Rattle.office_core.specs.declared.entry.Cause.TheVariants as cause
+use Rattle.office_core.specs.declared.entry.Reply.{Reply}
+use Rattle.office_core.specs.declared.entry.Reply.TheVariants as reply
+use Rattle.office_core.specs.declared.entry.Entry.{Entry}
+use Rattle.journal_text.specs.Words.{Words, group, index, list_text}
+
+-- a flag is 0 or 1
+abbrev pub flag_words : Bool → Words → Words
+flag_words false ws = codes "0" ∷ ws
+flag_words true ws = codes "1" ∷ ws
+
+-- a value of a segment
+abbrev pub posted_words : ℕ → List ℕ → ℕ → Words → Words
+posted_words segment named value ws = codes "segment" ∷ index segment ∷ named ∷ decimal value ∷ ws
+
+abbrev pub change_words : Change → Words → Words
+change_words (change.Closed segment closed) ws = codes "segment" ∷ index segment ∷ codes "closed" ∷ flag_words closed ws
+change_words (change.Height segment inches) ws = posted_words segment (codes "height") inches ws
+change_words (change.Width segment inches) ws = posted_words segment (codes "width") inches ws
+change_words (change.Length segment inches) ws = posted_words segment (codes "length") inches ws
+change_words (change.Gross segment pounds) ws = posted_words segment (codes "gross") pounds ws
+change_words (change.Allowance segment permille) ws = posted_words segment (codes "allowance") permille ws
+change_words (change.Rating span permille) ws = codes "span" ∷ index span ∷ codes "rating" ∷ decimal permille ∷ ws
+
+-- a posted value that is exceeded: what the load has, and what is allowed
+abbrev pub over_words : ℕ → List ℕ → ℕ → ℕ → Words → Words
+over_words segment named has allowed ws = posted_words segment named has (codes "over" ∷ decimal allowed ∷ ws)
+
+abbrev pub limit_words : Limit → Words → Words
+limit_words (limit.Closed segment) ws = codes "segment" ∷ index segment ∷ codes "closed" ∷ ws
+limit_words (limit.Height segment has allowed) ws = over_words segment (codes "height") has allowed ws
+limit_words (limit.Width segment has allowed) ws = over_words segment (codes "width") has allowed ws
+limit_words (limit.Length segment has allowed) ws = over_words segment (codes "length") has allowed ws
+limit_words (limit.Gross segment has allowed) ws = over_words segment (codes "gross") has allowed ws
+limit_words (limit.Group segment i j weight most allowance) ws =
+    codes "segment" ∷ index segment ∷ codes "group" ∷ group i j ∷ codes "weight" ∷ decimal weight ∷ codes "limit" ∷ decimal most ∷ codes "allowance" ∷ decimal allowance ∷ ws
+limit_words (limit.Moment segment span has design rating) ws =
+    codes "segment" ∷ index segment ∷ codes "span" ∷ index span ∷ codes "moment" ∷ ratio_text has ∷ codes "hs20" ∷ ratio_text design ∷ codes "rating" ∷ decimal rating ∷ ws
+limit_words (limit.Shear segment span has design rating) ws =
+    codes "segment" ∷ index segment ∷ codes "span" ∷ index span ∷ codes "shear" ∷ ratio_text has ∷ codes "hs20" ∷ ratio_text design ∷ codes "rating" ∷ decimal rating ∷ ws
+
+-- the asked route, if one is asked for
+abbrev pub asked_words : Option (List ℕ) → Words → Words
+asked_words None ws = codes "none" ∷ ws
+asked_words (Some route) ws = list_text index route ∷ ws
+
+abbrev pub days_words : List ℕ → List ℕ → Words → Words
+days_words first last ws = codes "days" ∷ first ∷ last ∷ ws
+
+abbrev pub application_words : Application → Words → Words
+application_words a ws =
+    codes "truck" ∷ index a.truck ∷ codes "from" ∷ index a.from ∷ codes "to" ∷ index a.to ∷ codes "asked" ∷ asked_words a.asked (days_words a.first a.last ws)
+
+-- what was found
+abbrev pub what_words : What → Words → Words
+what_words what.NotNeeded ws = codes "none" ∷ ws
+what_words (what.Route route) ws = codes "route" ∷ list_text index route ∷ ws
+what_words (what.Fails segment) ws = codes "fails" ∷ index segment ∷ ws
+what_words (what.Cut nodes) ws = codes "cut" ∷ list_text index nodes ∷ ws
+
+abbrev pub call_words : Call → Words → Words
+call_words call.Snapshot ws = codes "snapshot" ∷ ws
+call_words (call.Submit a p) ws = codes "submit" ∷ application_words a (codes "seen" ∷ decimal p.seen ∷ what_words p.what ws)
+call_words (call.Held a) ws = codes "held" ∷ application_words a ws
+call_words (call.Post posted) ws = codes "post" ∷ change_words posted ws
+call_words (call.Day day) ws = codes "day" ∷ day ∷ ws
+call_words (call.Surrender number) ws = codes "surrender" ∷ decimal number ∷ ws
+call_words (call.Show number) ws = codes "show" ∷ decimal number ∷ ws
+
+abbrev pub status_words : Status → Words → Words
+status_words status.InForce ws = codes "inforce" ∷ ws
+status_words (status.Recalled version) ws = codes "recalled" ∷ decimal version ∷ ws
+status_words status.Surrendered ws = codes "surrendered" ∷ ws
+status_words status.Expired ws = codes "expired" ∷ ws
+
+-- why a proposal is outdated
+abbrev pub cause_words : Cause → Words → Words
+cause_words (cause.NowFails why) ws = codes "fails" ∷ limit_words why ws
+cause_words (cause.NowMeets segment) ws = codes "meets" ∷ codes "segment" ∷ index segment ∷ ws
+
+-- that an office is full is the reply of no entry, and has no words
+abbrev pub reply_words : Reply → Words → Words
+reply_words (reply.SnapshotAt version) ws = codes "at" ∷ decimal version ∷ ws
+reply_words (reply.Issued number version route) ws =
+    codes "issued" ∷ decimal number ∷ codes "at" ∷ decimal version ∷ codes "route" ∷ list_text index route ∷ ws
+reply_words (reply.Refused version why) ws = codes "refused" ∷ decimal version ∷ limit_words why ws
+reply_words (reply.Outdated version why) ws = codes "outdated" ∷ decimal version ∷ cause_words why ws
+reply_words reply.NotNeeded ws = codes "notneeded" ∷ ws
+reply_words reply.NoRoad ws = codes "noroad" ∷ ws
+reply_words (reply.Late day) ws = codes "late" ∷ day ∷ ws
+reply_words (reply.Posted version recalled) ws = codes "posted" ∷ decimal version ∷ codes "recalled" ∷ list_text decimal recalled ∷ ws
+reply_words reply.OutOfRange ws = codes "range" ∷ ws
+reply_words (reply.DayIs day) ws = codes "day" ∷ day ∷ ws
+reply_words (reply.DayBack day) ws = codes "dayback" ∷ day ∷ ws
+reply_words reply.Surrendered ws = codes "surrendered" ∷ ws
+reply_words reply.NotYours ws = codes "notyours" ∷ ws
+reply_words reply.Unknown ws = codes "unknown" ∷ ws
+reply_words (reply.NotInForce now) ws = codes "notinforce" ∷ status_words now ws
+reply_words (reply.Shown number caller truck first last version seen now) ws =
+    codes "shown" ∷ decimal number ∷ codes "caller" ∷ index caller ∷ codes "truck" ∷ index truck ∷ days_words first last
+    (codes "at" ∷ decimal version ∷ codes "seen" ∷ decimal seen ∷ status_words now ws)
+reply_words (reply.Full entries) ws = ws
+reply_words reply.NoMemory ws = codes "nomemory" ∷ ws

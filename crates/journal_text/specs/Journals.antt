@@ -1,0 +1,22 @@
+-- The text of a history.
+use Rattle.std.specs.Prelude.{ℕ, List, [], ◌∷◌, ◌++◌, length, flat_map, codes}
+use Rattle.std.specs.Fmt.{decimal}
+use Rattle.journal_text.specs.Words.{index, spaced}
+use Rattle.journal_text.specs.Entries.{call_words, reply_words}
+use Rattle.office_core.specs.declared.entry.Entry.{Entry}
+
+-- a line with its line feed
+abbrev pub ended : List ℕ → List ℕ
+ended line = line ++ (10 ∷ [])
+
+-- CALLER CALL = REPLY
+abbrev pub line_of : Entry → List ℕ
+line_of e = index e.caller ++ spaced (call_words e.call (codes "=" ∷ reply_words e.reply []))
+
+-- the number of entries behind the word end
+abbrev pub end_line : ℕ → List ℕ
+end_line n = codes "end " ++ decimal n
+
+-- the first line, a line for each entry, and the end
+abbrev pub journal_of : List Entry → List ℕ
+journal_of history = ended (codes "permit-journal 1") ++ (flat_map (λ e. ended (line_of e)) history ++ ended (end_line (length history)))

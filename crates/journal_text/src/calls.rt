@@ -1,0 +1,121 @@
+// The words of calls.
+
+ghost use Rattle.std.specs.Prelude.{◌≡◌, ◌∷◌, OnOk, codes};
+ghost use Rattle.std.specs.Fmt.{decimal};
+ghost use Rattle.journal_text.specs.Words.{Adds, index, list_text};
+ghost use Rattle.journal_text.specs.Entries.{application_words, asked_words, call_words, days_words, what_words};
+
+use crate::limits::change;
+use crate::words::{day, named, named_place, named_places, word};
+use office_core::Call;
+use permit_days::Day;
+use std::alloc::AllocError;
+use trip_analysis::{Application, What};
+
+/// A call.
+pub fn call(out: &mut Vec<u8>, call: &Call) -> Result<(), AllocError>
+    ensures { OnOk result (Adds out.old.items out.new.items (call_words call.now)) }
+{
+    match call {
+        Call::Snapshot => {
+            word(out, "snapshot")?;
+            Ok(())
+        }
+        Call::Submit {
+            application: asked,
+            proposal,
+        } => {
+            word(out, "submit")?;
+            application(out, asked)?;
+            named(out, "seen", proposal.seen)?;
+            what(out, &proposal.what)?;
+            Ok(())
+        }
+        Call::Held { application: asked } => {
+            word(out, "held")?;
+            application(out, asked)?;
+            Ok(())
+        }
+        Call::Post { change: posted } => {
+            word(out, "post")?;
+            change(out, posted)?;
+            Ok(())
+        }
+        Call::Day { day: new } => {
+            word(out, "day")?;
+            day(out, *new)?;
+            Ok(())
+        }
+        Call::Surrender { number } => {
+            named(out, "surrender", *number)?;
+            Ok(())
+        }
+        Call::Show { number } => {
+            named(out, "show", *number)?;
+            Ok(())
+        }
+    }
+}
+
+/// The first and the last day.
+pub fn days(out: &mut Vec<u8>, first: Day, last: Day) -> Result<(), AllocError>
+    ensures { OnOk result (Adds out.old.items out.new.items (days_words first last)) }
+{
+    word(out, "days")?;
+    day(out, first)?;
+    day(out, last)?;
+    Ok(())
+}
+
+// An application.
+fn application(out: &mut Vec<u8>, application: &Application) -> Result<(), AllocError>
+    ensures { OnOk result (Adds out.old.items out.new.items (application_words application.now)) }
+{
+    named_place(out, "truck", application.truck())?;
+    named_place(out, "from", application.from())?;
+    named_place(out, "to", application.to())?;
+    asked(out, application)?;
+    days(out, application.first(), application.last())?;
+    Ok(())
+}
+
+// The asked route, if one is asked for.
+fn asked(out: &mut Vec<u8>, application: &Application) -> Result<(), AllocError>
+    ensures { OnOk result (Adds out.old.items out.new.items (λ ws. codes "asked" ∷ asked_words application.now.asked ws)) }
+{
+    match application.asked() {
+        None => {
+            word(out, "asked")?;
+            word(out, "none")?;
+            Ok(())
+        }
+        Some(list) => {
+            named_places(out, "asked", list.as_slice())?;
+            Ok(())
+        }
+    }
+}
+
+// What was found.
+fn what(out: &mut Vec<u8>, what: &What) -> Result<(), AllocError>
+    ensures { OnOk result (Adds out.old.items out.new.items (what_words what.now)) }
+{
+    match what {
+        What::NotNeeded => {
+            word(out, "none")?;
+            Ok(())
+        }
+        What::Route(route) => {
+            named_places(out, "route", route.as_slice())?;
+            Ok(())
+        }
+        What::Fails { segment } => {
+            named_place(out, "fails", *segment)?;
+            Ok(())
+        }
+        What::Cut(nodes) => {
+            named_places(out, "cut", nodes.as_slice())?;
+            Ok(())
+        }
+    }
+}

@@ -1,0 +1,202 @@
+// The words of changes, limits and causes.
+
+ghost use Rattle.std.specs.Prelude.{◌≡◌, ◌∷◌, OnOk, codes};
+ghost use Rattle.std.specs.Fmt.{decimal};
+ghost use Rattle.influence_line.specs.Fractions.{ratio_text};
+ghost use Rattle.journal_text.specs.Words.{Adds, index};
+ghost use Rattle.journal_text.specs.Entries.{cause_words, change_words, flag_words, limit_words, over_words, posted_words};
+
+use crate::words::{named, named_fraction, named_group, named_place, word};
+use clearance_rules::Limit;
+use influence_line::Frac;
+use office_core::Cause;
+use restriction_log::Change;
+use std::alloc::AllocError;
+
+/// A change that is posted.
+pub fn change(out: &mut Vec<u8>, change: &Change) -> Result<(), AllocError>
+    ensures { OnOk result (Adds out.old.items out.new.items (change_words change.now)) }
+{
+    match change {
+        Change::Closed { segment, closed } => {
+            named_place(out, "segment", *segment)?;
+            word(out, "closed")?;
+            flag(out, *closed)?;
+            Ok(())
+        }
+        Change::Height { segment, inches } => {
+            posted(out, *segment, "height", *inches)?;
+            Ok(())
+        }
+        Change::Width { segment, inches } => {
+            posted(out, *segment, "width", *inches)?;
+            Ok(())
+        }
+        Change::Length { segment, inches } => {
+            posted(out, *segment, "length", *inches)?;
+            Ok(())
+        }
+        Change::Gross { segment, pounds } => {
+            posted(out, *segment, "gross", *pounds)?;
+            Ok(())
+        }
+        Change::Allowance { segment, permille } => {
+            posted(out, *segment, "allowance", *permille)?;
+            Ok(())
+        }
+        Change::Rating { span, permille } => {
+            named_place(out, "span", *span)?;
+            named(out, "rating", *permille)?;
+            Ok(())
+        }
+    }
+}
+
+/// A limit that fails.
+pub fn limit(out: &mut Vec<u8>, limit: &Limit) -> Result<(), AllocError>
+    ensures { OnOk result (Adds out.old.items out.new.items (limit_words limit.now)) }
+{
+    match limit {
+        Limit::Closed { segment } => {
+            named_place(out, "segment", *segment)?;
+            word(out, "closed")?;
+            Ok(())
+        }
+        Limit::Height {
+            segment,
+            has,
+            allowed,
+        } => {
+            over(out, *segment, "height", *has, *allowed)?;
+            Ok(())
+        }
+        Limit::Width {
+            segment,
+            has,
+            allowed,
+        } => {
+            over(out, *segment, "width", *has, *allowed)?;
+            Ok(())
+        }
+        Limit::Length {
+            segment,
+            has,
+            allowed,
+        } => {
+            over(out, *segment, "length", *has, *allowed)?;
+            Ok(())
+        }
+        Limit::Gross {
+            segment,
+            has,
+            allowed,
+        } => {
+            over(out, *segment, "gross", *has, *allowed)?;
+            Ok(())
+        }
+        Limit::Group {
+            segment,
+            i,
+            j,
+            weight,
+            limit,
+            allowance,
+        } => {
+            named_place(out, "segment", *segment)?;
+            named_group(out, "group", *i, *j)?;
+            named(out, "weight", *weight)?;
+            named(out, "limit", *limit)?;
+            named(out, "allowance", *allowance)?;
+            Ok(())
+        }
+        Limit::Moment {
+            segment,
+            span,
+            has,
+            design,
+            rating,
+        } => {
+            named_place(out, "segment", *segment)?;
+            named_place(out, "span", *span)?;
+            effect(out, "moment", *has, *design, *rating)?;
+            Ok(())
+        }
+        Limit::Shear {
+            segment,
+            span,
+            has,
+            design,
+            rating,
+        } => {
+            named_place(out, "segment", *segment)?;
+            named_place(out, "span", *span)?;
+            effect(out, "shear", *has, *design, *rating)?;
+            Ok(())
+        }
+    }
+}
+
+/// Why a proposal is outdated.
+pub fn cause(out: &mut Vec<u8>, cause: &Cause) -> Result<(), AllocError>
+    ensures { OnOk result (Adds out.old.items out.new.items (cause_words cause.now)) }
+{
+    match cause {
+        Cause::NowFails { limit: why } => {
+            word(out, "fails")?;
+            limit(out, why)?;
+            Ok(())
+        }
+        Cause::NowMeets { segment } => {
+            word(out, "meets")?;
+            named_place(out, "segment", *segment)?;
+            Ok(())
+        }
+    }
+}
+
+// A flag, 0 or 1.
+fn flag(out: &mut Vec<u8>, flag: bool) -> Result<(), AllocError>
+    ensures { OnOk result (Adds out.old.items out.new.items (flag_words flag)) }
+{
+    if flag { word(out, "1") } else { word(out, "0") }
+}
+
+// A value of a segment.
+fn posted(out: &mut Vec<u8>, segment: u32, name: &str, value: u32) -> Result<(), AllocError>
+    ensures { OnOk result (Adds out.old.items out.new.items (posted_words segment name.now value)) }
+{
+    named_place(out, "segment", segment)?;
+    named(out, name, value)?;
+    Ok(())
+}
+
+// A posted value that is exceeded.
+fn over(
+    out: &mut Vec<u8>,
+    segment: u32,
+    name: &str,
+    has: u32,
+    allowed: u32,
+) -> Result<(), AllocError>
+    ensures { OnOk result (Adds out.old.items out.new.items (over_words segment name.now has allowed)) }
+{
+    posted(out, segment, name, has)?;
+    named(out, "over", allowed)?;
+    Ok(())
+}
+
+// An effect that is over its rating.
+fn effect(
+    out: &mut Vec<u8>,
+    name: &str,
+    has: Frac,
+    design: Frac,
+    rating: u32,
+) -> Result<(), AllocError>
+    ensures { OnOk result (Adds out.old.items out.new.items (λ ws. name.now ∷ ratio_text has ∷ codes "hs20" ∷ ratio_text design ∷ codes "rating" ∷ decimal rating ∷ ws)) }
+{
+    named_fraction(out, name, has)?;
+    named_fraction(out, "hs20", design)?;
+    named(out, "rating", rating)?;
+    Ok(())
+}

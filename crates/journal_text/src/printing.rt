@@ -1,0 +1,55 @@
+// The text of a history.
+
+ghost use Rattle.std.specs.Prelude.{◌≡◌, ◌∷◌, ◌++◌, codes, flat_map, IfOk, OnOk};
+ghost use Rattle.journal_text.specs.Journals.{ended, journal_of, line_of};
+
+use crate::calls::call;
+use crate::replies::reply;
+use crate::words::{digits, index_digits, word};
+use office_core::Entry;
+use office_io::NoMemory;
+use std::alloc::{AllocError, Global};
+
+/// The text of a history: a line for each entry, between a first line and an end that counts them. `NoMemory` where no
+/// memory was left.
+pub fn print(alloc: Global, history: &[Entry]) -> Result<Vec<u8>, NoMemory>
+    ensures { IfOk result (λ text. text.items ≡ journal_of history.now) }
+{
+    Ok(text(alloc, history)?)
+}
+
+#[tactic(auto, using(crate::proofs::Pieces::journal_adds))]
+fn text(alloc: Global, history: &[Entry]) -> Result<Vec<u8>, AllocError>
+    ensures { IfOk result (λ text. text.items ≡ journal_of history.now) }
+{
+    let mut out = Vec::new(alloc);
+    out.extend_from_slice(b"permit-journal 1\n")?;
+    lines(&mut out, history)?;
+    out.extend_from_slice(b"end ")?;
+    digits(&mut out, history.len() as u64)?;
+    out.push(b'\n')?;
+    Ok(out)
+}
+
+// A line for each entry.
+fn lines(out: &mut Vec<u8>, history: &[Entry]) -> Result<(), AllocError>
+    ensures { OnOk result (out.new.items ≡ out.old.items ++ flat_map (λ e. ended (line_of e)) history.now) }
+{
+    'history: for entry in history {
+        line(out, entry)?;
+    }
+    Ok(())
+}
+
+// The line of an entry.
+#[tactic(auto, using(crate::proofs::Pieces::line_adds))]
+fn line(out: &mut Vec<u8>, entry: &Entry) -> Result<(), AllocError>
+    ensures { OnOk result (out.new.items ≡ out.old.items ++ ended (line_of entry.now)) }
+{
+    index_digits(out, entry.caller)?;
+    call(out, &entry.call)?;
+    word(out, "=")?;
+    reply(out, &entry.reply)?;
+    out.push(b'\n')?;
+    Ok(())
+}
