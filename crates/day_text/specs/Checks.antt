@@ -1,0 +1,74 @@
+-- What a check file says, judged over the whole list of its records.
+use Rattle.std.specs.Prelude.{ℕ, ◌+◌, Bool, ◌&&◌, ◌||◌, nat_le, if◌then◌else◌, List, [], ◌∷◌, ◌++◌, length, codes, Result, Ok, Err}
+use Rattle.day_text.specs.Causes.{◌>>=◌, demand, limit, or_bad}
+use Rattle.day_text.specs.Fields.{field_of, number_of}
+use Rattle.day_text.specs.Records.{Row, has_kind, is_blank_from, judged, rows_of}
+use Rattle.day_text.specs.Trucks.{load_of, truck_fields_of}
+use Rattle.trip_analysis.specs.declared.base.Truck.{Truck}
+use Rattle.day_text.specs.declared.check_file.Probe.{Probe}
+use Rattle.day_text.specs.declared.check_file.CheckFile.{CheckFile}
+use Rattle.day_text.specs.declared.check_file.CheckProgress.{CheckProgress}
+use Rattle.day_text.specs.declared.check_file.CheckProgress.TheVariants as so_far
+use Rattle.day_text.specs.declared.refusal.Cause.{Cause}
+use Rattle.day_text.specs.declared.refusal.Cause.TheVariants as why
+use Rattle.day_text.specs.declared.refusal.RecordCause.TheVariants as bad
+use Rattle.day_text.specs.declared.refusal.Kind.TheVariants as kind
+
+abbrev pub is_check_kind : Row → Bool
+is_check_kind fields = has_kind (codes "truck") fields || has_kind (codes "probe") fields || has_kind (codes "end") fields
+
+-- truck,NAME,CARRIER,HEIGHT,WIDTH,LENGTH,AXLES: each cause in its order
+unfoldable pub truck_of : Row → Result Truck Cause
+truck_of fields = do
+  t ← truck_fields_of fields
+  load ← load_of t.height t.width t.length t.axles
+  Ok (record { name = t.name; carrier = t.carrier; load = load })
+
+-- probe,INCHES,RATING: the span has 1 to 6,000 in, the rating is at most 100,000 per mille, and there are at most 64
+unfoldable pub probe_of : List Probe → Row → Result Probe Cause
+probe_of probes fields = do
+  rest ← demand (is_blank_from 3 fields) bad.Extra
+  inches ← or_bad (bad.Field 2) (number_of (field_of fields 1))
+  rating ← or_bad (bad.Field 3) (number_of (field_of fields 2))
+  a ← demand (nat_le 1 inches && nat_le inches 6000) (bad.Range 2)
+  b ← demand (nat_le rating 100000) (bad.Range 3)
+  c ← limit (nat_le (length probes + 1) 64) kind.Probes
+  Ok (record { inches = inches; rating = rating })
+
+-- the first record: it is a truck
+unfoldable pub judge_truck : Row → Result CheckProgress Cause
+judge_truck fields =
+    if has_kind (codes "truck") fields then truck_of fields >>= (λ truck. Ok (so_far.Open (record { truck = truck; probes = [] })))
+    else Err (why.Bad bad.Order)
+
+-- a record behind the truck: a probe or the end
+unfoldable pub judge_probe : CheckFile → Row → Result CheckProgress Cause
+judge_probe file fields =
+    if has_kind (codes "truck") fields then Err (why.Bad bad.Order)
+    else (if has_kind (codes "probe") fields then probe_of file.probes fields >>= (λ probe. Ok (so_far.Open (record file { probes = file.probes ++ probe ∷ [] })))
+    else demand (is_blank_from 1 fields) bad.Extra >>= (λ rest. Ok (so_far.Ended file)))
+
+-- where a record of a known kind leads; nothing follows the end
+abbrev pub judge_check_kind : CheckProgress → Row → Result CheckProgress Cause
+judge_check_kind so_far.Start fields = judge_truck fields
+judge_check_kind (so_far.Open file) fields = judge_probe file fields
+judge_check_kind (so_far.Ended file) fields = Err (why.Bad bad.Order)
+
+-- where a record of eight fields leads
+abbrev pub judge_check : CheckProgress → Row → Result CheckProgress Cause
+judge_check progress fields = if is_check_kind fields then judge_check_kind progress fields else Err (why.Bad bad.Kind)
+
+-- the file, where its end was told; else the row after the last one is refused
+abbrev pub ended_check : ℕ × CheckProgress → Result CheckFile (ℕ × Cause)
+ended_check (row, so_far.Start) = Err (row, why.Bad bad.End)
+ended_check (row, so_far.Open file) = Err (row, why.Bad bad.End)
+ended_check (row, so_far.Ended file) = Ok file
+
+-- the file that was told, or the first refusal
+abbrev pub finished_check : Result (ℕ × CheckProgress) (ℕ × Cause) → Result CheckFile (ℕ × Cause)
+finished_check (Ok told) = ended_check told
+finished_check (Err refusal) = Err refusal
+
+-- the check file that the bytes are, or the first row that is refused and its cause
+abbrev pub check_of : List ℕ → Result CheckFile (ℕ × Cause)
+check_of bytes = finished_check (judged judge_check 1 so_far.Start (rows_of bytes))

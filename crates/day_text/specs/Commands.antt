@@ -1,0 +1,139 @@
+-- The records of commands: the command that each gives, or the first cause for which it is refused. A command refers to its
+-- actor, its truck and the things of the road network by the names of records before it.
+use Rattle.std.specs.Prelude.{ℕ, ◌==◌, nat_lt, List, [], ◌∷◌, ◌++◌, length, Result, Ok, Err, Option, Some, None, if◌then◌else◌}
+use Rattle.restriction_log.specs.declared.change.Change.{Change}
+use Rattle.restriction_log.specs.declared.change.Change.TheVariants as change
+use Rattle.road_graph.specs.declared.values.What.{What}
+use Rattle.road_graph.specs.declared.values.What.TheVariants.{Closed, Height, Width, Length, Gross, Allowance}
+use Rattle.road_graph.specs.Ranges.{is_limit, is_rating}
+use Rattle.road_graph.specs.Roads.{Roads, segment_names, span_names}
+use Rattle.road_graph.specs.Roads.{number_of as number_named}
+use Rattle.trip_analysis.specs.declared.application.Application.{Application}
+use Rattle.trip_analysis.specs.declared.refusal.ApplicationRefusal.{ApplicationRefusal}
+use Rattle.trip_analysis.specs.declared.refusal.ApplicationRefusal.TheVariants.{BrokenRoute, DayOrder, SamePlace}
+use Rattle.trip_analysis.specs.Applications.{application_of, application_refusal}
+use Rattle.day_text.specs.Causes.{◌>>=◌, demand, limit, or_bad}
+use Rattle.day_text.specs.Fields.{all_numbers, day_of, field_of, name_of, number_of, posted_of, route_of}
+use Rattle.day_text.specs.Fleets.{truck_names}
+use Rattle.day_text.specs.Records.{Row, is_blank_from}
+use Rattle.office_core.specs.declared.entry.Command.TheVariants as command
+use Rattle.day_text.specs.declared.commands.ApplyFields.{ApplyFields}
+use Rattle.day_text.specs.declared.draft.Draft.{Draft}
+use Rattle.day_text.specs.declared.fields.Posted.{Posted}
+use Rattle.day_text.specs.declared.fields.Posted.TheVariants as posted
+use Rattle.day_text.specs.declared.kind.CommandKind.{CommandKind}
+use Rattle.day_text.specs.declared.kind.CommandKind.TheVariants.{Apply, Post, SetDay, Show, Surrender}
+use Rattle.day_text.specs.declared.orders.Order.{Order}
+use Rattle.day_text.specs.declared.refusal.Cause.{Cause}
+use Rattle.day_text.specs.declared.refusal.Cause.TheVariants as why
+use Rattle.day_text.specs.declared.refusal.RecordCause.TheVariants as bad
+use Rattle.day_text.specs.declared.refusal.Kind.TheVariants as kind
+
+-- apply,ACTOR,TRUCK,FROM,TO,ROUTE,FIRST,LAST: the fields, each in its form
+unfoldable pub apply_fields_of : Row → Result ApplyFields Cause
+apply_fields_of fields = do
+  actor ← or_bad (bad.Field 2) (name_of (field_of fields 1))
+  truck ← or_bad (bad.Field 3) (name_of (field_of fields 2))
+  from ← or_bad (bad.Field 4) (name_of (field_of fields 3))
+  to ← or_bad (bad.Field 5) (name_of (field_of fields 4))
+  route ← or_bad (bad.Field 6) (route_of (field_of fields 5))
+  first ← or_bad (bad.Field 7) (day_of (field_of fields 6))
+  last ← or_bad (bad.Field 8) (day_of (field_of fields 7))
+  Ok (record { actor = actor; truck = truck; from = from; to = to; route = route; first = first; last = last })
+
+-- an empty route asks for none
+abbrev pub asked_of : List ℕ → Option (List ℕ)
+asked_of route = if length route == 0 then None else Some route
+
+-- an application that is not refused
+abbrev pub unless_refused : Application → Option ApplicationRefusal → Result Application Cause
+unless_refused application None = Ok application
+unless_refused application (Some SamePlace) = Err (why.Bad bad.SamePlace)
+unless_refused application (Some (BrokenRoute at)) = Err (why.Bad bad.BrokenRoute)
+unless_refused application (Some DayOrder) = Err (why.Bad bad.DayOrder)
+
+abbrev pub applied : Roads → ℕ → ℕ → ℕ → Option (List ℕ) → List ℕ → List ℕ → Result Application Cause
+applied roads truck from to asked first last =
+    unless_refused (application_of truck from to asked first last) (application_refusal roads from to asked first last)
+
+unfoldable pub apply_of : Draft → Row → Result Order Cause
+apply_of d fields = do
+  f ← apply_fields_of fields
+  actor ← or_bad (bad.Unknown 2) (number_named f.actor d.actors)
+  truck ← or_bad (bad.Unknown 3) (number_named f.truck (truck_names d.fleet))
+  from ← or_bad (bad.Unknown 4) (number_named f.from d.network.nodes)
+  to ← or_bad (bad.Unknown 5) (number_named f.to d.network.nodes)
+  route ← or_bad (bad.Unknown 6) (all_numbers (segment_names d.network.segments) f.route)
+  first ← or_bad (bad.Range 7) f.first
+  last ← or_bad (bad.Range 8) f.last
+  application ← applied d.network truck from to (asked_of route) first last
+  Ok (record { actor = actor; command = command.Apply application })
+
+-- the change that a limit of a segment is to have
+abbrev pub change_of : What → ℕ → ℕ → Change
+change_of Closed segment value = change.Closed segment (value == 1)
+change_of Height segment value = change.Height segment value
+change_of Width segment value = change.Width segment value
+change_of Length segment value = change.Length segment value
+change_of Gross segment value = change.Gross segment value
+change_of Allowance segment value = change.Allowance segment value
+
+-- a posting on a segment, or on a span where it is of a rating
+unfoldable pub posting_of : Roads → Posted → List ℕ → ℕ → Result Change Cause
+posting_of roads (posted.Limit what) item value = do
+  i ← or_bad (bad.Unknown 3) (number_named item (segment_names roads.segments))
+  a ← demand (is_limit what value) (bad.Range 5)
+  Ok (change_of what i value)
+posting_of roads posted.Rating item value = do
+  i ← or_bad (bad.Unknown 3) (number_named item (span_names roads.spans))
+  a ← demand (is_rating value) (bad.Range 5)
+  Ok (change.Rating i value)
+
+-- post,ACTOR,ITEM,WHAT,VALUE
+unfoldable pub post_of : Draft → Row → Result Order Cause
+post_of d fields = do
+  rest ← demand (is_blank_from 5 fields) bad.Extra
+  name ← or_bad (bad.Field 2) (name_of (field_of fields 1))
+  item ← or_bad (bad.Field 3) (name_of (field_of fields 2))
+  what ← or_bad (bad.Field 4) (posted_of (field_of fields 3))
+  value ← or_bad (bad.Field 5) (number_of (field_of fields 4))
+  actor ← or_bad (bad.Unknown 2) (number_named name d.actors)
+  posting ← posting_of d.network what item value
+  Ok (record { actor = actor; command = command.Post posting })
+
+-- setday,ACTOR,DAY
+unfoldable pub set_day_of : Draft → Row → Result Order Cause
+set_day_of d fields = do
+  rest ← demand (is_blank_from 3 fields) bad.Extra
+  name ← or_bad (bad.Field 2) (name_of (field_of fields 1))
+  text ← or_bad (bad.Field 3) (day_of (field_of fields 2))
+  actor ← or_bad (bad.Unknown 2) (number_named name d.actors)
+  day ← or_bad (bad.Range 3) text
+  Ok (record { actor = actor; command = command.Day day })
+
+-- surrender,ACTOR,NUMBER and show,ACTOR,NUMBER: the actor and the number of a permit
+unfoldable pub permit_of : Draft → Row → Result (ℕ × ℕ) Cause
+permit_of d fields = do
+  rest ← demand (is_blank_from 3 fields) bad.Extra
+  name ← or_bad (bad.Field 2) (name_of (field_of fields 1))
+  number ← or_bad (bad.Field 3) (number_of (field_of fields 2))
+  actor ← or_bad (bad.Unknown 2) (number_named name d.actors)
+  Ok (actor, number)
+
+abbrev pub surrender_of : Draft → Row → Result Order Cause
+surrender_of d fields = permit_of d fields >>= (λ x. Ok (record { actor = x.0; command = command.Surrender x.1 }))
+
+abbrev pub show_of : Draft → Row → Result Order Cause
+show_of d fields = permit_of d fields >>= (λ x. Ok (record { actor = x.0; command = command.Show x.1 }))
+
+-- the command of a record
+abbrev pub order_of : Draft → CommandKind → Row → Result Order Cause
+order_of d Apply fields = apply_of d fields
+order_of d Post fields = post_of d fields
+order_of d SetDay fields = set_day_of d fields
+order_of d Surrender fields = surrender_of d fields
+order_of d Show fields = show_of d fields
+
+-- one command more, of at most 4,096
+abbrev pub with_order : List Order → Order → Result (List Order) Cause
+with_order orders order = limit (nat_lt (length orders) 4096) kind.Commands >>= (λ a. Ok (orders ++ order ∷ []))

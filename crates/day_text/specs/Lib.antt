@@ -1,0 +1,12 @@
+pub mod Fields
+pub mod Causes
+pub mod Records
+pub mod Trucks
+pub mod Spans
+pub mod Checks
+pub mod Roads
+pub mod Fleets
+pub mod Kinds
+pub mod Commands
+pub mod Days
+pub mod Laws

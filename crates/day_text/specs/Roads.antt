@@ -1,0 +1,72 @@
+-- The records of the road network: what each adds, or the first cause for which it is refused.
+use Rattle.std.specs.Prelude.{not, nat_lt, length, Result, Ok}
+use Rattle.road_graph.specs.Adding.{new_segment, with_limit, with_node, with_segment, with_span}
+use Rattle.road_graph.specs.Ranges.{is_feet, is_inches, is_limit, is_rating}
+use Rattle.road_graph.specs.Roads.{Roads, has_name, segment_names, span_names, spans_of}
+use Rattle.road_graph.specs.Roads.{number_of as number_named}
+use Rattle.day_text.specs.Causes.{◌>>=◌, demand, limit, or_bad}
+use Rattle.day_text.specs.Fields.{field_of, name_of, number_of, what_of}
+use Rattle.day_text.specs.Records.{Row, is_blank_from}
+use Rattle.day_text.specs.declared.kind.RoadKind.{RoadKind}
+use Rattle.day_text.specs.declared.kind.RoadKind.TheVariants.{Limit, Node, Segment, Span}
+use Rattle.day_text.specs.declared.refusal.Cause.{Cause}
+use Rattle.day_text.specs.declared.refusal.RecordCause.TheVariants as bad
+use Rattle.day_text.specs.declared.refusal.Kind.TheVariants as kind
+
+-- node,NAME
+unfoldable pub node_of : Roads → Row → Result Roads Cause
+node_of roads fields = do
+  rest ← demand (is_blank_from 2 fields) bad.Extra
+  name ← or_bad (bad.Field 2) (name_of (field_of fields 1))
+  a ← demand (not (has_name name roads.nodes)) bad.Same
+  b ← limit (nat_lt (length roads.nodes) 4096) kind.Nodes
+  Ok (with_node roads name)
+
+-- segment,NAME,FROM,TO,FEET
+unfoldable pub segment_of : Roads → Row → Result Roads Cause
+segment_of roads fields = do
+  rest ← demand (is_blank_from 5 fields) bad.Extra
+  name ← or_bad (bad.Field 2) (name_of (field_of fields 1))
+  from ← or_bad (bad.Field 3) (name_of (field_of fields 2))
+  to ← or_bad (bad.Field 4) (name_of (field_of fields 3))
+  feet ← or_bad (bad.Field 5) (number_of (field_of fields 4))
+  a ← demand (not (has_name name (segment_names roads.segments))) bad.Same
+  i ← or_bad (bad.Unknown 3) (number_named from roads.nodes)
+  j ← or_bad (bad.Unknown 4) (number_named to roads.nodes)
+  b ← demand (is_feet feet) (bad.Range 5)
+  c ← limit (nat_lt (length roads.segments) 16384) kind.Segments
+  Ok (with_segment roads (new_segment name i j feet))
+
+-- limit,SEGMENT,WHAT,VALUE: the last record for a limit of a segment holds
+unfoldable pub limit_of : Roads → Row → Result Roads Cause
+limit_of roads fields = do
+  rest ← demand (is_blank_from 4 fields) bad.Extra
+  name ← or_bad (bad.Field 2) (name_of (field_of fields 1))
+  what ← or_bad (bad.Field 3) (what_of (field_of fields 2))
+  value ← or_bad (bad.Field 4) (number_of (field_of fields 3))
+  i ← or_bad (bad.Unknown 2) (number_named name (segment_names roads.segments))
+  a ← demand (is_limit what value) (bad.Range 4)
+  Ok (with_limit roads i what value)
+
+-- span,NAME,SEGMENT,INCHES,RATING
+unfoldable pub span_of : Roads → Row → Result Roads Cause
+span_of roads fields = do
+  rest ← demand (is_blank_from 5 fields) bad.Extra
+  name ← or_bad (bad.Field 2) (name_of (field_of fields 1))
+  segment ← or_bad (bad.Field 3) (name_of (field_of fields 2))
+  inches ← or_bad (bad.Field 4) (number_of (field_of fields 3))
+  rating ← or_bad (bad.Field 5) (number_of (field_of fields 4))
+  a ← demand (not (has_name name (span_names roads.spans))) bad.Same
+  i ← or_bad (bad.Unknown 3) (number_named segment (segment_names roads.segments))
+  b ← demand (is_inches inches) (bad.Range 4)
+  c ← demand (is_rating rating) (bad.Range 5)
+  e ← limit (nat_lt (length roads.spans) 2048) kind.Spans
+  f ← limit (nat_lt (length (spans_of roads.spans i)) 16) kind.SpansOfSegment
+  Ok (with_span roads (record { name = name; segment = i; inches = inches; rating = rating }))
+
+-- the road network after a record of it
+abbrev pub roads_of : Roads → RoadKind → Row → Result Roads Cause
+roads_of roads Node fields = node_of roads fields
+roads_of roads Segment fields = segment_of roads fields
+roads_of roads Limit fields = limit_of roads fields
+roads_of roads Span fields = span_of roads fields

@@ -1,0 +1,49 @@
+-- The record of a truck: truck,NAME,CARRIER,HEIGHT,WIDTH,LENGTH,AXLES
+use Rattle.std.specs.Prelude.{ℕ, List, Option, Some, None, Result, Ok, Err}
+use Rattle.axle_train.specs.declared.axle.Axle.{Axle}
+use Rattle.axle_train.specs.declared.refusal.TrainRefusal.{TrainRefusal}
+use Rattle.axle_train.specs.declared.refusal.TrainRefusal.TheVariants.{TooFew, TooMany, PlaceOrder, Weight, Gross, TooLong}
+use Rattle.axle_train.specs.Refusals.{refusal_of}
+use Rattle.day_text.specs.Causes.{◌>>=◌, demand, or_bad}
+use Rattle.day_text.specs.Fields.{axles_of, field_of, name_of, number_of}
+use Rattle.day_text.specs.Records.{Row, is_blank_from}
+use Rattle.clearance_rules.specs.Loads.{LoadParts, is_cross_section, is_length}
+use Rattle.day_text.specs.declared.truck.TruckFields.{TruckFields}
+use Rattle.day_text.specs.declared.refusal.Cause.{Cause}
+use Rattle.day_text.specs.declared.refusal.Cause.TheVariants as why
+use Rattle.day_text.specs.declared.refusal.RecordCause.TheVariants as bad
+
+-- the fields of the record, each in its form
+unfoldable pub truck_fields_of : Row → Result TruckFields Cause
+truck_fields_of fields = do
+  rest ← demand (is_blank_from 7 fields) bad.Extra
+  name ← or_bad (bad.Field 2) (name_of (field_of fields 1))
+  carrier ← or_bad (bad.Field 3) (name_of (field_of fields 2))
+  height ← or_bad (bad.Field 4) (number_of (field_of fields 3))
+  width ← or_bad (bad.Field 5) (number_of (field_of fields 4))
+  long ← or_bad (bad.Field 6) (number_of (field_of fields 5))
+  axles ← or_bad (bad.Field 7) (axles_of (field_of fields 6))
+  Ok (record { name = name; carrier = carrier; height = height; width = width; length = long; axles = axles })
+
+-- the number that a refused train prints
+abbrev pub train_number : TrainRefusal → ℕ
+train_number TooFew = 1
+train_number TooMany = 2
+train_number (PlaceOrder at) = 3
+train_number (Weight at) = 4
+train_number Gross = 5
+train_number TooLong = 6
+
+-- axles that are a train, or the rule that they break
+abbrev pub unless_refused : List Axle → Option TrainRefusal → Result (List Axle) Cause
+unless_refused axles None = Ok axles
+unless_refused axles (Some refusal) = Err (why.Bad (bad.Train (train_number refusal)))
+
+-- a load: each number in its range, and then the train
+unfoldable pub load_of : ℕ → ℕ → ℕ → List Axle → Result LoadParts Cause
+load_of height width long axles = do
+  a ← demand (is_cross_section height) (bad.Range 4)
+  b ← demand (is_cross_section width) (bad.Range 5)
+  c ← demand (is_length long) (bad.Range 6)
+  train ← unless_refused axles (refusal_of axles)
+  Ok (record { height = height; width = width; length = long; train = train })

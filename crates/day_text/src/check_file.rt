@@ -1,0 +1,202 @@
+// The check file: a truck to be judged, and spans to try it on.
+
+ghost use Rattle.std.specs.Prelude.{◌≡◌, ◌+◌, ◌++◌, ◌∷◌, [], Ok, IfOk, IfErr, OnOk, IsErrOf, IsErr};
+ghost use Rattle.csv.specs.Records.{fields_of};
+ghost use Rattle.day_text.specs.Spans.{AreSpans, IsSpan};
+ghost use Rattle.day_text.specs.Causes.{Judges, Tells};
+ghost use Rattle.day_text.specs.Checks.{check_of, ended_check, judge_check, judge_probe, judge_truck, probe_of, truck_of};
+
+use crate::fields::{field, parse_number};
+use crate::records::{Progress, is_blank_from, read_records};
+use crate::refusal::{Cause, DayFileRefusal, FileRefusal, Kind, RecordCause, RecordRefusal};
+use crate::truck::{load_of, parse_truck};
+use csv::StringRecord;
+use std::alloc::Global;
+use std::marker::Model;
+use trip_analysis::Truck;
+
+/// A span to try the truck on: its inches (1 to 6,000), and its rating per mille of HS20-44 (at most 100,000).
+#[derive(Clone, Copy, Debug, Drop, PartialEq, Eq)]
+pub struct Probe {
+    pub inches: u32,
+    pub rating: u32,
+}
+
+/// The probes of a check file, in order.
+#[derive(Drop)]
+pub struct Probes {
+    list: Vec<Probe>,
+}
+
+impl Model for Probes {
+    ghost use Rattle.std.specs.Prelude.{List};
+    ghost use Rattle.day_text.specs.declared.check_file.Probe.{Probe};
+    ghost use Rattle.day_text.specs.Spans.{AreSpans};
+
+    ghost Value = { List Probe };
+
+    ghost view = { λ a. a.list.items };
+
+    ghost invariant = { λ a. AreSpans a.list.items };
+}
+
+impl Probes {
+    /// No probes.
+    fn new(alloc: Global) -> Probes
+        ensures { result ≡ [] }
+    {
+        Probes {
+            list: Vec::new(alloc),
+        }
+    }
+
+    /// The probes as a slice.
+    pub fn as_slice(&self) -> &[Probe]
+        ensures value { result.now ≡ self.now }
+        ensures spans { AreSpans self.now }
+    {
+        self.list.as_slice()
+    }
+
+    /// Adds a probe at the end.
+    fn push(&mut self, probe: Probe) -> Result<(), RecordRefusal>
+        requires { IsSpan probe }
+        ensures ok { OnOk result (self.new ≡ self.old ++ probe ∷ []) }
+        ensures memory { IfErr result (λ refusal. refusal ≡ RecordRefusal.NoMemory) }
+    {
+        self.list.push(probe)?;
+        Ok(())
+    }
+}
+
+/// A check file: the truck, and the probes in the order of their records.
+#[derive(Drop)]
+pub struct CheckFile {
+    pub truck: Truck,
+    pub probes: Probes,
+}
+
+/// How far the records have come.
+#[derive(Drop)]
+pub(crate) enum CheckProgress {
+    Start,
+    Open(CheckFile),
+    Ended(CheckFile),
+}
+
+/// The check file that the bytes are. `Refused` comes exactly where they are none.
+pub fn read_check(alloc: Global, bytes: &[u8]) -> Result<CheckFile, DayFileRefusal>
+    ensures ok { IfOk result (λ file. check_of bytes.now ≡ Ok file) }
+    ensures refused { IsErrOf result DayFileRefusal.Refused → IsErr (check_of bytes.now) }
+{
+    Ok(read_check_file(alloc, bytes)?)
+}
+
+/// The check file that the bytes are, or the first record that is refused.
+pub(crate) fn read_check_file(alloc: Global, bytes: &[u8]) -> Result<CheckFile, FileRefusal>
+    ensures { Tells result (check_of bytes.now) }
+{
+    let (row, progress) = read_records(alloc, CheckProgress::Start, bytes)?;
+    progress.finish(row)
+}
+
+impl CheckProgress {
+    // The file, where its end was told. The row is that after the last.
+    fn finish(self, row: u64) -> Result<CheckFile, FileRefusal>
+        ensures { Tells result (ended_check (row, self)) }
+    {
+        match self {
+            CheckProgress::Ended(file) => Ok(file),
+            _ => Err(RecordRefusal::bad(RecordCause::End).at(row)),
+        }
+    }
+}
+
+impl Progress for CheckProgress {
+    ghost judge = { judge_check };
+
+    fn take(self, alloc: Global, row: &StringRecord) -> Result<CheckProgress, RecordRefusal> {
+        let kind = field(row, 0);
+        if kind != "truck" && kind != "probe" && kind != "end" {
+            return Err(RecordRefusal::bad(RecordCause::Kind));
+        }
+        match self {
+            CheckProgress::Start => take_truck(alloc, row),
+            CheckProgress::Open(file) => take_probe(file, row),
+            CheckProgress::Ended(_) => Err(RecordRefusal::bad(RecordCause::Order)),
+        }
+    }
+}
+
+// Where the first record leads: it is a truck.
+#[tactic(auto, unfolding(crate::specs::Checks::judge_truck, crate::specs::Checks::truck_of))]
+fn take_truck(alloc: Global, row: &StringRecord) -> Result<CheckProgress, RecordRefusal>
+    ensures { Judges result (judge_truck (fields_of row.now)) }
+{
+    if field(row, 0) != "truck" {
+        return Err(RecordRefusal::bad(RecordCause::Order));
+    }
+    let truck = parse_truck(alloc, row)?;
+    let load = load_of(
+        truck.height,
+        truck.width,
+        truck.length,
+        truck.axles.as_slice(),
+    )?;
+    Ok(CheckProgress::Open(CheckFile {
+        truck: Truck {
+            name: truck.name,
+            carrier: truck.carrier,
+            load,
+        },
+        probes: Probes::new(alloc),
+    }))
+}
+
+// Where a record behind the truck leads: it is a probe or the end.
+#[tactic(auto, unfolding(crate::specs::Checks::judge_probe))]
+fn take_probe(file: CheckFile, row: &StringRecord) -> Result<CheckProgress, RecordRefusal>
+    ensures { Judges result (judge_probe file (fields_of row.now)) }
+{
+    let kind = field(row, 0);
+    if kind == "truck" {
+        return Err(RecordRefusal::bad(RecordCause::Order));
+    }
+    let CheckFile { truck, mut probes } = file;
+    if kind == "probe" {
+        let probe = parse_probe(&probes, row)?;
+        probes.push(probe)?;
+        return Ok(CheckProgress::Open(CheckFile { truck, probes }));
+    }
+    if !is_blank_from(row, 1) {
+        return Err(RecordRefusal::bad(RecordCause::Extra));
+    }
+    Ok(CheckProgress::Ended(CheckFile { truck, probes }))
+}
+
+// The probe of a record, behind those that are there.
+#[tactic(auto, unfolding(crate::specs::Checks::probe_of))]
+fn parse_probe(probes: &Probes, row: &StringRecord) -> Result<Probe, RecordRefusal>
+    ensures judged { Judges result (probe_of probes.now (fields_of row.now)) }
+    ensures span { IfOk result (λ probe. IsSpan probe) }
+{
+    if !is_blank_from(row, 3) {
+        return Err(RecordRefusal::bad(RecordCause::Extra));
+    }
+    let Some(inches) = parse_number(field(row, 1)) else {
+        return Err(RecordRefusal::bad(RecordCause::Field(2)));
+    };
+    let Some(rating) = parse_number(field(row, 2)) else {
+        return Err(RecordRefusal::bad(RecordCause::Field(3)));
+    };
+    if inches < 1 || inches > 6000 {
+        return Err(RecordRefusal::bad(RecordCause::Range(2)));
+    }
+    if rating > 100_000 {
+        return Err(RecordRefusal::bad(RecordCause::Range(3)));
+    }
+    if probes.as_slice().len() >= 64 {
+        return Err(RecordRefusal::too_many(Kind::Probes));
+    }
+    Ok(Probe { inches, rating })
+}

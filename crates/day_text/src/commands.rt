@@ -1,0 +1,348 @@
+// The records of commands.
+
+ghost use Rattle.std.specs.Prelude.{◌≡◌, ◌<◌, All, IfOk, IfSome, length};
+ghost use Rattle.csv.specs.Records.{fields_of};
+ghost use Rattle.road_graph.specs.Roads.{segment_names};
+ghost use Rattle.trip_analysis.specs.Applications.{AreAskedThere, AreThere};
+ghost use Rattle.day_text.specs.Causes.{Judges};
+ghost use Rattle.day_text.specs.Fields.{all_numbers};
+ghost use Rattle.day_text.specs.Commands.{applied, apply_fields_of, apply_of, asked_of, change_of, order_of, permit_of, post_of, posting_of, set_day_of, show_of, surrender_of};
+
+use crate::draft::Draft;
+use crate::fields::{
+    Posted, Route, field, parse_day, parse_name, parse_number, parse_posted, parse_route,
+};
+use crate::kind::CommandKind;
+use crate::orders::Order;
+use crate::records::is_blank_from;
+use crate::refusal::{RecordCause, RecordRefusal};
+use csv::StringRecord;
+use office_core::Command;
+use office_io::Name;
+use permit_days::Day;
+use restriction_log::Change;
+use road_graph::{Network, Numbers, Span, What};
+use std::alloc::Global;
+use trip_analysis::{Application, ApplicationRefusal};
+
+/// The fields of an application's record, each in its form. A day that the calendar lacks is none.
+#[derive(Drop)]
+pub(crate) struct ApplyFields {
+    pub actor: Name,
+    pub truck: Name,
+    pub from: Name,
+    pub to: Name,
+    pub route: Route,
+    pub first: Option<Day>,
+    pub last: Option<Day>,
+}
+
+/// The command of a record, for its actor.
+pub(crate) fn parse_order(
+    alloc: Global,
+    draft: &Draft,
+    kind: CommandKind,
+    row: &StringRecord,
+) -> Result<Order, RecordRefusal>
+    ensures { Judges result (order_of draft.now kind (fields_of row.now)) }
+{
+    match kind {
+        CommandKind::Apply => parse_apply(alloc, draft, row),
+        CommandKind::Post => parse_post(draft, row),
+        CommandKind::SetDay => parse_set_day(draft, row),
+        CommandKind::Surrender => parse_surrender(draft, row),
+        CommandKind::Show => parse_show(draft, row),
+    }
+}
+
+// The application of a record, for its actor.
+#[tactic(auto, unfolding(crate::specs::Commands::apply_of))]
+fn parse_apply(alloc: Global, draft: &Draft, row: &StringRecord) -> Result<Order, RecordRefusal>
+    ensures { Judges result (apply_of draft.now (fields_of row.now)) }
+{
+    let fields = parse_apply_fields(alloc, row)?;
+    let Some(actor) = draft.actors.number(&fields.actor) else {
+        return Err(RecordRefusal::bad(RecordCause::Unknown(2)));
+    };
+    let Some(truck) = draft.fleet.number(&fields.truck) else {
+        return Err(RecordRefusal::bad(RecordCause::Unknown(3)));
+    };
+    let Some(from) = draft.network.node_named(&fields.from) else {
+        return Err(RecordRefusal::bad(RecordCause::Unknown(4)));
+    };
+    let Some(to) = draft.network.node_named(&fields.to) else {
+        return Err(RecordRefusal::bad(RecordCause::Unknown(5)));
+    };
+    let Some(route) = numbers_of(alloc, &draft.network, fields.route.as_slice())? else {
+        return Err(RecordRefusal::bad(RecordCause::Unknown(6)));
+    };
+    let Some(first) = fields.first else {
+        return Err(RecordRefusal::bad(RecordCause::Range(7)));
+    };
+    let Some(last) = fields.last else {
+        return Err(RecordRefusal::bad(RecordCause::Range(8)));
+    };
+    let asked = asked_of(&draft.network, route);
+    let application = apply(&draft.network, truck, from, to, asked, first, last)?;
+    Ok(Order {
+        actor,
+        command: Command::Apply(application),
+    })
+}
+
+// The posting of a record, for its actor.
+#[tactic(auto, unfolding(crate::specs::Commands::post_of))]
+fn parse_post(draft: &Draft, row: &StringRecord) -> Result<Order, RecordRefusal>
+    ensures { Judges result (post_of draft.now (fields_of row.now)) }
+{
+    if !is_blank_from(row, 5) {
+        return Err(RecordRefusal::bad(RecordCause::Extra));
+    }
+    let Some(actor) = parse_name(field(row, 1)) else {
+        return Err(RecordRefusal::bad(RecordCause::Field(2)));
+    };
+    let Some(item) = parse_name(field(row, 2)) else {
+        return Err(RecordRefusal::bad(RecordCause::Field(3)));
+    };
+    let Some(what) = parse_posted(field(row, 3)) else {
+        return Err(RecordRefusal::bad(RecordCause::Field(4)));
+    };
+    let Some(value) = parse_number(field(row, 4)) else {
+        return Err(RecordRefusal::bad(RecordCause::Field(5)));
+    };
+    let Some(actor) = draft.actors.number(&actor) else {
+        return Err(RecordRefusal::bad(RecordCause::Unknown(2)));
+    };
+    let change = posting(&draft.network, what, &item, value)?;
+    Ok(Order {
+        actor,
+        command: Command::Post(change),
+    })
+}
+
+// The setting of the day of a record, for its actor.
+#[tactic(auto, unfolding(crate::specs::Commands::set_day_of))]
+fn parse_set_day(draft: &Draft, row: &StringRecord) -> Result<Order, RecordRefusal>
+    ensures { Judges result (set_day_of draft.now (fields_of row.now)) }
+{
+    if !is_blank_from(row, 3) {
+        return Err(RecordRefusal::bad(RecordCause::Extra));
+    }
+    let Some(actor) = parse_name(field(row, 1)) else {
+        return Err(RecordRefusal::bad(RecordCause::Field(2)));
+    };
+    let Some(day) = parse_day(field(row, 2)) else {
+        return Err(RecordRefusal::bad(RecordCause::Field(3)));
+    };
+    let Some(actor) = draft.actors.number(&actor) else {
+        return Err(RecordRefusal::bad(RecordCause::Unknown(2)));
+    };
+    let Some(day) = day else {
+        return Err(RecordRefusal::bad(RecordCause::Range(3)));
+    };
+    Ok(Order {
+        actor,
+        command: Command::Day(day),
+    })
+}
+
+// The surrender of a record, for its actor.
+fn parse_surrender(draft: &Draft, row: &StringRecord) -> Result<Order, RecordRefusal>
+    ensures { Judges result (surrender_of draft.now (fields_of row.now)) }
+{
+    let (actor, number) = parse_permit(draft, row)?;
+    Ok(Order {
+        actor,
+        command: Command::Surrender(number),
+    })
+}
+
+// The showing of a record, for its actor.
+fn parse_show(draft: &Draft, row: &StringRecord) -> Result<Order, RecordRefusal>
+    ensures { Judges result (show_of draft.now (fields_of row.now)) }
+{
+    let (actor, number) = parse_permit(draft, row)?;
+    Ok(Order {
+        actor,
+        command: Command::Show(number),
+    })
+}
+
+// The fields of an application's record.
+#[tactic(auto, unfolding(crate::specs::Commands::apply_fields_of))]
+fn parse_apply_fields(alloc: Global, row: &StringRecord) -> Result<ApplyFields, RecordRefusal>
+    ensures { Judges result (apply_fields_of (fields_of row.now)) }
+{
+    let Some(actor) = parse_name(field(row, 1)) else {
+        return Err(RecordRefusal::bad(RecordCause::Field(2)));
+    };
+    let Some(truck) = parse_name(field(row, 2)) else {
+        return Err(RecordRefusal::bad(RecordCause::Field(3)));
+    };
+    let Some(from) = parse_name(field(row, 3)) else {
+        return Err(RecordRefusal::bad(RecordCause::Field(4)));
+    };
+    let Some(to) = parse_name(field(row, 4)) else {
+        return Err(RecordRefusal::bad(RecordCause::Field(5)));
+    };
+    let Some(route) = parse_route(alloc, field(row, 5))? else {
+        return Err(RecordRefusal::bad(RecordCause::Field(6)));
+    };
+    let Some(first) = parse_day(field(row, 6)) else {
+        return Err(RecordRefusal::bad(RecordCause::Field(7)));
+    };
+    let Some(last) = parse_day(field(row, 7)) else {
+        return Err(RecordRefusal::bad(RecordCause::Field(8)));
+    };
+    Ok(ApplyFields {
+        actor,
+        truck,
+        from,
+        to,
+        route,
+        first,
+        last,
+    })
+}
+
+// The numbers of the segments of a route, where all are there.
+fn numbers_of(
+    alloc: Global,
+    network: &Network,
+    route: &[Name],
+) -> Result<Option<Numbers>, RecordRefusal>
+    ensures numbers { Judges result (Ok (all_numbers (segment_names network.now.segments) route.now)) }
+    ensures there { IfOk result (λ found. IfSome found (λ numbers. All (λ s. s < length network.now.segments) numbers)) }
+{
+    let mut list = Vec::new(alloc);
+    'route: for name in route {
+        let Some(number) = network.segment_named(name) else {
+            return Ok(None);
+        };
+        list.push(number)?;
+    }
+    Ok(Some(Numbers::of(list)))
+}
+
+// The route that is asked for; an empty one asks for none.
+fn asked_of(network: &Network, route: Numbers) -> Option<Numbers>
+    requires { All (λ s. s < length network.now.segments) route }
+    ensures value { result ≡ asked_of route }
+    ensures there { AreAskedThere network.now result }
+{
+    if route.as_slice().is_empty() {
+        None
+    } else {
+        Some(route)
+    }
+}
+
+// The application, where it is sound.
+fn apply(
+    network: &Network,
+    truck: u32,
+    from: u32,
+    to: u32,
+    asked: Option<Numbers>,
+    first: Day,
+    last: Day,
+) -> Result<Application, RecordRefusal>
+    requires { AreThere network.now from to asked }
+    ensures { Judges result (applied network.now truck from to asked first last) }
+{
+    match Application::on(network, truck, from, to, asked, first, last) {
+        Ok(application) => Ok(application),
+        Err(ApplicationRefusal::SamePlace) => Err(RecordRefusal::bad(RecordCause::SamePlace)),
+        Err(ApplicationRefusal::BrokenRoute { .. }) => Err(RecordRefusal::bad(
+            RecordCause::BrokenRoute,
+        )),
+        Err(ApplicationRefusal::DayOrder) => Err(RecordRefusal::bad(RecordCause::DayOrder)),
+    }
+}
+
+// The change that a posting makes.
+#[tactic(auto, unfolding(crate::specs::Commands::posting_of))]
+fn posting(
+    network: &Network,
+    what: Posted,
+    item: &Name,
+    value: u32,
+) -> Result<Change, RecordRefusal>
+    ensures { Judges result (posting_of network.now what item.now value) }
+{
+    match what {
+        Posted::Limit(what) => {
+            let Some(segment) = network.segment_named(item) else {
+                return Err(RecordRefusal::bad(RecordCause::Unknown(3)));
+            };
+            if !what.takes(value) {
+                return Err(RecordRefusal::bad(RecordCause::Range(5)));
+            }
+            Ok(change_of(what, segment, value))
+        }
+        Posted::Rating => {
+            let Some(span) = network.span_named(item) else {
+                return Err(RecordRefusal::bad(RecordCause::Unknown(3)));
+            };
+            if !Span::takes_rating(value) {
+                return Err(RecordRefusal::bad(RecordCause::Range(5)));
+            }
+            Ok(Change::Rating {
+                span,
+                permille: value,
+            })
+        }
+    }
+}
+
+// The change of a limit of a segment.
+fn change_of(what: What, segment: u32, value: u32) -> Change
+    ensures { result ≡ change_of what segment value }
+{
+    match what {
+        What::Closed => Change::Closed {
+            segment,
+            closed: value == 1,
+        },
+        What::Height => Change::Height {
+            segment,
+            inches: value,
+        },
+        What::Width => Change::Width {
+            segment,
+            inches: value,
+        },
+        What::Length => Change::Length {
+            segment,
+            inches: value,
+        },
+        What::Gross => Change::Gross {
+            segment,
+            pounds: value,
+        },
+        What::Allowance => Change::Allowance {
+            segment,
+            permille: value,
+        },
+    }
+}
+
+// The actor and the permit's number of a record.
+#[tactic(auto, unfolding(crate::specs::Commands::permit_of))]
+fn parse_permit(draft: &Draft, row: &StringRecord) -> Result<(u32, u32), RecordRefusal>
+    ensures { Judges result (permit_of draft.now (fields_of row.now)) }
+{
+    if !is_blank_from(row, 3) {
+        return Err(RecordRefusal::bad(RecordCause::Extra));
+    }
+    let Some(actor) = parse_name(field(row, 1)) else {
+        return Err(RecordRefusal::bad(RecordCause::Field(2)));
+    };
+    let Some(number) = parse_number(field(row, 2)) else {
+        return Err(RecordRefusal::bad(RecordCause::Field(3)));
+    };
+    let Some(actor) = draft.actors.number(&actor) else {
+        return Err(RecordRefusal::bad(RecordCause::Unknown(2)));
+    };
+    Ok((actor, number))
+}

@@ -1,0 +1,117 @@
+// The day file: a road network, trucks, actors and the commands of a day.
+
+ghost use Rattle.std.specs.Prelude.{◌≡◌, Ok, IfErr, IfOk, IsErrOf, IsErr};
+ghost use Rattle.day_text.specs.Causes.{Tells};
+ghost use Rattle.day_text.specs.Days.{day_of, ended_day, parts_of};
+ghost use Rattle.day_text.specs.Laws.{IsDayFile};
+
+use crate::draft::Draft;
+use crate::orders::Order;
+use crate::progress::DayProgress;
+use crate::records::read_records;
+use crate::refusal::{DayFileRefusal, FileRefusal, RecordCause, RecordRefusal};
+use office_io::Name;
+use permit_days::Day;
+use std::alloc::Global;
+use std::marker::Model;
+use trip_analysis::Base;
+
+/// A day file. Nodes, segments, spans, trucks, actors and commands are numbered from 0 in the order of their records.
+#[derive(Drop)]
+pub struct DayFile {
+    base: Base,
+    day: Day,
+    actors: Vec<Name>,
+    commands: Vec<Order>,
+}
+
+impl Model for DayFile {
+    ghost use Rattle.day_text.specs.Days.{DayParts};
+
+    ghost Value = { DayParts };
+
+    ghost view = { λ a. record { base = a.base; day = a.day; actors = a.actors.items; commands = a.commands.items } };
+}
+
+impl DayFile {
+    /// The roads and the trucks.
+    pub fn base(&self) -> &Base
+        ensures { result.now ≡ self.now.base }
+    {
+        &self.base
+    }
+
+    /// The opening day.
+    pub fn day(&self) -> Day
+        ensures { result ≡ self.now.day }
+    {
+        self.day
+    }
+
+    /// The actors.
+    pub fn actors(&self) -> &[Name]
+        ensures { result.now ≡ self.now.actors }
+    {
+        self.actors.as_slice()
+    }
+
+    /// The commands, in the order of their records.
+    pub fn commands(&self) -> &[Order]
+        ensures { result.now ≡ self.now.commands }
+    {
+        self.commands.as_slice()
+    }
+
+    /// The roads and the trucks, the opening day, the actors and the commands. Takes no memory.
+    pub fn into_parts(self) -> (Base, Day, Vec<Name>, Vec<Order>)
+        ensures base { result.0 ≡ self.base }
+        ensures day { result.1 ≡ self.day }
+        ensures actors { result.2.items ≡ self.actors }
+        ensures commands { result.3.items ≡ self.commands }
+    {
+        (self.base, self.day, self.actors, self.commands)
+    }
+}
+
+/// The day file that the bytes are. `Refused` comes exactly where they are none.
+pub fn read_day(alloc: Global, bytes: &[u8]) -> Result<DayFile, DayFileRefusal>
+    ensures ok { IfOk result (λ file. day_of bytes.now ≡ Ok file) }
+    ensures keeps { IfOk result (λ file. IsDayFile file) }
+    ensures refused { IsErrOf result DayFileRefusal.Refused → IsErr (day_of bytes.now) }
+{
+    Ok(read_day_file(alloc, bytes)?)
+}
+
+/// The day file that the bytes are, or the first record that is refused.
+pub(crate) fn read_day_file(alloc: Global, bytes: &[u8]) -> Result<DayFile, FileRefusal>
+    ensures { Tells result (day_of bytes.now) }
+{
+    let (row, progress) = read_records(alloc, DayProgress::Start, bytes)?;
+    finish(alloc, progress, row)
+}
+
+// The file, where its end was told. The row is that after the last.
+fn finish(alloc: Global, progress: DayProgress, row: u64) -> Result<DayFile, FileRefusal>
+    ensures { Tells result (ended_day (row, progress)) }
+{
+    match progress {
+        DayProgress::Ended(draft) => close(alloc, draft),
+        _ => Err(RecordRefusal::bad(RecordCause::End).at(row)),
+    }
+}
+
+// The file of a draft.
+fn close(alloc: Global, draft: Draft) -> Result<DayFile, FileRefusal>
+    ensures file { IfOk result (λ file. file ≡ parts_of draft) }
+    ensures memory { IfErr result (λ refusal. refusal ≡ FileRefusal.NoMemory) }
+{
+    match draft.actors.to_vec(alloc) {
+        Ok(actors) => Ok(DayFile {
+            base: Base::new(draft.network, draft.fleet.into_vec()),
+            day: draft.day,
+            actors,
+            commands: draft.orders.into_vec(),
+        }),
+        Err(_) => Err(FileRefusal::NoMemory),
+    }
+}

@@ -1,0 +1,35 @@
+//! The files that the office reads: a day file, with a road network, trucks, actors and the commands of a day, and a check
+//! file, with one truck to be judged and the spans to try it on.
+//!
+//! Both are records of eight comma-separated fields (RFC 4180), read by the crate `csv`. Their kinds, forms and ranges, and
+//! the order in which a record's causes of refusal are tested, are this project's own.
+//!
+//! To the crate above it promises that a file is accepted exactly where the definition, which judges the whole list of its
+//! records, accepts it, and that what is handed out is the file of that definition; and that each command of a day file is
+//! from an actor of the file, and each application sound for its roads and trucks. Inside, each step is proved against the
+//! exact cause and row.
+#![tactic(auto)]
+
+mod check_file;
+mod commands;
+mod day_file;
+mod draft;
+mod fields;
+mod fleet;
+mod kind;
+mod members;
+mod names;
+mod orders;
+mod progress;
+mod records;
+mod refusal;
+mod roads;
+mod truck;
+
+pub use check_file::{CheckFile, Probe, Probes, read_check};
+pub use day_file::{DayFile, read_day};
+pub use orders::Order;
+pub use refusal::DayFileRefusal;
+
+#[cfg(test)]
+mod tests;

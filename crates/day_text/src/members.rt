@@ -1,0 +1,71 @@
+// The records of trucks and actors.
+
+ghost use Rattle.std.specs.Prelude.{◌≡◌};
+ghost use Rattle.csv.specs.Records.{fields_of};
+ghost use Rattle.day_text.specs.Causes.{Grows};
+ghost use Rattle.day_text.specs.Fleets.{actors_of, fleet_of};
+
+use crate::fields::{field, parse_name};
+use crate::fleet::Fleet;
+use crate::names::Names;
+use crate::records::is_blank_from;
+use crate::refusal::{Kind, RecordCause, RecordRefusal};
+use crate::truck::{load_of, parse_truck};
+use csv::StringRecord;
+use std::alloc::Global;
+use trip_analysis::Truck;
+
+/// The most trucks of a day file.
+const MOST_TRUCKS: usize = 64;
+
+/// The most actors of a day file, as long as an office is run by one caller.
+const MOST_ACTORS: usize = 1;
+
+/// Adds the truck of a record.
+#[tactic(auto, unfolding(crate::specs::Fleets::fleet_of))]
+pub(crate) fn add_truck(
+    alloc: Global,
+    fleet: &mut Fleet,
+    row: &StringRecord,
+) -> Result<(), RecordRefusal>
+    ensures { Grows result fleet.new (fleet_of fleet.old (fields_of row.now)) }
+{
+    let truck = parse_truck(alloc, row)?;
+    if fleet.has(&truck.name) {
+        return Err(RecordRefusal::bad(RecordCause::Same));
+    }
+    let load = load_of(
+        truck.height,
+        truck.width,
+        truck.length,
+        truck.axles.as_slice(),
+    )?;
+    if fleet.len() >= MOST_TRUCKS {
+        return Err(RecordRefusal::too_many(Kind::Trucks));
+    }
+    fleet.push(Truck {
+        name: truck.name,
+        carrier: truck.carrier,
+        load,
+    })
+}
+
+/// Adds the actor of a record.
+#[tactic(auto, unfolding(crate::specs::Fleets::actors_of))]
+pub(crate) fn add_actor(actors: &mut Names, row: &StringRecord) -> Result<(), RecordRefusal>
+    ensures { Grows result actors.new (actors_of actors.old (fields_of row.now)) }
+{
+    if !is_blank_from(row, 2) {
+        return Err(RecordRefusal::bad(RecordCause::Extra));
+    }
+    let Some(name) = parse_name(field(row, 1)) else {
+        return Err(RecordRefusal::bad(RecordCause::Field(2)));
+    };
+    if actors.has(&name) {
+        return Err(RecordRefusal::bad(RecordCause::Same));
+    }
+    if actors.len() >= MOST_ACTORS {
+        return Err(RecordRefusal::too_many(Kind::Actors));
+    }
+    actors.push(name)
+}

@@ -1,0 +1,156 @@
+// Where each record of a day file leads.
+
+ghost use Rattle.std.specs.Prelude.{◌≡◌};
+ghost use Rattle.csv.specs.Records.{fields_of};
+ghost use Rattle.day_text.specs.Causes.{Judges};
+ghost use Rattle.day_text.specs.Days.{going_on, judge_day, judge_later, judge_opening, opening_of, with_actor, with_command, with_road, with_truck};
+
+use crate::commands::parse_order;
+use crate::draft::Draft;
+use crate::fields::{field, parse_day};
+use crate::fleet::Fleet;
+use crate::kind::{CommandKind, RecordKind, RoadKind, parse_kind};
+use crate::members::{add_actor, add_truck};
+use crate::names::Names;
+use crate::orders::Orders;
+use crate::records::{Progress, is_blank_from};
+use crate::refusal::{RecordCause, RecordRefusal};
+use crate::roads::add_road;
+use csv::StringRecord;
+use permit_days::Day;
+use road_graph::Network;
+use std::alloc::Global;
+
+/// How far the records have come.
+#[derive(Drop)]
+pub(crate) enum DayProgress {
+    Start,
+    Open(Draft),
+    Ended(Draft),
+}
+
+impl Progress for DayProgress {
+    ghost judge = { judge_day };
+
+    fn take(self, alloc: Global, row: &StringRecord) -> Result<DayProgress, RecordRefusal> {
+        let Some(kind) = parse_kind(field(row, 0)) else {
+            return Err(RecordRefusal::bad(RecordCause::Kind));
+        };
+        match self {
+            DayProgress::Start => take_opening(alloc, kind, row),
+            DayProgress::Open(draft) => take_later(alloc, draft, kind, row),
+            DayProgress::Ended(_) => Err(RecordRefusal::bad(RecordCause::Order)),
+        }
+    }
+}
+
+// Where the first record leads: it is a day.
+fn take_opening(
+    alloc: Global,
+    kind: RecordKind,
+    row: &StringRecord,
+) -> Result<DayProgress, RecordRefusal>
+    ensures { Judges result (judge_opening kind (fields_of row.now)) }
+{
+    match kind {
+        RecordKind::Day => {
+            let day = parse_opening(row)?;
+            Ok(DayProgress::Open(Draft {
+                network: Network::new(alloc),
+                day,
+                fleet: Fleet::new(alloc),
+                actors: Names::new(alloc),
+                orders: Orders::new(alloc),
+            }))
+        }
+        _ => Err(RecordRefusal::bad(RecordCause::Order)),
+    }
+}
+
+// The opening day of a record.
+#[tactic(auto, unfolding(crate::specs::Days::opening_of))]
+fn parse_opening(row: &StringRecord) -> Result<Day, RecordRefusal>
+    ensures { Judges result (opening_of (fields_of row.now)) }
+{
+    if !is_blank_from(row, 2) {
+        return Err(RecordRefusal::bad(RecordCause::Extra));
+    }
+    let Some(day) = parse_day(field(row, 1)) else {
+        return Err(RecordRefusal::bad(RecordCause::Field(2)));
+    };
+    match day {
+        Some(day) => Ok(day),
+        None => Err(RecordRefusal::bad(RecordCause::Range(2))),
+    }
+}
+
+// Where a record behind the day leads.
+fn take_later(
+    alloc: Global,
+    draft: Draft,
+    kind: RecordKind,
+    row: &StringRecord,
+) -> Result<DayProgress, RecordRefusal>
+    ensures { Judges result (judge_later draft kind (fields_of row.now)) }
+{
+    match kind {
+        RecordKind::Day => Err(RecordRefusal::bad(RecordCause::Order)),
+        RecordKind::Road(kind) => take_road(draft, kind, row),
+        RecordKind::Truck => take_truck(alloc, draft, row),
+        RecordKind::Actor => take_actor(draft, row),
+        RecordKind::Command(kind) => take_command(alloc, draft, kind, row),
+        RecordKind::End => take_end(draft, row),
+    }
+}
+
+// Where a record of the road network leads.
+fn take_road(draft: Draft, kind: RoadKind, row: &StringRecord) -> Result<DayProgress, RecordRefusal>
+    ensures { Judges result (going_on (with_road draft kind (fields_of row.now))) }
+{
+    let mut draft = draft;
+    add_road(&mut draft.network, kind, row)?;
+    Ok(DayProgress::Open(draft))
+}
+
+// Where the record of a truck leads.
+fn take_truck(alloc: Global, draft: Draft, row: &StringRecord) -> Result<DayProgress, RecordRefusal>
+    ensures { Judges result (going_on (with_truck draft (fields_of row.now))) }
+{
+    let mut draft = draft;
+    add_truck(alloc, &mut draft.fleet, row)?;
+    Ok(DayProgress::Open(draft))
+}
+
+// Where the record of an actor leads.
+fn take_actor(draft: Draft, row: &StringRecord) -> Result<DayProgress, RecordRefusal>
+    ensures { Judges result (going_on (with_actor draft (fields_of row.now))) }
+{
+    let mut draft = draft;
+    add_actor(&mut draft.actors, row)?;
+    Ok(DayProgress::Open(draft))
+}
+
+// Where the record of a command leads.
+fn take_command(
+    alloc: Global,
+    draft: Draft,
+    kind: CommandKind,
+    row: &StringRecord,
+) -> Result<DayProgress, RecordRefusal>
+    ensures { Judges result (going_on (with_command draft kind (fields_of row.now))) }
+{
+    let mut draft = draft;
+    let order = parse_order(alloc, &draft, kind, row)?;
+    draft.orders.push(order)?;
+    Ok(DayProgress::Open(draft))
+}
+
+// Where the end leads.
+fn take_end(draft: Draft, row: &StringRecord) -> Result<DayProgress, RecordRefusal>
+    ensures { Judges result (judge_later draft RecordKind.End (fields_of row.now)) }
+{
+    if !is_blank_from(row, 1) {
+        return Err(RecordRefusal::bad(RecordCause::Extra));
+    }
+    Ok(DayProgress::Ended(draft))
+}

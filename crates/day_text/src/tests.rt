@@ -1,0 +1,430 @@
+use crate::check_file::read_check_file;
+use crate::day_file::read_day_file;
+use crate::refusal::{Cause, FileRefusal, Kind, RecordCause};
+use crate::{DayFileRefusal, read_check, read_day};
+use office_core::Command;
+use std::alloc::Global;
+use std::process::Abort;
+use std::test::Fail;
+
+// A load as high as the one road is posted.
+const ISSUED: &str =
+    "day,2026-03-02,,,,,,\nnode,A,,,,,,\nnode,B,,,,,,\nsegment,S1,A,B,5000,,,\nlimit,S1,height,168,,,,\ntruck,T1,ACME,168,102,720,0:12000 180:17000 228:17000,\nactor,ann,,,,,,\napply,ann,T1,A,B,,2026-03-02,2026-03-06\nend,,,,,,,\n";
+
+// Two permits, and a posting that recalls one.
+const RECALLED: &str =
+    "day,2026-03-02,,,,,,\nnode,A,,,,,,\nnode,B,,,,,,\nsegment,S1,A,B,5000,,,\nlimit,S1,height,168,,,,\ntruck,T1,ACME,168,102,720,0:12000 180:17000 228:17000,\ntruck,T2,BOLT,150,110,720,0:12000 180:17000 228:17000,\nactor,ann,,,,,,\napply,ann,T1,A,B,,2026-03-02,2026-03-06\napply,ann,T2,A,B,,2026-03-02,2026-03-06\npost,ann,S1,height,167,,,\nshow,ann,1,,,,,\npost,ann,S1,height,167,,,\nend,,,,,,,\n";
+
+// A closed road, and a node to which none leads.
+const CLOSED: &str =
+    "day,2026-03-02,,,,,,\nnode,A,,,,,,\nnode,B,,,,,,\nnode,C,,,,,,\nsegment,S1,A,C,5000,,,\nlimit,S1,closed,1,,,,\ntruck,T1,ACME,168,102,720,0:12000 180:17000 228:17000,\nactor,ann,,,,,,\napply,ann,T1,A,B,,2026-03-02,2026-03-06\napply,ann,T1,A,C,,2026-03-02,2026-03-06\napply,ann,T1,A,C,S1,2026-03-02,2026-03-06\nend,,,,,,,\n";
+
+// A day set back, a permit given back twice, and one that is not there.
+const SURRENDERED: &str =
+    "day,2026-03-02,,,,,,\nnode,A,,,,,,\nnode,B,,,,,,\nsegment,S1,A,B,5000,,,\nlimit,S1,height,168,,,,\ntruck,T1,ACME,168,102,720,0:12000 180:17000 228:17000,\nactor,ann,,,,,,\napply,ann,T1,A,B,,2026-03-02,2026-03-06\nsetday,ann,2026-03-01,,,,,\nsurrender,ann,1,,,,,\nsurrender,ann,1,,,,,\nshow,ann,0,,,,,\nend,,,,,,,\n";
+
+// The truck of the Federal Highway Administration on a road with an allowance.
+const ALLOWED: &str =
+    "day,2026-03-02,,,,,,\nnode,A,,,,,,\nnode,B,,,,,,\nsegment,S1,A,B,5000,,,\nlimit,S1,allowance,1038,,,,\ntruck,FHWA,ACME,162,102,720,0:12000 192:17000 240:17000 564:17000 612:17000,\nactor,ann,,,,,,\napply,ann,FHWA,A,B,,2026-03-02,2026-03-06\nend,,,,,,,\n";
+
+// The HS20-44 truck on a bridge of 20 ft that is rated for it, and then is not.
+const RATED: &str =
+    "day,2026-03-02,,,,,,\nnode,A,,,,,,\nnode,B,,,,,,\nsegment,S1,A,B,5000,,,\nspan,B1,S1,240,1000,,,\ntruck,HS20,ACME,150,102,500,0:8000 168:32000 336:32000,\nactor,ann,,,,,,\napply,ann,HS20,A,B,,2026-03-02,2026-03-06\npost,ann,B1,rating,999,,,\napply,ann,HS20,A,B,,2026-03-02,2026-03-06\nend,,,,,,,\n";
+
+// Nine records: three nodes, two segments one behind the other, a span, a truck and an actor.
+const BEGUN: &str =
+    "day,2026-03-02,,,,,,\nnode,A,,,,,,\nnode,B,,,,,,\nnode,C,,,,,,\nsegment,S,A,B,5,,,\nsegment,T,B,C,5,,,\nspan,P,S,240,1000,,,\ntruck,K,ACME,168,102,720,0:1 180:1,\nactor,ann,,,,,,\n";
+
+#[test]
+fn takes_the_worked_days(rt: HostRuntime) -> Result<(), Fail> {
+    for (text, nodes, segments, spans, trucks, commands) in [
+        (ISSUED, 2, 1, 0, 1, 1),
+        (RECALLED, 2, 1, 0, 2, 5),
+        (CLOSED, 3, 1, 0, 1, 3),
+        (SURRENDERED, 2, 1, 0, 1, 5),
+        (ALLOWED, 2, 1, 0, 1, 1),
+        (RATED, 2, 1, 1, 1, 3),
+    ] {
+        let file = read_day(rt.alloc(), text.as_bytes())?;
+        assert_eq!(rt; file.day().text().as_slice(), b"2026-03-02".as_slice());
+        assert_eq!(rt; file.actors().len(), 1);
+        assert_eq!(rt; file.base().network().nodes(), nodes);
+        let (base, _, _, orders) = file.into_parts();
+        assert_eq!(rt; base.network().segments(), segments);
+        assert_eq!(rt; base.network().spans(), spans);
+        assert_eq!(rt; base.fleet().len(), trucks);
+        assert_eq!(rt; orders.len(), commands);
+    }
+    Ok(())
+}
+
+// The kinds of the commands of a day, in their order, each by a letter.
+#[test]
+fn keeps_the_commands_in_order(rt: HostRuntime) -> Result<(), Fail> {
+    for (text, letters) in [(RECALLED, b"aapsp"), (SURRENDERED, b"adggs")] {
+        let file = read_day(rt.alloc(), text.as_bytes())?;
+        for (order, letter) in file.commands().iter().zip(letters) {
+            let found = match order.command {
+                Command::Apply(_) => b'a',
+                Command::Post(_) => b'p',
+                Command::Day(_) => b'd',
+                Command::Surrender(_) => b'g',
+                Command::Show(_) => b's',
+            };
+            assert_eq!(rt; found, *letter);
+        }
+    }
+    Ok(())
+}
+
+// The first record of the text that is refused, and why.
+fn refusal(alloc: Global, text: &[u8]) -> Option<FileRefusal> {
+    read_day_file(alloc, text).err()
+}
+
+// Tries each record as the tenth, behind the nine of BEGUN.
+fn refuse(rt: &impl Abort, alloc: Global, rows: &[(&str, RecordCause)]) -> Result<(), Fail> {
+    for (record, cause) in rows {
+        let mut text = BEGUN.as_bytes().to_vec(alloc)?;
+        text.extend_from_slice(record.as_bytes())?;
+        assert_eq!(rt;
+            refusal(alloc, text.as_slice()),
+            Some(FileRefusal::Refused {
+                row: 10,
+                cause: Cause::Bad(*cause)
+            }),
+            "{record}"
+        );
+    }
+    Ok(())
+}
+
+#[test]
+fn refuses_records_that_are_none(rt: HostRuntime) -> Result<(), Fail> {
+    refuse(
+        &rt,
+        rt.alloc(),
+        &[
+            ("node,D,,,,,\n", RecordCause::Fields),
+            ("node,D,,,,,,,\n", RecordCause::Fields),
+            ("\"node", RecordCause::Fields),
+            ("road,D,,,,,,\n", RecordCause::Kind),
+            ("probe,240,1000,,,,,\n", RecordCause::Kind),
+            ("day,2026-03-02,,,,,,\n", RecordCause::Order),
+            ("node,D,x,,,,,\n", RecordCause::Extra),
+            ("segment,U,A,B,5,x,,\n", RecordCause::Extra),
+            ("limit,S,height,168,,,,x\n", RecordCause::Extra),
+            ("span,Q,S,240,1000,,x,\n", RecordCause::Extra),
+            ("truck,L,ACME,168,102,720,0:1 180:1,x\n", RecordCause::Extra),
+            ("actor,bob,x,,,,,\n", RecordCause::Extra),
+            ("post,ann,S,height,1,x,,\n", RecordCause::Extra),
+            ("setday,ann,2026-03-02,x,,,,\n", RecordCause::Extra),
+            ("surrender,ann,1,x,,,,\n", RecordCause::Extra),
+            ("show,ann,1,x,,,,\n", RecordCause::Extra),
+            ("end,x,,,,,,\n", RecordCause::Extra),
+            ("", RecordCause::End),
+        ],
+    )
+}
+
+#[test]
+fn refuses_fields_by_their_form(rt: HostRuntime) -> Result<(), Fail> {
+    refuse(
+        &rt,
+        rt.alloc(),
+        &[
+            ("node,,,,,,,\n", RecordCause::Field(2)),
+            ("node,12345678901234567,,,,,,\n", RecordCause::Field(2)),
+            ("segment,U,A,B,-5,,,\n", RecordCause::Field(5)),
+            ("segment,U,A,,1234567890,,,\n", RecordCause::Field(4)),
+            ("limit,S,rating,1,,,,\n", RecordCause::Field(3)),
+            ("span,Q,S,240,1 0,,,\n", RecordCause::Field(5)),
+            (
+                "truck,L,ACME,168,102,720,0:1;180:1,\n",
+                RecordCause::Field(7),
+            ),
+            ("post,ann,S,weight,1,,,\n", RecordCause::Field(4)),
+            ("setday,ann,2026/03/02,,,,,\n", RecordCause::Field(3)),
+            ("surrender,ann,x,,,,,\n", RecordCause::Field(3)),
+            (
+                "apply,ann,K,A,B,S  T,2026-03-02,2026-03-06\n",
+                RecordCause::Field(6),
+            ),
+            (
+                "apply,ann,K,A,B,,2026-3-02,2026-03-06\n",
+                RecordCause::Field(7),
+            ),
+            (
+                "apply,ann,K,A,B,,2026-03-02,20260306\n",
+                RecordCause::Field(8),
+            ),
+        ],
+    )
+}
+
+#[test]
+fn refuses_names_that_are_taken_or_missing(rt: HostRuntime) -> Result<(), Fail> {
+    refuse(
+        &rt,
+        rt.alloc(),
+        &[
+            ("node,A,,,,,,\n", RecordCause::Same),
+            ("segment,S,D,D,0,,,\n", RecordCause::Same),
+            ("span,P,U,0,1000,,,\n", RecordCause::Same),
+            ("truck,K,ACME,0,102,720,0:1 180:1,\n", RecordCause::Same),
+            ("actor,ann,,,,,,\n", RecordCause::Same),
+            ("segment,U,D,D,0,,,\n", RecordCause::Unknown(3)),
+            ("segment,U,A,D,0,,,\n", RecordCause::Unknown(4)),
+            ("limit,U,height,0,,,,\n", RecordCause::Unknown(2)),
+            ("span,Q,U,0,1000,,,\n", RecordCause::Unknown(3)),
+            (
+                "apply,bob,L,D,D,U,0000-01-01,0000-01-01\n",
+                RecordCause::Unknown(2),
+            ),
+            (
+                "apply,ann,L,D,D,U,0000-01-01,0000-01-01\n",
+                RecordCause::Unknown(3),
+            ),
+            (
+                "apply,ann,K,D,D,U,0000-01-01,0000-01-01\n",
+                RecordCause::Unknown(4),
+            ),
+            (
+                "apply,ann,K,A,D,U,0000-01-01,0000-01-01\n",
+                RecordCause::Unknown(5),
+            ),
+            (
+                "apply,ann,K,A,A,S U,0000-01-01,0000-01-01\n",
+                RecordCause::Unknown(6),
+            ),
+            ("post,bob,U,height,0,,,\n", RecordCause::Unknown(2)),
+            ("post,ann,P,height,0,,,\n", RecordCause::Unknown(3)),
+            ("post,ann,S,rating,0,,,\n", RecordCause::Unknown(3)),
+            ("setday,bob,0000-01-01,,,,,\n", RecordCause::Unknown(2)),
+            ("show,bob,1,,,,,\n", RecordCause::Unknown(2)),
+        ],
+    )
+}
+
+#[test]
+fn refuses_values_out_of_range(rt: HostRuntime) -> Result<(), Fail> {
+    refuse(
+        &rt,
+        rt.alloc(),
+        &[
+            ("segment,U,A,B,0,,,\n", RecordCause::Range(5)),
+            ("segment,U,A,B,10000001,,,\n", RecordCause::Range(5)),
+            ("limit,S,closed,2,,,,\n", RecordCause::Range(4)),
+            ("limit,S,height,1000,,,,\n", RecordCause::Range(4)),
+            ("span,Q,S,6001,100001,,,\n", RecordCause::Range(4)),
+            ("span,Q,S,240,100001,,,\n", RecordCause::Range(5)),
+            ("truck,L,ACME,0,0,0,0:1,\n", RecordCause::Range(4)),
+            ("truck,L,ACME,168,1000,0,0:1,\n", RecordCause::Range(5)),
+            ("truck,L,ACME,168,102,10000,0:1,\n", RecordCause::Range(6)),
+            ("truck,L,ACME,168,102,720,0:1,\n", RecordCause::Train(1)),
+            ("truck,L,ACME,168,102,720,0:1 0:1,\n", RecordCause::Train(3)),
+            (
+                "truck,L,ACME,168,102,720,0:1 180:0,\n",
+                RecordCause::Train(4),
+            ),
+            (
+                "truck,L,ACME,168,102,720,0:1 3001:1,\n",
+                RecordCause::Train(6),
+            ),
+            ("post,ann,S,gross,0,,,\n", RecordCause::Range(5)),
+            ("post,ann,P,rating,100001,,,\n", RecordCause::Range(5)),
+            ("setday,ann,2026-13-01,,,,,\n", RecordCause::Range(3)),
+            (
+                "apply,ann,K,A,A,S,2026-00-01,0000-01-01\n",
+                RecordCause::Range(7),
+            ),
+            (
+                "apply,ann,K,A,A,S,2026-03-02,0000-01-01\n",
+                RecordCause::Range(8),
+            ),
+            (
+                "apply,ann,K,A,A,S,2026-03-06,2026-03-02\n",
+                RecordCause::SamePlace,
+            ),
+            (
+                "apply,ann,K,A,C,S,2026-03-06,2026-03-02\n",
+                RecordCause::BrokenRoute,
+            ),
+            (
+                "apply,ann,K,A,C,T S,2026-03-06,2026-03-02\n",
+                RecordCause::BrokenRoute,
+            ),
+            (
+                "apply,ann,K,A,C,S T,2026-03-06,2026-03-02\n",
+                RecordCause::DayOrder,
+            ),
+        ],
+    )
+}
+
+#[test]
+fn refuses_what_stands_at_no_place(rt: HostRuntime) -> Result<(), Fail> {
+    for (text, row, cause) in [
+        ("", 1, RecordCause::End),
+        ("day,\"2026-0", 1, RecordCause::Fields),
+        ("node,A,,,,,,\n", 1, RecordCause::Order),
+        ("end,,,,,,,\n", 1, RecordCause::Order),
+        ("day,0000-01-01,,,,,,\n", 1, RecordCause::Range(2)),
+        (
+            "day,2026-03-02,,,,,,\nend,,,,,,,\nend,,,,,,,\n",
+            3,
+            RecordCause::Order,
+        ),
+        (
+            "day,2026-03-02,,,,,,\nend,,,,,,,\nroad,,,,,,,\n",
+            3,
+            RecordCause::Kind,
+        ),
+    ] {
+        assert_eq!(rt;
+            refusal(rt.alloc(), text.as_bytes()),
+            Some(FileRefusal::Refused {
+                row,
+                cause: Cause::Bad(cause)
+            }),
+            "{text}"
+        );
+    }
+    assert!(rt; read_day(rt.alloc(), b"").err() == Some(DayFileRefusal::Refused));
+    let broken = b"day,2026-03-02,,,,,,\nnode,\xff,,,,,,\n".as_slice();
+    assert_eq!(rt;
+        refusal(rt.alloc(), broken),
+        Some(FileRefusal::Refused {
+            row: 2,
+            cause: Cause::Bad(RecordCause::Fields)
+        })
+    );
+    Ok(())
+}
+
+// Puts so many records behind a text, with numbers from 0 between two of their parts.
+fn add_records(
+    alloc: Global,
+    text: &mut Vec<u8>,
+    before: &str,
+    after: &str,
+    count: u32,
+) -> Result<(), Fail> {
+    for i in 0..count {
+        let record = format!(in alloc; "{before}{i}{after}\n")?;
+        text.extend_from_slice(record.as_bytes())?;
+    }
+    Ok(())
+}
+
+// As many as are allowed are taken, and the next is refused.
+#[test]
+fn counts_records_of_a_kind(rt: HostRuntime) -> Result<(), Fail> {
+    for (before, after, room, kind) in [
+        ("node,n", ",,,,,,", 4_093, Kind::Nodes),
+        ("segment,s", ",A,A,1,,,", 16_382, Kind::Segments),
+        ("span,p", ",S,1,0,,,", 15, Kind::SpansOfSegment),
+        ("truck,t", ",ACME,1,1,1,0:1 1:1,", 63, Kind::Trucks),
+        ("actor,a", ",,,,,,", 0, Kind::Actors),
+        ("show,ann,", ",,,,,", 4_096, Kind::Commands),
+    ] {
+        let mut text = BEGUN.as_bytes().to_vec(rt.alloc())?;
+        add_records(rt.alloc(), &mut text, before, after, room + 1)?;
+        assert_eq!(rt;
+            refusal(rt.alloc(), text.as_slice()),
+            Some(FileRefusal::Refused {
+                row: u64::from(room) + 10,
+                cause: Cause::TooMany(kind)
+            })
+        );
+    }
+    Ok(())
+}
+
+// A day record, one actor and 4,097 commands; and 129 segments with 16 spans each.
+#[test]
+fn counts_commands_and_spans(rt: HostRuntime) -> Result<(), Fail> {
+    let mut text = b"day,2026-03-02,,,,,,\nactor,ann,,,,,,\n".to_vec(rt.alloc())?;
+    add_records(rt.alloc(), &mut text, "show,ann,", ",,,,,", 4_097)?;
+    assert_eq!(rt;
+        refusal(rt.alloc(), text.as_slice()),
+        Some(FileRefusal::Refused {
+            row: 4_099,
+            cause: Cause::TooMany(Kind::Commands)
+        })
+    );
+    let mut text = b"day,2026-03-02,,,,,,\nnode,A,,,,,,\n".to_vec(rt.alloc())?;
+    add_records(rt.alloc(), &mut text, "segment,s", ",A,A,1,,,", 129)?;
+    for i in 0..2_049 {
+        let segment = i / 16;
+        let record = format!(in rt.alloc(); "span,p{i},s{segment},1,0,,,\n")?;
+        text.extend_from_slice(record.as_bytes())?;
+    }
+    assert_eq!(rt;
+        refusal(rt.alloc(), text.as_slice()),
+        Some(FileRefusal::Refused {
+            row: 2_180,
+            cause: Cause::TooMany(Kind::Spans)
+        })
+    );
+    Ok(())
+}
+
+#[test]
+fn refuses_what_is_no_check_file(rt: HostRuntime) -> Result<(), Fail> {
+    for (text, row, cause) in [
+        ("", 1, RecordCause::End),
+        ("probe,240,1000,,,,,\n", 1, RecordCause::Order),
+        ("truck,T,A,1,1,1,0:1 1:1,\n", 2, RecordCause::End),
+        (
+            "truck,T,A,1,1,1,0:1 1:1,\ntruck,T,A,1,1,1,0:1 1:1,\n",
+            2,
+            RecordCause::Order,
+        ),
+        (
+            "truck,T,A,1,1,1,0:1 1:1,\nend,,,,,,,\nend,,,,,,,\n",
+            3,
+            RecordCause::Order,
+        ),
+        (
+            "truck,T,A,1,1,1,0:1 1:1,\nnode,A,,,,,,\n",
+            2,
+            RecordCause::Kind,
+        ),
+        ("truck,T,A,1,1,1,0:1 1:1,x\n", 1, RecordCause::Extra),
+        ("truck,T,A B,1,1,1,0:1 1:1,\n", 1, RecordCause::Field(3)),
+        ("truck,T,A,1,1,0,0:1,\n", 1, RecordCause::Range(6)),
+        ("truck,T,A,1,1,1,0:1,\n", 1, RecordCause::Train(1)),
+        (
+            "truck,T,A,1,1,1,0:1 1:1,\nprobe,0,x,,,,,\n",
+            2,
+            RecordCause::Field(3),
+        ),
+        (
+            "truck,T,A,1,1,1,0:1 1:1,\nprobe,0,100001,,,,,\n",
+            2,
+            RecordCause::Range(2),
+        ),
+        (
+            "truck,T,A,1,1,1,0:1 1:1,\nprobe,6000,100001,,,,,\n",
+            2,
+            RecordCause::Range(3),
+        ),
+    ] {
+        assert_eq!(rt;
+            read_check_file(rt.alloc(), text.as_bytes()).err(),
+            Some(FileRefusal::Refused {
+                row,
+                cause: Cause::Bad(cause)
+            }),
+            "{text}"
+        );
+    }
+    let file = read_check(
+        rt.alloc(),
+        b"truck,T,A,1,1,1,0:1 1:1,\nprobe,240,1000,,,,,\nend,,,,,,,\n",
+    )?;
+    assert_eq!(rt; file.probes.as_slice().len(), 1);
+    assert!(rt; read_check(rt.alloc(), b"").err() == Some(DayFileRefusal::Refused));
+    Ok(())
+}
