@@ -1,6 +1,4 @@
-pub mod Fields
-pub mod Loads
-pub mod Spans
-pub mod Checks
-pub mod Reports
+pub mod Tasks
+pub mod Days
+pub mod Serving
 pub mod Runs

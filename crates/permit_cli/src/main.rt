@@ -1,17 +1,15 @@
-//! The permit office's program: it reads records from standard input, and writes a report to standard output.
+//! The permit office's program: it reads records from standard input, and writes a report or a journal to standard output.
 #![tactic(auto)]
 
-mod check_file;
-mod fields;
-mod load;
-mod refusal;
-mod report;
+mod output;
 mod run;
+mod serving;
+mod task;
 #[cfg(test)]
 mod tests;
 
 use office_io::{StdSink, StdSource};
-use run::{Alone, run_alone};
+use run::run;
 use std::process::ExitCode;
 use std::{env, io};
 
@@ -21,8 +19,7 @@ fn main(rt: HostRuntime) -> ExitCode {
     };
     let mut source = StdSource::new(rt.stdin());
     let mut sink = StdSink::new(rt.stdout());
-    let Alone::Status(status) = run_alone(&rt, words.as_slice(), &mut source, &mut sink);
-    ExitCode::from(status)
+    ExitCode::from(run(&rt, words.as_slice(), &mut source, &mut sink))
 }
 
 // The words of the command line, without the program's name.

@@ -1,0 +1,244 @@
+// The text that `check` writes.
+
+ghost use Rattle.std.specs.Prelude.{◌≡◌, ◌++◌, ℕ, List, IfOk, OnOk};
+ghost use Rattle.std.specs.List.{flat_map};
+ghost use Rattle.std.specs.String.{string_bytes};
+ghost use Rattle.span_rating.specs.Loading.{AreSmall};
+ghost use Rattle.day_text.specs.Spans.{AreSpans, IsSpan};
+ghost use Rattle.check_report.specs.Reports.{AddsProbes, IsProbeText, IsReport, ReportIsOne, design_line, end_name, fit_name, high_line, judgement_text, legal_line, moment_line, over_line, peaks_text, rating_line, rule_name, shear_line, truck_line, truck_text, wide_line};
+
+use axle_limits::{Finding, Rule, findings};
+use axle_train::Train;
+use clearance_rules::Load;
+use day_text::{CheckFile, Probe};
+use hs20_truck::effects;
+use influence_line::{End, Place};
+use moment_peak::MomentPeak;
+use office_io::NoMemory;
+use shear_peak::ShearPeak;
+use span_rating::{Effects, Fit, fits};
+use std::alloc::{AllocError, Global};
+use trip_analysis::Truck;
+
+/// The report on a check file: its truck, and then its truck on each of its probes.
+pub fn report(alloc: Global, file: &CheckFile) -> Result<String, NoMemory>
+    ensures { IfOk result (λ text. IsReport file.now (string_bytes text)) }
+{
+    let mut text = truck_report(alloc, &file.truck)?;
+    add_probes(&mut text, file.truck.load.train(), file.probes.as_slice())?;
+    Ok(text)
+}
+
+/// A law, and no code: a check file has one report.
+pub fn report_is_one()
+    ensures { ReportIsOne }
+{}
+
+// The report on a truck alone.
+fn truck_report(alloc: Global, truck: &Truck) -> Result<String, NoMemory>
+    ensures { IfOk result (λ text. string_bytes text ≡ truck_text truck.now) }
+{
+    let load = &truck.load;
+    let found = findings(alloc, load.train())?;
+    let mut text = String::new(alloc);
+    add_truck(&mut text, truck)?;
+    add_findings(&mut text, found.as_slice())?;
+    add_height(&mut text, load)?;
+    add_width(&mut text, load)?;
+    add_legality(&mut text, load)?;
+    Ok(text)
+}
+
+// What the truck is.
+fn add_truck(text: &mut String, truck: &Truck) -> Result<(), AllocError>
+    ensures { OnOk result (string_bytes text.new ≡ string_bytes text.old ++ truck_line truck.now) }
+{
+    let name = truck.name;
+    let train = truck.load.train();
+    let axles = train.len();
+    let gross = train.gross();
+    write!(text, "truck {name} axles {axles} gross {gross}\n")
+}
+
+// Each group over its limit, and the gross weight where it is over its own.
+fn add_findings(text: &mut String, found: &[Finding]) -> Result<(), AllocError>
+    ensures { OnOk result (string_bytes text.new ≡ string_bytes text.old ++ flat_map over_line found.now) }
+{
+    for finding in found {
+        add_finding(text, finding)?;
+    }
+    Ok(())
+}
+
+// One finding, with axles counted from 1.
+fn add_finding(text: &mut String, finding: &Finding) -> Result<(), AllocError>
+    ensures { OnOk result (string_bytes text.new ≡ string_bytes text.old ++ over_line finding.now) }
+{
+    let first = finding.i as u128 + 1;
+    let last = finding.j as u128 + 1;
+    let weight = finding.weight;
+    let limit = finding.limit;
+    let rule = rule_name(finding.rule);
+    write!(text, "over {first}-{last} {weight} {limit} {rule}\n")
+}
+
+// The name of a rule.
+fn rule_name(rule: Rule) -> &'static str
+    ensures { result.now ≡ rule_name rule }
+{
+    match rule {
+        Rule::Single => "single",
+        Rule::Tandem => "tandem",
+        Rule::Formula => "formula",
+        Rule::TwoTandem => "two-tandem",
+        Rule::Gross => "gross",
+    }
+}
+
+// The height, where it is over its limit.
+fn add_height(text: &mut String, load: &Load) -> Result<(), AllocError>
+    ensures { OnOk result (string_bytes text.new ≡ string_bytes text.old ++ high_line load.now) }
+{
+    let height = load.height();
+    if height > 162 {
+        return write!(text, "high {height} 162\n");
+    }
+    Ok(())
+}
+
+// The width, where it is over its limit.
+fn add_width(text: &mut String, load: &Load) -> Result<(), AllocError>
+    ensures { OnOk result (string_bytes text.new ≡ string_bytes text.old ++ wide_line load.now) }
+{
+    let width = load.width();
+    if width > 102 {
+        return write!(text, "wide {width} 102\n");
+    }
+    Ok(())
+}
+
+// Whether the load is legal.
+fn add_legality(text: &mut String, load: &Load) -> Result<(), AllocError>
+    ensures { OnOk result (string_bytes text.new ≡ string_bytes text.old ++ legal_line load.now) }
+{
+    if load.legal() {
+        text.push_str("legal yes\n")
+    } else {
+        text.push_str("legal no\n")
+    }
+}
+
+// The truck on each probe.
+fn add_probes(text: &mut String, train: &Train, probes: &[Probe]) -> Result<(), AllocError>
+    requires { AreSpans probes.now }
+    ensures { OnOk result (AddsProbes train.now probes.now (string_bytes text.old) (string_bytes text.new)) }
+{
+    for probe in probes {
+        add_probe(text, train, probe)?;
+    }
+    Ok(())
+}
+
+// The truck on one probe.
+fn add_probe(text: &mut String, train: &Train, probe: &Probe) -> Result<(), AllocError>
+    requires { IsSpan probe.now }
+    ensures { OnOk result ((one : List ℕ) × IsProbeText train.now probe.now one × (string_bytes text.new ≡ string_bytes text.old ++ one)) }
+{
+    let moment = moment_peak::peak(train, probe.inches);
+    let shear = shear_peak::peak(train, probe.inches);
+    let truck = Effects {
+        moment: moment.value,
+        shear: shear.value,
+    };
+    add_peaks(text, probe, &moment, &shear)?;
+    add_judgement(text, probe, &truck)
+}
+
+// The span, and the truck's peaks on it.
+fn add_peaks(
+    text: &mut String,
+    probe: &Probe,
+    moment: &MomentPeak,
+    shear: &ShearPeak,
+) -> Result<(), AllocError>
+    ensures { OnOk result (string_bytes text.new ≡ string_bytes text.old ++ peaks_text probe.now moment.now shear.now) }
+{
+    let inches = probe.inches;
+    write!(text, "span {inches}\n")?;
+    add_moment(text, moment)?;
+    add_shear(text, shear)
+}
+
+// The peaks of the design truck, and the judgement of the truck by the rating.
+fn add_judgement(text: &mut String, probe: &Probe, truck: &Effects) -> Result<(), AllocError>
+    requires span { IsSpan probe.now }
+    requires truck { AreSmall truck.now }
+    ensures { OnOk result (string_bytes text.new ≡ string_bytes text.old ++ judgement_text probe.now truck.now) }
+{
+    let design = effects(probe.inches);
+    add_design(text, &design)?;
+    add_rating(text, probe.rating, fits(truck, &design, probe.rating))
+}
+
+// A peak moment, with axles counted from 1.
+fn add_moment(text: &mut String, peak: &MomentPeak) -> Result<(), AllocError>
+    ensures { OnOk result (string_bytes text.new ≡ string_bytes text.old ++ moment_line peak.now) }
+{
+    let value = peak.value;
+    let Place { q, lead, section } = peak.place;
+    let axle = peak.axle as u128 + 1;
+    let first = peak.first as u128 + 1;
+    let last = peak.last as u128 + 1;
+    write!(
+        text,
+        "moment {value} at {q} {lead} {section} axle {axle} run {first}-{last}\n"
+    )
+}
+
+// A peak end shear.
+fn add_shear(text: &mut String, peak: &ShearPeak) -> Result<(), AllocError>
+    ensures { OnOk result (string_bytes text.new ≡ string_bytes text.old ++ shear_line peak.now) }
+{
+    let value = peak.value;
+    let lead = peak.lead;
+    let end = end_name(peak.end);
+    write!(text, "shear {value} at {lead} {end}\n")
+}
+
+// The peaks of the HS20-44 truck.
+fn add_design(text: &mut String, design: &Effects) -> Result<(), AllocError>
+    ensures { OnOk result (string_bytes text.new ≡ string_bytes text.old ++ design_line design.now) }
+{
+    let moment = design.moment;
+    let shear = design.shear;
+    write!(text, "hs20 {moment} {shear}\n")
+}
+
+// A rating, and the judgement by it.
+fn add_rating(text: &mut String, rating: u32, fit: Fit) -> Result<(), AllocError>
+    ensures { OnOk result (string_bytes text.new ≡ string_bytes text.old ++ rating_line rating fit) }
+{
+    let name = fit_name(fit);
+    write!(text, "rating {rating} {name}\n")
+}
+
+// The name of a judgement.
+fn fit_name(fit: Fit) -> &'static str
+    ensures { result.now ≡ fit_name fit }
+{
+    match fit {
+        Fit::Fits => "fits",
+        Fit::Moment => "moment",
+        Fit::Shear => "shear",
+    }
+}
+
+// The name of an end.
+fn end_name(end: End) -> &'static str
+    ensures { result.now ≡ end_name end }
+{
+    match end {
+        End::Left => "left",
+        End::Right => "right",
+    }
+}
