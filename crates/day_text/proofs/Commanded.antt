@@ -15,19 +15,19 @@ use Rattle.trip_analysis.specs.declared.refusal.ApplicationRefusal.TheVariants.{
 use Rattle.trip_analysis.specs.Applications.{AreAskedThere, AreThere, Sound, application_of, application_refusal, asked_break, route_refusal}
 use Rattle.trip_analysis.specs.Bases.{BaseLists}
 use Rattle.trip_analysis.proofs.Unbroken.{sound_if}
-use Rattle.day_text.specs.Commands.{applied, apply_fields_of, apply_of, asked_of, order_of, permit_of, post_of, posting_of, set_day_of, unless_refused}
-use Rattle.day_text.specs.Fields.{all_numbers, day_of, field_of, name_of, number_of, posted_of}
+use Rattle.day_text.specs.Commands.{all_numbers, applied, apply_fields_of, apply_of, asked_of, order_of, permit_of, post_of, posting_of, set_day_of, unless_refused}
+use Rattle.record_text.specs.Fields.{day_of, field_of, name_of, number_of, posted_of}
 use Rattle.day_text.specs.Fleets.{truck_names}
 use Rattle.day_text.specs.Laws.{IsSoundFor}
-use Rattle.day_text.specs.Causes.{demand, or_bad}
-use Rattle.day_text.specs.Records.{Row, is_blank_from}
+use Rattle.record_text.specs.Causes.{demand, or_bad}
+use Rattle.record_text.specs.Records.{Row, is_blank_from}
 use Rattle.office_core.specs.declared.entry.Command.TheVariants as command
 use Rattle.day_text.specs.declared.draft.Draft.{Draft}
 use Rattle.day_text.specs.declared.kind.CommandKind.{CommandKind}
 use Rattle.day_text.specs.declared.kind.CommandKind.TheVariants.{Apply, Post, SetDay, Show, Surrender}
 use Rattle.day_text.specs.declared.orders.Order.{Order}
-use Rattle.day_text.specs.declared.refusal.RecordCause.TheVariants as bad
-use Rattle.day_text.proofs.Steps.{Gives, found_some, gives, then_gives}
+use Rattle.record_text.specs.declared.refusal.RecordCause.TheVariants as bad
+use Rattle.record_text.proofs.Steps.{Gives, found_some, gives, then_gives}
 
 -- the number of a name is that of a place
 named_within : (name : List ℕ) (names : List (List ℕ)) (i : ℕ) → number_named name names ≡ Some i → i < length names

@@ -6,15 +6,15 @@ use Rattle.std.proofs.lemmas.Bool.{ltb-true}
 use Rattle.std.proofs.lemmas.List.Elements.{All-nil, All-push, All-weaker}
 use Rattle.trip_analysis.specs.Bases.{BaseLists}
 use Rattle.trip_analysis.specs.declared.base.Truck.{Truck}
-use Rattle.day_text.specs.Causes.{demand, limit, or_bad}
+use Rattle.record_text.specs.Causes.{demand, limit, or_bad}
 use Rattle.day_text.specs.Commands.{order_of, with_order}
 use Rattle.day_text.specs.Days.{DayParts, day_of, ended_day, finished_day, going_on, judge_day, judge_kind, judge_later, judge_opening, opened, opening_of, parts_of, with_actor, with_command, with_road, with_truck}
 use Rattle.day_text.specs.Fleets.{actors_of, fleet_of, most_actors, truck_names}
-use Rattle.day_text.specs.Fields.{field_of, name_of}
+use Rattle.record_text.specs.Fields.{field_of, name_of}
 use Rattle.day_text.specs.Kinds.{kind_of}
 use Rattle.day_text.specs.Trucks.{load_of, truck_fields_of}
 use Rattle.day_text.specs.Laws.{IsDayFile, IsSoundFor}
-use Rattle.day_text.specs.Records.{Row, is_blank_from, judged, rows_of}
+use Rattle.record_text.specs.Records.{Row, is_blank_from, judged, rows_of}
 use Rattle.day_text.specs.Roads.{roads_of}
 use Rattle.office_core.specs.declared.entry.Command.{Command}
 use Rattle.office_core.specs.declared.entry.Command.TheVariants as command
@@ -26,12 +26,12 @@ use Rattle.day_text.specs.declared.kind.RoadKind.{RoadKind}
 use Rattle.day_text.specs.declared.orders.Order.{Order}
 use Rattle.day_text.specs.declared.progress.DayProgress.{DayProgress}
 use Rattle.day_text.specs.declared.progress.DayProgress.TheVariants as so_far
-use Rattle.day_text.specs.declared.refusal.Cause.{Cause}
-use Rattle.day_text.specs.declared.refusal.RecordCause.TheVariants as bad
-use Rattle.day_text.specs.declared.refusal.Kind.TheVariants as kind
+use Rattle.record_text.specs.declared.refusal.Cause.{Cause}
+use Rattle.record_text.specs.declared.refusal.RecordCause.TheVariants as bad
+use Rattle.record_text.specs.declared.refusal.Kind.TheVariants as kind
 use Rattle.day_text.proofs.Commanded.{IsGood, base_of, order_good}
 use Rattle.day_text.proofs.Kept.{IsKept, roads_kept, sound_kept}
-use Rattle.day_text.proofs.Steps.{Gives, gives, records_keep, refuses, then_gives, was_within}
+use Rattle.record_text.proofs.Steps.{Gives, gives, records_keep, refuses, then_gives, was_within}
 
 -- a command that might be given may be given where there is more
 sound_more : (old new : BaseLists) → IsKept old.roads new.roads → length old.fleet ≤ length new.fleet → (c : Command) → IsSoundFor old c → IsSoundFor new c

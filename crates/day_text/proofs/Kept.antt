@@ -1,6 +1,6 @@
 -- What the records of a road network keep of it: its nodes, and where its segments lead.
 use Rattle.std.proofs.Common.{◌≡◌, ◌≤◌, ◌∷◌, ◌∙◌, [], List, ℕ, zero, suc, Some, None, set, length, refl, sym, ap, subst, arith, length-append}
-use Rattle.std.specs.Prelude.{slice_get}
+use Rattle.std.specs.Prelude.{nat_lt, not, slice_get}
 use Rattle.std.proofs.lemmas.Option.{get_or_from_slice_get}
 use Rattle.road_graph.specs.declared.segment.Segment.{Segment}
 use Rattle.road_graph.specs.declared.values.What.{What}
@@ -12,17 +12,16 @@ use Rattle.trip_analysis.specs.Walks.{IsWalk, every}
 use Rattle.trip_analysis.specs.Applications.{IsAskedWalk, Sound}
 use Rattle.trip_analysis.specs.Bases.{BaseLists}
 use Rattle.trip_analysis.specs.declared.application.Application.{Application}
-use Rattle.day_text.specs.Causes.{demand, limit, or_bad}
-use Rattle.day_text.specs.Fields.{field_of, name_of, number_of, what_of}
+use Rattle.record_text.specs.Causes.{demand, limit, or_bad}
+use Rattle.record_text.specs.Fields.{field_of, name_of, number_of, what_of}
 use Rattle.road_graph.specs.Ranges.{is_feet, is_inches, is_limit, is_rating}
-use Rattle.std.specs.Prelude.{nat_lt, not}
-use Rattle.day_text.specs.declared.refusal.Kind.TheVariants as kind
-use Rattle.day_text.specs.Records.{Row, is_blank_from}
-use Rattle.day_text.specs.declared.refusal.RecordCause.TheVariants as bad
+use Rattle.record_text.specs.declared.refusal.Kind.TheVariants as kind
+use Rattle.record_text.specs.Records.{Row, is_blank_from}
+use Rattle.record_text.specs.declared.refusal.RecordCause.TheVariants as bad
 use Rattle.day_text.specs.Roads.{limit_of, node_of, roads_of, segment_of, span_of}
 use Rattle.day_text.specs.declared.kind.RoadKind.{RoadKind}
 use Rattle.day_text.specs.declared.kind.RoadKind.TheVariants.{Limit, Node, Segment as segment_kind, Span}
-use Rattle.day_text.proofs.Steps.{Gives, gives, then_gives}
+use Rattle.record_text.proofs.Steps.{Gives, gives, then_gives}
 
 -- each segment leads where it led
 abbrev pub LeadAlike : List Segment → List Segment → Type 0

@@ -1,11 +1,5 @@
-pub mod Rows
-pub mod Reading
-pub mod Judging
-pub mod Blanks
-pub mod Numbers
 pub mod Naming
 pub mod Fleets
-pub mod Steps
 pub mod Kept
 pub mod Commanded
 pub mod EveryDay

@@ -1,18 +1,18 @@
 -- What a check file says, judged over the whole list of its records.
 use Rattle.std.specs.Prelude.{ℕ, ◌+◌, Bool, ◌&&◌, ◌||◌, nat_le, if◌then◌else◌, List, [], ◌∷◌, ◌++◌, length, codes, Result, Ok, Err}
-use Rattle.day_text.specs.Causes.{◌>>=◌, demand, limit, or_bad}
-use Rattle.day_text.specs.Fields.{field_of, number_of}
-use Rattle.day_text.specs.Records.{Row, has_kind, is_blank_from, judged, rows_of}
+use Rattle.record_text.specs.Causes.{◌>>=◌, demand, limit, or_bad}
+use Rattle.record_text.specs.Fields.{field_of, number_of}
+use Rattle.record_text.specs.Records.{Row, has_kind, is_blank_from, judged, rows_of}
 use Rattle.day_text.specs.Trucks.{load_of, truck_fields_of}
 use Rattle.trip_analysis.specs.declared.base.Truck.{Truck}
 use Rattle.day_text.specs.declared.check_file.Probe.{Probe}
 use Rattle.day_text.specs.declared.check_file.CheckFile.{CheckFile}
 use Rattle.day_text.specs.declared.check_file.CheckProgress.{CheckProgress}
 use Rattle.day_text.specs.declared.check_file.CheckProgress.TheVariants as so_far
-use Rattle.day_text.specs.declared.refusal.Cause.{Cause}
-use Rattle.day_text.specs.declared.refusal.Cause.TheVariants as why
-use Rattle.day_text.specs.declared.refusal.RecordCause.TheVariants as bad
-use Rattle.day_text.specs.declared.refusal.Kind.TheVariants as kind
+use Rattle.record_text.specs.declared.refusal.Cause.{Cause}
+use Rattle.record_text.specs.declared.refusal.Cause.TheVariants as why
+use Rattle.record_text.specs.declared.refusal.RecordCause.TheVariants as bad
+use Rattle.record_text.specs.declared.refusal.Kind.TheVariants as kind
 
 abbrev pub is_check_kind : Row → Bool
 is_check_kind fields = has_kind (codes "truck") fields || has_kind (codes "probe") fields || has_kind (codes "end") fields

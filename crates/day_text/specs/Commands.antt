@@ -1,6 +1,6 @@
 -- The records of commands: the command that each gives, or the first cause for which it is refused. A command refers to its
 -- actor, its truck and the things of the road network by the names of records before it.
-use Rattle.std.specs.Prelude.{ℕ, ◌==◌, nat_lt, List, [], ◌∷◌, ◌++◌, length, Result, Ok, Err, Option, Some, None, if◌then◌else◌}
+use Rattle.std.specs.Prelude.{ℕ, ◌==◌, nat_lt, List, [], ◌∷◌, ◌++◌, length, Result, Ok, Err, Option, Some, None, if◌then◌else◌, option_and_then, option_map}
 use Rattle.restriction_log.specs.declared.change.Change.{Change}
 use Rattle.restriction_log.specs.declared.change.Change.TheVariants as change
 use Rattle.road_graph.specs.declared.values.What.{What}
@@ -12,22 +12,22 @@ use Rattle.trip_analysis.specs.declared.application.Application.{Application}
 use Rattle.trip_analysis.specs.declared.refusal.ApplicationRefusal.{ApplicationRefusal}
 use Rattle.trip_analysis.specs.declared.refusal.ApplicationRefusal.TheVariants.{BrokenRoute, DayOrder, SamePlace}
 use Rattle.trip_analysis.specs.Applications.{application_of, application_refusal}
-use Rattle.day_text.specs.Causes.{◌>>=◌, demand, limit, or_bad}
-use Rattle.day_text.specs.Fields.{all_numbers, day_of, field_of, name_of, number_of, posted_of, route_of}
+use Rattle.record_text.specs.Causes.{◌>>=◌, demand, limit, or_bad}
+use Rattle.record_text.specs.Fields.{day_of, field_of, name_of, number_of, posted_of, route_of}
 use Rattle.day_text.specs.Fleets.{truck_names}
-use Rattle.day_text.specs.Records.{Row, is_blank_from}
+use Rattle.record_text.specs.Records.{Row, is_blank_from}
 use Rattle.office_core.specs.declared.entry.Command.TheVariants as command
 use Rattle.day_text.specs.declared.commands.ApplyFields.{ApplyFields}
 use Rattle.day_text.specs.declared.draft.Draft.{Draft}
-use Rattle.day_text.specs.declared.fields.Posted.{Posted}
-use Rattle.day_text.specs.declared.fields.Posted.TheVariants as posted
+use Rattle.record_text.specs.declared.posted.Posted.{Posted}
+use Rattle.record_text.specs.declared.posted.Posted.TheVariants as posted
 use Rattle.day_text.specs.declared.kind.CommandKind.{CommandKind}
 use Rattle.day_text.specs.declared.kind.CommandKind.TheVariants.{Apply, Post, SetDay, Show, Surrender}
 use Rattle.day_text.specs.declared.orders.Order.{Order}
-use Rattle.day_text.specs.declared.refusal.Cause.{Cause}
-use Rattle.day_text.specs.declared.refusal.Cause.TheVariants as why
-use Rattle.day_text.specs.declared.refusal.RecordCause.TheVariants as bad
-use Rattle.day_text.specs.declared.refusal.Kind.TheVariants as kind
+use Rattle.record_text.specs.declared.refusal.Cause.{Cause}
+use Rattle.record_text.specs.declared.refusal.Cause.TheVariants as why
+use Rattle.record_text.specs.declared.refusal.RecordCause.TheVariants as bad
+use Rattle.record_text.specs.declared.refusal.Kind.TheVariants as kind
 
 -- apply,ACTOR,TRUCK,FROM,TO,ROUTE,FIRST,LAST: the fields, each in its form
 unfoldable pub apply_fields_of : Row → Result ApplyFields Cause
@@ -40,6 +40,11 @@ apply_fields_of fields = do
   first ← or_bad (bad.Field 7) (day_of (field_of fields 6))
   last ← or_bad (bad.Field 8) (day_of (field_of fields 7))
   Ok (record { actor = actor; truck = truck; from = from; to = to; route = route; first = first; last = last })
+
+-- the numbers of some names
+abbrev pub all_numbers : List (List ℕ) → List (List ℕ) → Option (List ℕ)
+all_numbers known [] = Some []
+all_numbers known (name ∷ names) = option_and_then (λ i. option_map (λ numbers. i ∷ numbers) (all_numbers known names)) (number_named name known)
 
 -- an empty route asks for none
 abbrev pub asked_of : List ℕ → Option (List ℕ)

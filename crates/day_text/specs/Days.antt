@@ -2,13 +2,13 @@
 use Rattle.std.specs.Prelude.{ℕ, List, [], Result, Ok, Err}
 use Rattle.road_graph.specs.Roads.{no_roads}
 use Rattle.trip_analysis.specs.Bases.{BaseLists}
-use Rattle.day_text.specs.Causes.{◌>>=◌, demand, or_bad}
+use Rattle.record_text.specs.Causes.{◌>>=◌, demand, or_bad}
 use Rattle.day_text.specs.Commands.{order_of, with_order}
-use Rattle.day_text.specs.Fields.{field_of}
-use Rattle.day_text.specs.Fields.{day_of as day_field_of}
+use Rattle.record_text.specs.Fields.{field_of}
+use Rattle.record_text.specs.Fields.{day_of as day_field_of}
 use Rattle.day_text.specs.Fleets.{actors_of, fleet_of}
 use Rattle.day_text.specs.Kinds.{kind_of}
-use Rattle.day_text.specs.Records.{Row, is_blank_from, judged, rows_of}
+use Rattle.record_text.specs.Records.{Row, is_blank_from, judged, rows_of}
 use Rattle.day_text.specs.Roads.{roads_of}
 use Rattle.day_text.specs.declared.draft.Draft.{Draft}
 use Rattle.day_text.specs.declared.kind.RecordKind.{RecordKind}
@@ -18,9 +18,9 @@ use Rattle.day_text.specs.declared.kind.RoadKind.{RoadKind}
 use Rattle.day_text.specs.declared.orders.Order.{Order}
 use Rattle.day_text.specs.declared.progress.DayProgress.{DayProgress}
 use Rattle.day_text.specs.declared.progress.DayProgress.TheVariants as so_far
-use Rattle.day_text.specs.declared.refusal.Cause.{Cause}
-use Rattle.day_text.specs.declared.refusal.Cause.TheVariants as why
-use Rattle.day_text.specs.declared.refusal.RecordCause.TheVariants as bad
+use Rattle.record_text.specs.declared.refusal.Cause.{Cause}
+use Rattle.record_text.specs.declared.refusal.Cause.TheVariants as why
+use Rattle.record_text.specs.declared.refusal.RecordCause.TheVariants as bad
 
 -- a day file: roads and trucks, the opening day as its text, the names of the actors, and the commands in the order of their
 -- records; everything is numbered by its place, from 0

@@ -1,14 +1,14 @@
 -- The trucks and the actors of a day file: what their records add, or the first cause for which they are refused.
 use Rattle.std.specs.Prelude.{ℕ, not, nat_lt, List, [], ◌∷◌, ◌++◌, length, map, Result, Ok}
 use Rattle.road_graph.specs.Roads.{has_name}
-use Rattle.day_text.specs.Causes.{◌>>=◌, demand, limit, or_bad}
-use Rattle.day_text.specs.Fields.{field_of, name_of}
-use Rattle.day_text.specs.Records.{Row, is_blank_from}
+use Rattle.record_text.specs.Causes.{◌>>=◌, demand, limit, or_bad}
+use Rattle.record_text.specs.Fields.{field_of, name_of}
+use Rattle.record_text.specs.Records.{Row, is_blank_from}
 use Rattle.day_text.specs.Trucks.{load_of, truck_fields_of}
 use Rattle.trip_analysis.specs.declared.base.Truck.{Truck}
-use Rattle.day_text.specs.declared.refusal.Cause.{Cause}
-use Rattle.day_text.specs.declared.refusal.RecordCause.TheVariants as bad
-use Rattle.day_text.specs.declared.refusal.Kind.TheVariants as kind
+use Rattle.record_text.specs.declared.refusal.Cause.{Cause}
+use Rattle.record_text.specs.declared.refusal.RecordCause.TheVariants as bad
+use Rattle.record_text.specs.declared.refusal.Kind.TheVariants as kind
 
 abbrev pub truck_names : List Truck → List (List ℕ)
 truck_names trucks = map (λ t. t.name) trucks

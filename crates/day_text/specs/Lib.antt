@@ -1,6 +1,7 @@
-pub mod Fields
-pub mod Causes
-pub mod Records
+pub use Rattle.record_text.specs.Fields
+pub use Rattle.record_text.specs.Causes
+pub use Rattle.record_text.specs.Records
+pub mod Refusals
 pub mod Trucks
 pub mod Spans
 pub mod Checks

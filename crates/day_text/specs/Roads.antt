@@ -4,14 +4,14 @@ use Rattle.road_graph.specs.Adding.{new_segment, with_limit, with_node, with_seg
 use Rattle.road_graph.specs.Ranges.{is_feet, is_inches, is_limit, is_rating}
 use Rattle.road_graph.specs.Roads.{Roads, has_name, segment_names, span_names, spans_of}
 use Rattle.road_graph.specs.Roads.{number_of as number_named}
-use Rattle.day_text.specs.Causes.{◌>>=◌, demand, limit, or_bad}
-use Rattle.day_text.specs.Fields.{field_of, name_of, number_of, what_of}
-use Rattle.day_text.specs.Records.{Row, is_blank_from}
+use Rattle.record_text.specs.Causes.{◌>>=◌, demand, limit, or_bad}
+use Rattle.record_text.specs.Fields.{field_of, name_of, number_of, what_of}
+use Rattle.record_text.specs.Records.{Row, is_blank_from}
 use Rattle.day_text.specs.declared.kind.RoadKind.{RoadKind}
 use Rattle.day_text.specs.declared.kind.RoadKind.TheVariants.{Limit, Node, Segment, Span}
-use Rattle.day_text.specs.declared.refusal.Cause.{Cause}
-use Rattle.day_text.specs.declared.refusal.RecordCause.TheVariants as bad
-use Rattle.day_text.specs.declared.refusal.Kind.TheVariants as kind
+use Rattle.record_text.specs.declared.refusal.Cause.{Cause}
+use Rattle.record_text.specs.declared.refusal.RecordCause.TheVariants as bad
+use Rattle.record_text.specs.declared.refusal.Kind.TheVariants as kind
 
 -- node,NAME
 unfoldable pub node_of : Roads → Row → Result Roads Cause

@@ -4,14 +4,14 @@ use Rattle.axle_train.specs.declared.axle.Axle.{Axle}
 use Rattle.axle_train.specs.declared.refusal.TrainRefusal.{TrainRefusal}
 use Rattle.axle_train.specs.declared.refusal.TrainRefusal.TheVariants.{TooFew, TooMany, PlaceOrder, Weight, Gross, TooLong}
 use Rattle.axle_train.specs.Refusals.{refusal_of}
-use Rattle.day_text.specs.Causes.{◌>>=◌, demand, or_bad}
-use Rattle.day_text.specs.Fields.{axles_of, field_of, name_of, number_of}
-use Rattle.day_text.specs.Records.{Row, is_blank_from}
+use Rattle.record_text.specs.Causes.{◌>>=◌, demand, or_bad}
+use Rattle.record_text.specs.Fields.{axles_of, field_of, name_of, number_of}
+use Rattle.record_text.specs.Records.{Row, is_blank_from}
 use Rattle.clearance_rules.specs.Loads.{LoadParts, is_cross_section, is_length}
 use Rattle.day_text.specs.declared.truck.TruckFields.{TruckFields}
-use Rattle.day_text.specs.declared.refusal.Cause.{Cause}
-use Rattle.day_text.specs.declared.refusal.Cause.TheVariants as why
-use Rattle.day_text.specs.declared.refusal.RecordCause.TheVariants as bad
+use Rattle.record_text.specs.declared.refusal.Cause.{Cause}
+use Rattle.record_text.specs.declared.refusal.Cause.TheVariants as why
+use Rattle.record_text.specs.declared.refusal.RecordCause.TheVariants as bad
 
 -- the fields of the record, each in its form
 unfoldable pub truck_fields_of : Row → Result TruckFields Cause

@@ -3,14 +3,16 @@
 ghost use Rattle.std.specs.Prelude.{◌≡◌, ◌+◌, ◌++◌, ◌∷◌, [], Ok, IfOk, IfErr, OnOk, IsErrOf, IsErr};
 ghost use Rattle.csv.specs.Records.{fields_of};
 ghost use Rattle.day_text.specs.Spans.{AreSpans, IsSpan};
-ghost use Rattle.day_text.specs.Causes.{Judges, Tells};
+ghost use Rattle.record_text.specs.Causes.{Judges, Tells};
 ghost use Rattle.day_text.specs.Checks.{check_of, ended_check, judge_check, judge_probe, judge_truck, probe_of, truck_of};
 
-use crate::fields::{field, parse_number};
-use crate::records::{Progress, is_blank_from, read_records};
-use crate::refusal::{Cause, DayFileRefusal, FileRefusal, Kind, RecordCause, RecordRefusal};
+use crate::refusal::DayFileRefusal;
 use crate::truck::{load_of, parse_truck};
 use csv::StringRecord;
+use record_text::{
+    Cause, FileRefusal, Kind, Progress, RecordCause, RecordRefusal, field, is_blank_from,
+    parse_number, read_records,
+};
 use std::alloc::Global;
 use std::marker::Model;
 use trip_analysis::Truck;

@@ -4,22 +4,20 @@ ghost use Rattle.std.specs.Prelude.{◌≡◌, ◌<◌, All, IfOk, IfSome, lengt
 ghost use Rattle.csv.specs.Records.{fields_of};
 ghost use Rattle.road_graph.specs.Roads.{segment_names};
 ghost use Rattle.trip_analysis.specs.Applications.{AreAskedThere, AreThere};
-ghost use Rattle.day_text.specs.Causes.{Judges};
-ghost use Rattle.day_text.specs.Fields.{all_numbers};
-ghost use Rattle.day_text.specs.Commands.{applied, apply_fields_of, apply_of, asked_of, change_of, order_of, permit_of, post_of, posting_of, set_day_of, show_of, surrender_of};
+ghost use Rattle.record_text.specs.Causes.{Judges};
+ghost use Rattle.day_text.specs.Commands.{all_numbers, applied, apply_fields_of, apply_of, asked_of, change_of, order_of, permit_of, post_of, posting_of, set_day_of, show_of, surrender_of};
 
 use crate::draft::Draft;
-use crate::fields::{
-    Posted, Route, field, parse_day, parse_name, parse_number, parse_posted, parse_route,
-};
 use crate::kind::CommandKind;
 use crate::orders::Order;
-use crate::records::is_blank_from;
-use crate::refusal::{RecordCause, RecordRefusal};
 use csv::StringRecord;
 use office_core::Command;
 use office_io::Name;
 use permit_days::Day;
+use record_text::{
+    Posted, RecordCause, RecordRefusal, Route, field, is_blank_from, parse_day, parse_name,
+    parse_number, parse_posted, parse_route,
+};
 use restriction_log::Change;
 use road_graph::{Network, Numbers, Span, What};
 use std::alloc::Global;

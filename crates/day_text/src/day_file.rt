@@ -1,17 +1,17 @@
 // The day file: a road network, trucks, actors and the commands of a day.
 
 ghost use Rattle.std.specs.Prelude.{◌≡◌, Ok, IfErr, IfOk, IsErrOf, IsErr};
-ghost use Rattle.day_text.specs.Causes.{Tells};
+ghost use Rattle.record_text.specs.Causes.{Tells};
 ghost use Rattle.day_text.specs.Days.{day_of, ended_day, parts_of};
 ghost use Rattle.day_text.specs.Laws.{IsDayFile};
 
 use crate::draft::Draft;
 use crate::orders::Order;
 use crate::progress::DayProgress;
-use crate::records::read_records;
-use crate::refusal::{DayFileRefusal, FileRefusal, RecordCause, RecordRefusal};
+use crate::refusal::DayFileRefusal;
 use office_io::Name;
 use permit_days::Day;
+use record_text::{FileRefusal, RecordCause, RecordRefusal, read_records};
 use std::alloc::Global;
 use std::marker::Model;
 use trip_analysis::Base;

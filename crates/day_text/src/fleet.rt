@@ -3,11 +3,11 @@
 ghost use Rattle.std.specs.Prelude.{◌≡◌, ◌++◌, ◌∷◌, ◌<◌, [], length, ◌≤◌, false, OnOk, IfErr, IfSome};
 ghost use Rattle.road_graph.specs.Roads.{has_name, number_of};
 ghost use Rattle.day_text.specs.Fleets.{truck_names};
-ghost use Rattle.day_text.specs.declared.refusal.RecordRefusal.TheVariants as refusal;
+ghost use Rattle.record_text.specs.declared.refusal.RecordRefusal.TheVariants as refusal;
 
-use crate::refusal::RecordRefusal;
 use indexmap::IndexSet;
 use office_io::Name;
+use record_text::RecordRefusal;
 use std::alloc::Global;
 use std::marker::Model;
 use trip_analysis::Truck;

@@ -2,16 +2,14 @@
 
 ghost use Rattle.std.specs.Prelude.{◌≡◌};
 ghost use Rattle.csv.specs.Records.{fields_of};
-ghost use Rattle.day_text.specs.Causes.{Grows};
+ghost use Rattle.record_text.specs.Causes.{Grows};
 ghost use Rattle.day_text.specs.Fleets.{actors_of, fleet_of};
 
-use crate::fields::{field, parse_name};
 use crate::fleet::Fleet;
 use crate::names::Names;
-use crate::records::is_blank_from;
-use crate::refusal::{Kind, RecordCause, RecordRefusal};
 use crate::truck::{load_of, parse_truck};
 use csv::StringRecord;
+use record_text::{Kind, RecordCause, RecordRefusal, field, is_blank_from, parse_name};
 use std::alloc::Global;
 use trip_analysis::Truck;
 

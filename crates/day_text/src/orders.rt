@@ -1,11 +1,11 @@
 // The commands of a day file, in the order of their records.
 
 ghost use Rattle.std.specs.Prelude.{◌≡◌, []};
-ghost use Rattle.day_text.specs.Causes.{Grows};
+ghost use Rattle.record_text.specs.Causes.{Grows};
 ghost use Rattle.day_text.specs.Commands.{with_order};
 
-use crate::refusal::{Kind, RecordRefusal};
 use office_core::Command;
+use record_text::{Kind, RecordRefusal};
 use std::alloc::Global;
 use std::marker::Model;
 

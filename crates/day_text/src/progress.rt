@@ -2,22 +2,20 @@
 
 ghost use Rattle.std.specs.Prelude.{◌≡◌};
 ghost use Rattle.csv.specs.Records.{fields_of};
-ghost use Rattle.day_text.specs.Causes.{Judges};
+ghost use Rattle.record_text.specs.Causes.{Judges};
 ghost use Rattle.day_text.specs.Days.{going_on, judge_day, judge_later, judge_opening, opening_of, with_actor, with_command, with_road, with_truck};
 
 use crate::commands::parse_order;
 use crate::draft::Draft;
-use crate::fields::{field, parse_day};
 use crate::fleet::Fleet;
 use crate::kind::{CommandKind, RecordKind, RoadKind, parse_kind};
 use crate::members::{add_actor, add_truck};
 use crate::names::Names;
 use crate::orders::Orders;
-use crate::records::{Progress, is_blank_from};
-use crate::refusal::{RecordCause, RecordRefusal};
 use crate::roads::add_road;
 use csv::StringRecord;
 use permit_days::Day;
+use record_text::{Progress, RecordCause, RecordRefusal, field, is_blank_from, parse_day};
 use road_graph::Network;
 use std::alloc::Global;
 

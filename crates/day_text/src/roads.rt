@@ -2,14 +2,14 @@
 
 ghost use Rattle.std.specs.Prelude.{◌≡◌};
 ghost use Rattle.csv.specs.Records.{fields_of};
-ghost use Rattle.day_text.specs.Causes.{Grows};
+ghost use Rattle.record_text.specs.Causes.{Grows};
 ghost use Rattle.day_text.specs.Roads.{limit_of, node_of, roads_of, segment_of, span_of};
 
-use crate::fields::{field, parse_name, parse_number, parse_what};
 use crate::kind::RoadKind;
-use crate::records::is_blank_from;
-use crate::refusal::{Kind, RecordCause, RecordRefusal};
 use csv::StringRecord;
+use record_text::{
+    Kind, RecordCause, RecordRefusal, field, is_blank_from, parse_name, parse_number, parse_what,
+};
 use road_graph::{AddRefusal, Network, Span};
 
 /// Adds to the road network what a record says of it.

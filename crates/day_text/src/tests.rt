@@ -1,8 +1,8 @@
 use crate::check_file::read_check_file;
 use crate::day_file::read_day_file;
-use crate::refusal::{Cause, FileRefusal, Kind, RecordCause};
 use crate::{DayFileRefusal, read_check, read_day};
 use office_core::Command;
+use record_text::{Cause, FileRefusal, Kind, RecordCause};
 use std::alloc::Global;
 use std::process::Abort;
 use std::test::Fail;

@@ -2,16 +2,16 @@
 
 ghost use Rattle.std.specs.Prelude.{◌≡◌};
 ghost use Rattle.csv.specs.Records.{fields_of};
-ghost use Rattle.day_text.specs.Causes.{Judges};
+ghost use Rattle.record_text.specs.Causes.{Judges};
 ghost use Rattle.day_text.specs.Trucks.{load_of, train_number, truck_fields_of};
 
-use crate::fields::{Axles, field, parse_axles, parse_name, parse_number};
-use crate::records::is_blank_from;
-use crate::refusal::{RecordCause, RecordRefusal};
 use axle_train::{Axle, Train, TrainRefusal};
 use clearance_rules::{Load, is_cross_section, is_length};
 use csv::StringRecord;
 use office_io::Name;
+use record_text::{
+    Axles, RecordCause, RecordRefusal, field, is_blank_from, parse_axles, parse_name, parse_number,
+};
 use std::alloc::Global;
 
 /// The fields of a truck's record, each in its form.

@@ -1,21 +1,12 @@
 -- A fraction over its greatest common divisor is in lowest terms, and has the same value.
-use Rattle.std.proofs.Common.{◌≡◌, ℕ, zero, suc, ◌%◌, ◌<◌, ◌≤◌, ◌^◌, ◌&&◌, eqb, arith, refl, ◌∙◌, inl, inr}
+use Rattle.std.proofs.Common.{◌≡◌, ℕ, zero, suc, ◌%◌, ◌<◌, ◌≤◌, ◌^◌, ◌&&◌, eqb, arith, ◌∙◌, inl, inr}
 use Rattle.std.specs.Int.{IsGcd}
-use Rattle.std.proofs.Math.Nat.{div-le_self, mod-lt}
+use Rattle.std.proofs.Math.Nat.{div-le_self}
 use Rattle.std.proofs.lemmas.Bool.{cases_Bool, cases_lt, and_parts, and_from, both_ways, eqb-true, eq-eqb, cond-true, cond-false}
-use Rattle.std.proofs.lemmas.Nat.Gcd.{IsGcd-from_mod, IsGcd-from_zero, dvd_of_mod-eq-zero, mod-eq-zero_of_dvd, le_from_IsGcd, le_of_dvd}
+use Rattle.std.proofs.lemmas.Nat.Gcd.{dvd_of_mod-eq-zero, mod-eq-zero_of_dvd, le_from_IsGcd, le_of_dvd}
 use Rattle.influence_line.specs.Fractions.{Ratio, IsRatio, IsSmall}
-use Rattle.influence_line.proofs.Lowest.{gcd_pos, gcd_quotients, quotient_some, same_ratio}
+use Rattle.influence_line.proofs.Lowest.{gcd_pos, gcd_quotients, has_gcd, quotient_some, same_ratio}
 use Rattle.hs20_truck.specs.Effects.{greatest_divisor, lowest_of}
-
--- there is a greatest common divisor
-has_gcd : (fuel a b : ℕ) → b < fuel → (g : ℕ) × IsGcd a b g
-has_gcd zero a b h = absurd (omega arith)
-has_gcd (suc fuel) a zero h = (a, IsGcd-from_zero a 0 refl)
-has_gcd (suc fuel) a (suc b) h =
-    let less : a % suc b < suc b = mod-lt a (omega arith) in
-    let g = has_gcd fuel (suc b) (a % suc b) (omega arith) in
-    (g.0, IsGcd-from_mod a (suc b) g.0 g.1)
 
 -- the greatest number that divides both is found from any number up that is no less
 found : (a b n g : ℕ) → IsGcd a b g → 1 ≤ g → g ≤ n → greatest_divisor a b n ≡ g

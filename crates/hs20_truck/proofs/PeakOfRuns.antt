@@ -1,5 +1,5 @@
 -- The greatest of the moments of the runs that can be on the span, in lowest terms, is the peak moment.
-use Rattle.std.proofs.Common.{◌≡◌, ℕ, zero, suc, ◌+◌, ◌-◌, ◌*◌, ◌<◌, ◌≤◌, ◌^◌, List, length, arith, refl}
+use Rattle.std.proofs.Common.{ℕ, zero, suc, ◌+◌, ◌-◌, ◌*◌, ◌<◌, ◌≤◌, ◌^◌, List, length, arith, refl}
 use Rattle.std.specs.List.{All}
 use Rattle.std.proofs.Math.Nat.{mul-le-mul, mul-pos, le_of_mul-le-mul_right}
 use Rattle.std.proofs.lemmas.List.Elements.{All-contains, All-weaker, recursion_from_All, All-from_recursion}
@@ -9,28 +9,17 @@ use Rattle.axle_train.specs.Trains.{axle_at}
 use Rattle.axle_train.proofs.Places.{axle_fits}
 use Rattle.influence_line.specs.Fractions.{Ratio, IsSmall}
 use Rattle.influence_line.specs.Peaks.{IsPeakMoment, IsTrainPlaced}
-use Rattle.influence_line.proofs.Products.{product_most}
 use Rattle.moment_peak.specs.declared.best.Candidate.{Candidate}
-use Rattle.moment_peak.specs.Runs.{run_value, run_weight, run_moment, vertex_value, IsRun, CanBeOnSpan}
+use Rattle.moment_peak.specs.Runs.{run_value, run_weight, run_moment, IsRun, CanBeOnSpan}
 use Rattle.moment_peak.specs.Candidates.{IsAttained, IsBest}
-use Rattle.moment_peak.proofs.BestBounds.{run_loaded, first_value, alone_some, inside_left, inside_right}
+use Rattle.moment_peak.proofs.BestBounds.{run_loaded, first_value, alone_some}
 use Rattle.moment_peak.proofs.PeakOfBest.{peak_of_best, peak_reduced}
 use Rattle.moment_peak.proofs.RunSums.{are_sums}
-use Rattle.moment_peak.proofs.Small.{run_light}
+use Rattle.moment_peak.proofs.Small.{run_light, value_most}
 use Rattle.hs20_truck.specs.Effects.{greatest, lowest_of, vertex_moment, moments_of_runs, moment_of}
 use Rattle.hs20_truck.proofs.LowestTerms.{lowest_same, lowest_small}
 use Rattle.hs20_truck.proofs.Greatest.{IsNoMore, IsGreatest, greatest_is}
 use Rattle.hs20_truck.proofs.MomentOfRuns.{IsMomentOfRun, each_of_runs, among_runs}
-
--- a value is at most the square of the weight times the span
-value_most : (span R D E : ℕ) → 0 < vertex_value span R D E → vertex_value span R D E ≤ R * span * (R * span)
-unfolding vertex_value
-value_most span R D E h =
-    let left = inside_left span R D E h in
-    let right = inside_right span R D E h in
-    let both : (R * span + D - E) + (R * span + E - D) ≡ 2 * (R * span) = omega arith in
-    let most = rw both at (product_most (R * span + D - E) (R * span + E - D)) in
-    omega (arith, most)
 
 module _ (axles : List Axle) (span : ℕ) (some : 1 ≤ span) (train : IsTrain axles) where
   -- the first axle alone can be on each span, and has a moment

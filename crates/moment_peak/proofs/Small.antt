@@ -15,7 +15,8 @@ use Rattle.moment_peak.proofs.Runs.{weight_of}
 use Rattle.moment_peak.proofs.RunSums.{sum_part}
 use Rattle.moment_peak.proofs.BestBounds.{inside_left, inside_right, run_loaded}
 
-value_most : (span R D E : ℕ) → 0 < vertex_value span R D E → vertex_value span R D E ≤ R * span * (R * span)
+-- a value is at most the square of the weight times the span
+pub value_most : (span R D E : ℕ) → 0 < vertex_value span R D E → vertex_value span R D E ≤ R * span * (R * span)
 unfolding vertex_value
 value_most span R D E h =
     let left = inside_left span R D E h in

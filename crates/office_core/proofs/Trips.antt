@@ -1,10 +1,8 @@
 -- What a finding says of the walks of its trip.
-use Rattle.std.proofs.Common.{◌≡◌, ◌≢◌, ◌⊎◌, inl, inr, ◌+◌, ◌-◌, ◌<◌, ◌≤◌, ◌∷◌, [], ◌&&◌, ◌||◌, ◌==◌, not, ℕ, zero, suc, List, Bool, cond, true, false, length, filter, get_or, refl, ap, sym, ◌∙◌, subst, arith, Option, Some, None, is_none, if◌then◌else◌, eq-eqb}
+use Rattle.std.proofs.Common.{◌≡◌, ◌≢◌, ◌⊎◌, inl, inr, ◌+◌, ◌-◌, ◌<◌, ◌≤◌, ◌∷◌, [], ◌&&◌, ◌||◌, ◌==◌, not, ℕ, zero, suc, List, Bool, cond, true, false, length, filter, refl, ap, sym, ◌∙◌, subst, arith, Option, Some, None, is_none, if◌then◌else◌, eq-eqb}
 use Rattle.std.specs.Prelude.{slice_get}
 use Rattle.std.specs.List.{range_with_len}
 use Rattle.std.proofs.lemmas.Bool.{cases_Bool, cases_eq, false≢true}
-use Rattle.std.proofs.lemmas.Bool.Decides.{nat_tests}
-use Rattle.std.proofs.lemmas.List.Folds.{list_any_at}
 use Rattle.std.proofs.lemmas.Option.{get_or_from_slice_get, slice_get_within}
 use Rattle.road_graph.specs.Roads.{Roads, no_segment}
 use Rattle.restriction_log.specs.States.{InForce}
@@ -17,10 +15,11 @@ use Rattle.trip_analysis.specs.Bases.{BaseLists}
 use Rattle.trip_analysis.specs.Applications.{Sound, IsAskedWalk}
 use Rattle.trip_analysis.specs.Findings.{limit_for, is_passable, first_on, first_or, first_meeting, leaving, leaves, IsFinding, IsFoundBy, asked_finding, flags_of, is_in, what_of, needs_none}
 use Rattle.trip_analysis.specs.declared.finding.What.TheVariants as what
-use Rattle.route_search.specs.Walks.{IsWalk, every, flagged, CanReach, AreReached, IsAmong}
+use Rattle.route_search.specs.Walks.{IsWalk, every, flagged, CanReach, AreReached}
 use Rattle.route_search.specs.declared.found.Found.{Found}
 use Rattle.route_search.specs.declared.found.Found.TheVariants as found
 use Rattle.route_search.specs.Founds.{IsFound as IsSearched}
+use Rattle.trip_analysis.proofs.Found.{among_from_is_in, is_in_from_among}
 use Rattle.trip_analysis.proofs.Meanings.{asked_meet, routes_are_first}
 use Rattle.office_core.proofs.Replies.{first_or_none}
 
@@ -90,24 +89,10 @@ pub record Separates (nodes : List ℕ) (a b : ℕ) : Type 0 where
   pub inside : is_in a nodes ≡ true
   pub outside : is_in b nodes ≡ false
 
-among_in : (nodes : List ℕ) (v k : ℕ) → slice_get nodes k ≡ Some v → is_in v nodes ≡ true
-among_in nodes v k at =
-    let within : k < length nodes = slice_get_within nodes k v at in
-    let is : get_or nodes k 0 ≡ v = get_or_from_slice_get nodes k v 0 at in
-    list_any_at (λ n. n == v) nodes k 0 within (eq-eqb (get_or nodes k 0) v is)
-
-in_among : (nodes : List ℕ) (v : ℕ) → is_in v nodes ≡ true → IsAmong nodes v
-in_among [] v e = cc
-in_among (n ∷ rest) v e = by (n == v) refl e (in_among rest v)
-  where
-    by : (b : Bool) → (n == v) ≡ b → (b || is_in v rest) ≡ true → (is_in v rest ≡ true → IsAmong rest v) → IsAmong (n ∷ rest) v
-    by true is h again = let same : n ≡ v = grind (arith, nat_tests, is) in (0, ap (λ (k : ℕ). Some k) same)
-    by false is h again = let (k, at) = again h in (suc k, at)
-
 reached_separate : (segments : List Segment) (may : ℕ → Bool) (a b : ℕ) (nodes : List ℕ) → AreReached segments may a nodes → (CanReach segments may a b → ⊥) → Separates nodes a b
 reached_separate segments may a b nodes h none = record {
-  inside = let (k, at) = h.complete a ([], refl) in among_in nodes a k at;
-  outside = elim (cases_Bool (is_in b nodes)) [ inl e ↦ absurd (let (k, at) = in_among nodes b e in none (h.sound k b at)) | inr e ↦ e ];
+  inside = let (k, at) = h.complete a ([], refl) in is_in_from_among a nodes k at;
+  outside = elim (cases_Bool (is_in b nodes)) [ inl e ↦ absurd (let (k, at) = among_from_is_in b nodes e in none (h.sound k b at)) | inr e ↦ e ];
 }
 
 -- a cut is found where no route is asked for, and its nodes hold the beginning of the trip and not its end

@@ -1,4 +1,3 @@
-pub mod Entries
 pub mod Queues
 pub mod Weights
 pub mod Steps

@@ -5,8 +5,7 @@ use Rattle.std.proofs.lemmas.Option.{get_or_from_slice_get}
 use Rattle.std.proofs.lemmas.List.{append-nil}
 use Rattle.std.proofs.lemmas.Bool.{cases_lt, false≢true}
 use Rattle.road_graph.specs.Roads.{Roads}
-use Rattle.road_graph.proofs.Places.{get-front, get-push_cases, get_within}
-use Rattle.route_search.proofs.Entries.{get-last}
+use Rattle.road_graph.proofs.Places.{get-front, get-last, get-push_cases, get_within}
 use Rattle.route_search.specs.Walks.{AreReached}
 use Rattle.route_search.specs.Reaching.{AreMarked}
 use Rattle.route_search.specs.Listing.{marked_below}

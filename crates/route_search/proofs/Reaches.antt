@@ -3,14 +3,12 @@ use Rattle.std.proofs.Common.{◌≡◌, ◌⊎◌, ◌+◌, ◌<◌, ◌≤◌,
 use Rattle.std.proofs.lemmas.List.{length-replicate}
 use Rattle.std.specs.Prelude.{slice_get, Contains}
 use Rattle.std.proofs.lemmas.List.Elements.{Contains-append_left, Contains-push, Contains-push_cases}
-use Rattle.std.proofs.lemmas.Bool.{false≢true}
+use Rattle.std.proofs.lemmas.Bool.{cases_eq, false≢true}
 use Rattle.road_graph.specs.declared.segment.Segment.{Segment}
 use Rattle.road_graph.specs.Roads.{IsOutgoing, IsRoads, Roads}
-use Rattle.road_graph.proofs.Places.{get-push_cases, get_within}
-use Rattle.route_search.proofs.Entries.{get-set_other, get-set_same}
+use Rattle.road_graph.proofs.Places.{get-push_cases, get-set_other, get-set_same, get_within}
 use Rattle.route_search.specs.Walks.{CanReach, IsWalk}
 use Rattle.route_search.specs.Reaching.{AreMarked, IsMarked, IsMarkedToo, IsReaching, IsSpread, IsSpreading, to_do}
-use Rattle.std.proofs.lemmas.Bool.{cases_eq}
 
 pub segment_is : (s t : Segment) → Some s ≡ Some t → s ≡ t
 segment_is s t e = cc

@@ -4,8 +4,7 @@ use Rattle.std.specs.Prelude.{slice_get}
 use Rattle.std.proofs.lemmas.Bool.{cases_lt}
 use Rattle.road_graph.specs.declared.segment.Segment.{Segment}
 use Rattle.road_graph.specs.Roads.{IsOutgoing, IsRoads, Roads}
-use Rattle.road_graph.proofs.Places.{get_within}
-use Rattle.route_search.proofs.Entries.{get_some}
+use Rattle.road_graph.proofs.Places.{get_some, get_within}
 use Rattle.route_search.specs.Walks.{ArePotentials, IsLeastLength, IsNotAfter, IsPotential, IsRoute, IsWalk, feet_at, feet_of}
 use Rattle.route_search.specs.Following.{IsFirstTight, IsTight}
 

@@ -2,18 +2,16 @@
 use Rattle.std.proofs.Common.{◌≡◌, ◌≢◌, ◌⊎◌, ◌+◌, ◌*◌, ◌<◌, ◌≤◌, ◌∷◌, ◌++◌, [], ℕ, suc, zero, List, Bool, true, false, Option, Some, None, length, set, get_or, refl, ap, sym, subst, inl, inr, arith, ◌∙◌, length-set, replicate}
 use Rattle.std.proofs.lemmas.List.{length-replicate}
 use Rattle.std.specs.Prelude.{slice_get}
-use Rattle.std.proofs.lemmas.Bool.{false≢true}
+use Rattle.std.proofs.lemmas.Bool.{cases_eq, false≢true}
 use Rattle.std.proofs.lemmas.Option.{get_or_from_slice_get, slice_get-get_or}
 use Rattle.road_graph.specs.declared.segment.Segment.{Segment}
 use Rattle.road_graph.specs.Roads.{IsIncoming, IsRoads, Roads}
-use Rattle.road_graph.proofs.Places.{get-push_cases}
-use Rattle.route_search.proofs.Entries.{get-set_other, get-set_same}
+use Rattle.road_graph.proofs.Places.{get-push_cases, get-set_other, get-set_same}
 use Rattle.road_graph.specs.declared.segment.Arrival.{Arrival}
 use Rattle.route_search.specs.declared.waiting.Waiting.{Waiting}
 use Rattle.route_search.specs.Walks.{ArePotentials, IsPotential, IsWalk, feet_at, feet_of}
 use Rattle.route_search.specs.Settling.{IsBelow, IsIn, IsKept, IsPushed, IsRelaxing, IsSearching, IsSettledFrom, IsShortened, IsTried, all_weight, beyond, known, one_if_known, weight_of}
 use Rattle.route_search.proofs.Weights.{all_weight-set, known-set}
-use Rattle.std.proofs.lemmas.Bool.{cases_eq}
 
 pub some_injective : (a b : ℕ) → Some (Some a) ≡ Some (Some b) → a ≡ b
 some_injective a b e = cc

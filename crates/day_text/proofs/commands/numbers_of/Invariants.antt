@@ -1,6 +1,6 @@
 use Rattle.std.proofs.Common.{◌≡◌, ◌++◌, ◌<◌, All, drop, length, option_map}
 use Rattle.road_graph.specs.Roads.{segment_names}
-use Rattle.day_text.specs.Fields.{all_numbers}
+use Rattle.day_text.specs.Commands.{all_numbers}
 use Rattle.day_text.proofs.commands.numbers_of.Given as goal
 
 abbrev pub invariant-route : goal.invariant-route

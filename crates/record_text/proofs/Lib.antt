@@ -1,0 +1,6 @@
+pub mod Rows
+pub mod Reading
+pub mod Judging
+pub mod Blanks
+pub mod Numbers
+pub mod Steps

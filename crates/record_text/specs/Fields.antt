@@ -1,0 +1,79 @@
+-- The forms of the fields of a record.
+use Rattle.std.specs.Prelude.{ℕ, codes, ◌&&◌, nat_le, ◌==◌, if◌then◌else◌, List, [], ◌∷◌, length, Option, Some, None, Result, Ok, Err, option_map, option_and_then, unwrap_or}
+use Rattle.std.specs.List.{list_all, slice_split}
+use Rattle.std.specs.Char.{is_ascii_digit}
+use Rattle.std.specs.Str.{bytes_eq}
+use Rattle.std.specs.Str.Parse.{digits_value}
+use Rattle.csv.specs.Records.{field_at}
+use Rattle.office_io.specs.Names.{is_name}
+use Rattle.axle_train.specs.declared.axle.Axle.{Axle}
+use Rattle.road_graph.specs.declared.values.What.{What}
+use Rattle.permit_days.specs.Days.{reading_of}
+use Rattle.permit_days.specs.declared.refusal.DayRefusal.{DayRefusal}
+use Rattle.permit_days.specs.declared.refusal.DayRefusal.TheVariants.{NoSuchDay, Shape}
+use Rattle.record_text.specs.declared.posted.Posted.{Posted}
+use Rattle.record_text.specs.declared.posted.Posted.TheVariants as posted
+use Rattle.road_graph.specs.declared.values.What.TheVariants.{Closed, Height, Width, Length, Gross, Allowance}
+
+-- the field at a place, counted from 0; empty where there is none
+abbrev pub field_of : List (List ℕ) → ℕ → List ℕ
+field_of fields i = unwrap_or (field_at fields i) []
+
+-- a name: 1 to 16 letters, digits, dashes and underscores of ASCII
+abbrev pub name_of : List ℕ → Option (List ℕ)
+name_of text = if is_name text then Some text else None
+
+-- a number: one to nine decimal digits of ASCII, read in base ten; zeros in front are accepted
+unfoldable pub number_of : List ℕ → Option ℕ
+number_of text = if nat_le 1 (length text) && nat_le (length text) 9 && list_all is_ascii_digit text then Some (digits_value 10 text) else None
+
+-- an axle: PLACE:WEIGHT, so two numbers around the one colon
+abbrev pub axle_of_parts : List (List ℕ) → Option Axle
+axle_of_parts [] = None
+axle_of_parts (place ∷ []) = None
+axle_of_parts (place ∷ weight ∷ []) = option_and_then (λ p. option_map (λ w. record { place = p; weight = w }) (number_of weight)) (number_of place)
+axle_of_parts (place ∷ weight ∷ more ∷ parts) = None
+
+abbrev pub axle_of : List ℕ → Option Axle
+axle_of text = axle_of_parts (slice_split (λ b. b == 58) text)
+
+-- each of some axles
+abbrev pub all_axles : List (List ℕ) → Option (List Axle)
+all_axles [] = Some []
+all_axles (part ∷ parts) = option_and_then (λ a. option_map (λ axles. a ∷ axles) (all_axles parts)) (axle_of part)
+
+-- an axle field: one axle and more, with one space between them
+abbrev pub axles_of : List ℕ → Option (List Axle)
+axles_of text = all_axles (slice_split (λ b. b == 32) text)
+
+-- which of a segment's limits a word means
+abbrev pub what_of : List ℕ → Option What
+what_of text =
+    if bytes_eq text (codes "closed") then Some Closed
+    else (if bytes_eq text (codes "height") then Some Height
+    else (if bytes_eq text (codes "width") then Some Width
+    else (if bytes_eq text (codes "length") then Some Length
+    else (if bytes_eq text (codes "gross") then Some Gross
+    else (if bytes_eq text (codes "allowance") then Some Allowance else None)))))
+
+-- what a posting replaces: a limit of a segment, or the rating of a span
+abbrev pub posted_of : List ℕ → Option Posted
+posted_of text = if bytes_eq text (codes "rating") then Some posted.Rating else option_map posted.Limit (what_of text)
+
+-- a text of the form of a day: the day, or none where the calendar lacks it
+abbrev pub day_or_none : Result (List ℕ) DayRefusal → Option (Option (List ℕ))
+day_or_none (Ok day) = Some (Some day)
+day_or_none (Err NoSuchDay) = Some None
+day_or_none (Err Shape) = None
+
+abbrev pub day_of : List ℕ → Option (Option (List ℕ))
+day_of text = day_or_none (reading_of text)
+
+-- each of some names
+abbrev pub all_names : List (List ℕ) → Option (List (List ℕ))
+all_names [] = Some []
+all_names (part ∷ parts) = option_and_then (λ name. option_map (λ names. name ∷ names) (all_names parts)) (name_of part)
+
+-- a route field: nothing, or names with one space between them
+abbrev pub route_of : List ℕ → Option (List (List ℕ))
+route_of text = if length text == 0 then Some [] else all_names (slice_split (λ b. b == 32) text)

@@ -1,0 +1,66 @@
+// The field of axles.
+
+ghost use Rattle.std.specs.Prelude.{◌≡◌, IfOk};
+ghost use Rattle.record_text.specs.Fields.{axle_of, axles_of};
+
+use crate::fields::parse_number;
+use crate::split::{split_at_colons, split_at_spaces};
+use axle_train::Axle;
+use std::alloc::{AllocError, Global};
+use std::marker::Model;
+
+/// The axles of a field.
+#[derive(Drop)]
+pub struct Axles {
+    list: Vec<Axle>,
+}
+
+impl Model for Axles {
+    ghost use Rattle.std.specs.Prelude.{List};
+    ghost use Rattle.axle_train.specs.declared.axle.Axle.{Axle};
+
+    ghost Value = { List Axle };
+
+    ghost view = { λ a. a.list.items };
+}
+
+impl Axles {
+    /// The axles as a slice.
+    pub fn as_slice(&self) -> &[Axle]
+        ensures { result.now ≡ self.now }
+    {
+        self.list.as_slice()
+    }
+}
+
+/// The axles of a field, with one space between them.
+pub fn parse_axles(alloc: Global, text: &str) -> Result<Option<Axles>, AllocError>
+    ensures { IfOk result (λ axles. axles ≡ axles_of text.now) }
+{
+    let parts = split_at_spaces(alloc, text)?;
+    let mut list = Vec::new(alloc);
+    'parts: for part in &parts {
+        match parse_axle(alloc, part)? {
+            Some(axle) => list.push(axle)?,
+            None => return Ok(None),
+        }
+    }
+    Ok(Some(Axles { list }))
+}
+
+// The axle PLACE:WEIGHT.
+fn parse_axle(alloc: Global, text: &str) -> Result<Option<Axle>, AllocError>
+    ensures { IfOk result (λ axle. axle ≡ axle_of text.now) }
+{
+    let parts = split_at_colons(alloc, text)?;
+    if parts.len() != 2 {
+        return Ok(None);
+    }
+    let Some(place) = parse_number(parts[0]) else {
+        return Ok(None);
+    };
+    let Some(weight) = parse_number(parts[1]) else {
+        return Ok(None);
+    };
+    Ok(Some(Axle { place, weight }))
+}
