@@ -71,14 +71,7 @@ impl Application {
         if last < first {
             return Err(ApplicationRefusal::DayOrder);
         }
-        Ok(Application {
-            truck,
-            from,
-            to,
-            asked,
-            first,
-            last,
-        })
+        Ok(Application::of_fields(truck, from, to, asked, first, last))
     }
 
     /// The application of these six fields, of which nothing is tested. Takes no memory.

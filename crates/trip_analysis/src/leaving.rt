@@ -12,6 +12,8 @@ use road_graph::Network;
 use std::sync::ledger::Ledger;
 
 /// The least segment from a number on that leaves these nodes, which rise. Takes no memory.
+///
+/// That it is below 16,384, the most segments of a network, is said so that a caller can go on from the number after it.
 #[tactic(auto, using(crate::proofs::Crossing::lemmas))]
 pub fn next_leaving(network: &Network, nodes: &[u32], start: u32) -> Option<u32>
     requires rising { AreRising nodes.now }
