@@ -2,6 +2,7 @@ pub mod Totals
 pub mod Lines
 pub mod Sections
 pub mod Lowest
+pub mod Binary
 pub mod Products
 pub mod Unique
 pub mod Moves
