@@ -13,3 +13,4 @@ pub mod Founds
 pub mod Histories
 pub mod Later
 pub mod Says
+pub mod Touching

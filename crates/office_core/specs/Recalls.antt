@@ -1,5 +1,5 @@
 -- Which permits a state of the roads fails, and their recall.
-use Rattle.std.specs.Prelude.{◌≡◌, ◌<◌, ◌∷◌, [], List, ℕ, Bool, true, length, if◌then◌else◌, ◌&&◌, not, filter, map, All}
+use Rattle.std.specs.Prelude.{◌≡◌, ◌≢◌, ◌<◌, ◌∷◌, [], List, ℕ, Bool, true, false, length, if◌then◌else◌, ◌&&◌, not, filter, map, All}
 use Rattle.std.specs.List.{list_any}
 use Rattle.restriction_log.specs.States.{InForce}
 use Rattle.permit_book.specs.declared.permit.Permit.{Permit}
@@ -16,6 +16,18 @@ fails base state p = list_any (λ s. not (is_passable base state p.truck s)) p.r
 -- whether a state recalls the permit: it is in force, and fails
 abbrev pub is_recalled : BaseLists → InForce → List ℕ → Permit → Bool
 is_recalled base state day p = in_force day p && fails base state p
+
+-- each permit in force meets its truck at all of its segments
+abbrev pub InForceMeet : BaseLists → InForce → List ℕ → List Permit → Type 0
+InForceMeet base state day permits = All (λ p. in_force day p ≡ true → fails base state p ≡ false) permits
+
+-- the permit meets its truck at each of its segments but this one
+abbrev pub MeetsElsewhere : BaseLists → InForce → ℕ → Permit → Type 0
+MeetsElsewhere base state segment p = All (λ s. s ≢ segment → is_passable base state p.truck s ≡ true) p.route
+
+-- each permit in force meets its truck at all of its segments but this one
+abbrev pub InForceMeetElsewhere : BaseLists → InForce → ℕ → List ℕ → List Permit → Type 0
+InForceMeetElsewhere base state segment day permits = All (λ p. in_force day p ≡ true → MeetsElsewhere base state segment p) permits
 
 -- the numbers of the permits that a state recalls, rising
 abbrev pub recalled_by : BaseLists → InForce → List ℕ → List Permit → List ℕ

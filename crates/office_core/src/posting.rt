@@ -7,9 +7,9 @@ ghost use Rattle.restriction_log.specs.States.{state_of};
 ghost use Rattle.restriction_log.specs.Logs.{IsLogOf};
 ghost use Rattle.clearance_rules.specs.Limits.{AreOf};
 ghost use Rattle.permit_book.specs.declared.permit.Mark.TheVariants as mark;
-ghost use Rattle.permit_book.specs.Permits.{AreNumbered};
+ghost use Rattle.permit_book.specs.Permits.{AreNumbered, in_force};
 ghost use Rattle.office_core.specs.declared.entry.Call.TheVariants as call;
-ghost use Rattle.office_core.specs.Recalls.{AreLive, IsRanged, fails, is_recalled, marked_all, recalled_by};
+ghost use Rattle.office_core.specs.Recalls.{AreLive, InForceMeet, InForceMeetElsewhere, IsRanged, MeetsElsewhere, fails, is_recalled, marked_all, recalled_by};
 ghost use Rattle.office_core.specs.Machine.{IsAnswer, after, machine_at, posted_reply, with_posting};
 
 use crate::entry::Reply;
@@ -17,40 +17,46 @@ use clearance_rules::Steps;
 use office_io::NoMemory;
 use permit_book::{Book, Permit};
 use permit_days::Day;
-use restriction_log::{Change, Log, State, takes};
+use restriction_log::{Change, Log, State, takes, touched};
 use road_graph::Numbers;
 use std::alloc::{AllocError, Global};
 use std::sync::ledger::Ledger;
-use trip_analysis::{Base, first_on};
+use trip_analysis::{Base, failing_limit};
 
-// Whether a segment of the permit fails its truck.
-#[tactic(auto, using(crate::proofs::Replies::found_fails))]
+// Whether a segment of the permit fails its truck, where each but one is known to meet it: that one alone is tested.
 fn permit_fails<L: Ledger>(
     base: &Base,
     state: &State,
+    segment: u32,
     permit: &Permit,
     steps: &mut Steps<L>,
 ) -> bool
     requires ranged { IsRanged base.now permit.now }
     requires of_base { AreOf base.now.roads state.now }
+    requires there { segment < length base.now.roads.segments }
+    requires elsewhere { MeetsElsewhere base.now state.now segment permit.now }
     ensures { result ≡ fails base.now state.now permit.now }
 {
-    first_on(base, state, permit.truck, permit.route.as_slice(), steps).is_some()
+    permit.route.as_slice().contains(&segment)
+        && failing_limit(base, state, permit.truck, segment, steps).is_some()
 }
 
 // Whether the state recalls the permit.
 fn is_recalled<L: Ledger>(
     base: &Base,
     state: &State,
+    segment: u32,
     day: Day,
     permit: &Permit,
     steps: &mut Steps<L>,
 ) -> bool
     requires ranged { IsRanged base.now permit.now }
     requires of_base { AreOf base.now.roads state.now }
+    requires there { segment < length base.now.roads.segments }
+    requires elsewhere { in_force day permit.now ≡ true → MeetsElsewhere base.now state.now segment permit.now }
     ensures { result ≡ is_recalled base.now state.now day permit.now }
 {
-    permit.status(day).is_in_force() && permit_fails(base, state, permit, steps)
+    permit.status(day).is_in_force() && permit_fails(base, state, segment, permit, steps)
 }
 
 // A number more, where it is one of those.
@@ -63,24 +69,27 @@ fn push_if(numbers: &mut Vec<u32>, is_one: bool, number: u32) -> Result<(), Allo
     Ok(())
 }
 
-// The numbers of the permits that the state recalls.
+// The numbers of the permits that the state recalls, where each in force is known to meet it but at one segment.
 #[tactic(auto, using(crate::proofs::Recalls::recalled_more))]
 fn recalled_by<L: Ledger>(
     alloc: Global,
     base: &Base,
     state: &State,
+    segment: u32,
     day: Day,
     permits: &[Permit],
     steps: &mut Steps<L>,
 ) -> Result<Vec<u32>, AllocError>
     requires ranged { All (IsRanged base.now) permits.now }
     requires of_base { AreOf base.now.roads state.now }
+    requires there { segment < length base.now.roads.segments }
+    requires elsewhere { InForceMeetElsewhere base.now state.now segment day permits.now }
     ensures { IfOk result (λ numbers. numbers.items ≡ recalled_by base.now state.now day permits.now) }
 {
     let mut numbers = Vec::new(alloc);
     for i in 0..permits.len() {
         let permit = &permits[i];
-        let is_one = is_recalled(base, state, day, permit, steps);
+        let is_one = is_recalled(base, state, segment, day, permit, steps);
         push_if(&mut numbers, is_one, permit.number)?;
     }
     Ok(numbers)
@@ -114,6 +123,7 @@ fn post<L: Ledger>(
     requires numbered { AreNumbered 0 book.old }
     requires ranged { All (IsRanged base.now) book.old }
     requires state { state.old ≡ state_of base.now.roads log.old.changes }
+    requires meet { InForceMeet base.now (state_of base.now.roads log.old.changes) day book.old }
     ensures same { IfOk result (λ r. r.1 ≡ r.0) }
     ensures reply { IfOk result (λ r. r.0 ≡ posted_reply base.now (machine_at log.old.changes book.old day) change.now) }
     ensures after { IfOk result (λ r. with_posting base.now (machine_at log.old.changes book.old day) change.now r.0 ≡ machine_at log.new.changes book.new day) }
@@ -122,7 +132,16 @@ fn post<L: Ledger>(
     ensures lack { OnErr result ((log.new.changes ≡ log.old.changes) × (book.new ≡ book.old)) }
 {
     let next = state.with(alloc, change)?;
-    let recalled = Numbers::of(recalled_by(alloc, base, &next, day, book.permits(), steps)?);
+    let segment = touched(base.network(), change);
+    let recalled = Numbers::of(recalled_by(
+        alloc,
+        base,
+        &next,
+        segment,
+        day,
+        book.permits(),
+        steps,
+    )?);
     let told = recalled.try_clone(alloc)?;
     let Ok(version) = log.post(base.network(), *change) else {
         return Err(NoMemory);
@@ -154,6 +173,7 @@ fn post_or_refuse<L: Ledger>(
     requires numbered { AreNumbered 0 book.old }
     requires ranged { All (IsRanged base.now) book.old }
     requires state { state.old ≡ state_of base.now.roads log.old.changes }
+    requires meet { InForceMeet base.now (state_of base.now.roads log.old.changes) day book.old }
     ensures same { IfOk result (λ r. r.1 ≡ r.0) }
     ensures reply { IfOk result (λ r. r.0 ≡ posted_reply base.now (machine_at log.old.changes book.old day) change.now) }
     ensures after { IfOk result (λ r. with_posting base.now (machine_at log.old.changes book.old day) change.now r.0 ≡ machine_at log.new.changes book.new day) }
@@ -184,6 +204,7 @@ pub(crate) fn answer_post<L: Ledger>(
     requires numbered { AreNumbered 0 book.old }
     requires ranged { All (IsRanged base.now) book.old }
     requires state { state.old ≡ state_of base.now.roads log.old.changes }
+    requires meet { InForceMeet base.now (state_of base.now.roads log.old.changes) day book.old }
     ensures same { result.1 ≡ result.0 }
     ensures answer { IsAnswer base.now (machine_at log.old.changes book.old day) caller (call.Post change.now) result.0 }
     ensures after { after base.now (machine_at log.old.changes book.old day) caller (call.Post change.now) result.0 ≡ machine_at log.new.changes book.new day }
