@@ -3,3 +3,4 @@ pub use Rattle.span_rating.specs.Loading
 pub mod Design
 pub mod Effects
 pub mod Laws
+pub mod Kept

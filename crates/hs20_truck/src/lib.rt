@@ -19,8 +19,10 @@ ghost use Rattle.hs20_truck.specs.Laws.{EffectsAreThePeaks, DesignIsThePeaks, Ef
 use axle_train::{Axle, Train};
 use span_rating::Effects;
 
+mod kept;
 mod live;
 
+pub use kept::Kept;
 pub use live::Live;
 
 /// The design truck with its smallest second spacing, 14 feet.

@@ -8,6 +8,7 @@ ghost use Rattle.restriction_log.specs.Logs.{IsLogOf};
 ghost use Rattle.clearance_rules.specs.Limits.{AreOf};
 ghost use Rattle.trip_analysis.specs.declared.finding.What.{What};
 ghost use Rattle.trip_analysis.specs.Applications.{Sound};
+ghost use Rattle.trip_analysis.specs.Known.{AreKnown, AreStudied};
 ghost use Rattle.trip_analysis.specs.Findings.{AreRising, HoldsIn, InRange, first_meeting, first_on as first_in, leaving, limit_for};
 ghost use Rattle.office_core.specs.declared.entry.Reply.TheVariants as reply;
 ghost use Rattle.office_core.specs.declared.entry.Call.TheVariants as call;
@@ -24,8 +25,8 @@ use road_graph::Numbers;
 use std::alloc::Global;
 use std::sync::ledger::Ledger;
 use trip_analysis::{
-    Application, Base, Proposal, What, failing_limit, find, first_meeting_out, first_on,
-    next_leaving,
+    Analyst, Application, Base, Proposal, What, failing_limit_by, first_meeting_out_by,
+    first_on_by, next_leaving,
 };
 
 // Whether the trip would begin before the day.
@@ -120,6 +121,7 @@ fn answer_route<L: Ledger>(
     alloc: Global,
     base: &Base,
     state: &State,
+    analyst: &Analyst,
     log: &Log,
     book: &mut Book,
     caller: u32,
@@ -130,6 +132,7 @@ fn answer_route<L: Ledger>(
 ) -> Result<(Reply, Reply), NoMemory>
     requires truck { application.now.truck < length base.now.fleet }
     requires of_base { AreOf base.now.roads state.now }
+    requires studied { AreStudied base.now analyst.now }
     requires segments { All (λ s. s < length base.now.roads.segments) route.now }
     requires log { IsLogOf base.now.roads log.now }
     requires state { state.now ≡ state_of base.now.roads log.now.changes }
@@ -139,7 +142,9 @@ fn answer_route<L: Ledger>(
     ensures permits { IfOk result (λ r. book.new ≡ with_issued book.old caller application.now seen r.0) }
     ensures lack { OnErr result ((book.new ≡ book.old) × (first_in base.now state.now application.now.truck route.now ≡ None)) }
 {
-    match first_on(base, state, application.truck(), route.as_slice(), steps) {
+    let truck = application.truck();
+    let study = analyst.study(base, truck);
+    match first_on_by(base, state, truck, study, route.as_slice(), steps) {
         Some(failing) => Ok(outdated(
             log.version(),
             &Cause::NowFails {
@@ -154,6 +159,7 @@ fn answer_route<L: Ledger>(
 fn answer_fails<L: Ledger>(
     base: &Base,
     state: &State,
+    analyst: &Analyst,
     log: &Log,
     truck: u32,
     segment: u32,
@@ -161,11 +167,13 @@ fn answer_fails<L: Ledger>(
 ) -> (Reply, Reply)
     requires truck { truck < length base.now.fleet }
     requires of_base { AreOf base.now.roads state.now }
+    requires studied { AreStudied base.now analyst.now }
     requires segment { segment < length base.now.roads.segments }
     ensures same { result.1 ≡ result.0 }
     ensures reply { result.0 ≡ fails_reply (length log.now.changes) segment (limit_for base.now state.now truck segment) }
 {
-    match failing_limit(base, state, truck, segment, steps) {
+    let study = analyst.study(base, truck);
+    match failing_limit_by(base, state, truck, study, segment, steps) {
         Some(limit) => refused(log.version(), &limit),
         None => outdated(log.version(), &Cause::NowMeets { segment }),
     }
@@ -175,6 +183,7 @@ fn answer_fails<L: Ledger>(
 fn answer_cut<L: Ledger>(
     base: &Base,
     state: &State,
+    analyst: &Analyst,
     log: &Log,
     truck: u32,
     seen: u32,
@@ -183,6 +192,7 @@ fn answer_cut<L: Ledger>(
 ) -> (Reply, Reply)
     requires truck { truck < length base.now.fleet }
     requires of_base { AreOf base.now.roads state.now }
+    requires studied { AreStudied base.now analyst.now }
     requires rising { AreRising nodes.now }
     requires log { IsLogOf base.now.roads log.now }
     requires state { state.now ≡ state_of base.now.roads log.now.changes }
@@ -194,10 +204,11 @@ fn answer_cut<L: Ledger>(
     let Some(first) = next_leaving(base.network(), nodes, 0) else {
         return (Reply::NoRoad, Reply::NoRoad);
     };
-    if let Some(segment) = first_meeting_out(base, state, truck, nodes, steps) {
+    let study = analyst.study(base, truck);
+    if let Some(segment) = first_meeting_out_by(base, state, truck, study, nodes, steps) {
         return outdated(log.version(), &Cause::NowMeets { segment });
     }
-    match failing_limit(base, state, truck, first, steps) {
+    match failing_limit_by(base, state, truck, study, first, steps) {
         Some(limit) => refused(log.version(), &limit),
         None => (Reply::NoRoad, Reply::NoRoad),
     }
@@ -208,6 +219,7 @@ fn answer_what<L: Ledger>(
     alloc: Global,
     base: &Base,
     state: &State,
+    analyst: &Analyst,
     log: &Log,
     book: &mut Book,
     caller: u32,
@@ -218,6 +230,7 @@ fn answer_what<L: Ledger>(
 ) -> Result<(Reply, Reply), NoMemory>
     requires truck { application.now.truck < length base.now.fleet }
     requires of_base { AreOf base.now.roads state.now }
+    requires studied { AreStudied base.now analyst.now }
     requires what { InRange base.now what.now }
     requires log { IsLogOf base.now.roads log.now }
     requires state { state.now ≡ state_of base.now.roads log.now.changes }
@@ -234,6 +247,7 @@ fn answer_what<L: Ledger>(
             alloc,
             base,
             state,
+            analyst,
             log,
             book,
             caller,
@@ -242,8 +256,10 @@ fn answer_what<L: Ledger>(
             route,
             steps,
         ),
-        What::Fails { segment } => Ok(answer_fails(base, state, log, truck, *segment, steps)),
-        What::Cut(nodes) => Ok(answer_cut(base, state, log, truck, seen, nodes, steps)),
+        What::Fails { segment } => Ok(answer_fails(
+            base, state, analyst, log, truck, *segment, steps,
+        )),
+        What::Cut(nodes) => Ok(answer_cut(base, state, analyst, log, truck, seen, nodes, steps)),
     }
 }
 
@@ -252,6 +268,7 @@ fn answer_found<L: Ledger>(
     alloc: Global,
     base: &Base,
     state: &State,
+    analyst: &Analyst,
     log: &Log,
     book: &mut Book,
     day: Day,
@@ -263,6 +280,7 @@ fn answer_found<L: Ledger>(
 ) -> Result<(Reply, Reply), NoMemory>
     requires truck { application.now.truck < length base.now.fleet }
     requires of_base { AreOf base.now.roads state.now }
+    requires studied { AreStudied base.now analyst.now }
     requires what { InRange base.now what.now }
     requires log { IsLogOf base.now.roads log.now }
     requires state { state.now ≡ state_of base.now.roads log.now.changes }
@@ -282,6 +300,7 @@ fn answer_found<L: Ledger>(
         alloc,
         base,
         state,
+        analyst,
         log,
         book,
         caller,
@@ -292,12 +311,75 @@ fn answer_found<L: Ledger>(
     )
 }
 
+// Answers a cut out of which no segment meets.
+fn answer_cut_now<L: Ledger>(
+    base: &Base,
+    state: &State,
+    analyst: &Analyst,
+    log: &Log,
+    truck: u32,
+    nodes: &Numbers,
+    steps: &mut Steps<L>,
+) -> (Reply, Reply)
+    requires truck { truck < length base.now.fleet }
+    requires of_base { AreOf base.now.roads state.now }
+    requires studied { AreStudied base.now analyst.now }
+    requires rising { AreRising nodes.now }
+    requires met { first_meeting base.now state.now truck (leaving base.now.roads nodes.now) ≡ None }
+    ensures same { result.1 ≡ result.0 }
+    ensures reply { result.0 ≡ cut_reply base.now state.now truck (length log.now.changes) (leaving base.now.roads nodes.now) (first_meeting base.now state.now truck (leaving base.now.roads nodes.now)) }
+{
+    let Some(first) = next_leaving(base.network(), nodes.as_slice(), 0) else {
+        return (Reply::NoRoad, Reply::NoRoad);
+    };
+    let study = analyst.study(base, truck);
+    match failing_limit_by(base, state, truck, study, first, steps) {
+        Some(limit) => refused(log.version(), &limit),
+        None => (Reply::NoRoad, Reply::NoRoad),
+    }
+}
+
+// Answers what is found now: only the limit that is named is looked up again.
+fn answer_now<L: Ledger>(
+    alloc: Global,
+    base: &Base,
+    state: &State,
+    analyst: &Analyst,
+    log: &Log,
+    book: &mut Book,
+    caller: u32,
+    application: &Application,
+    what: &What,
+    steps: &mut Steps<L>,
+) -> Result<(Reply, Reply), NoMemory>
+    requires truck { application.now.truck < length base.now.fleet }
+    requires of_base { AreOf base.now.roads state.now }
+    requires studied { AreStudied base.now analyst.now }
+    requires what { InRange base.now what.now }
+    requires holds { HoldsIn base.now state.now application.now.truck what.now }
+    ensures same { IfOk result (λ r. r.1 ≡ r.0) }
+    ensures reply { IfOk result (λ r. r.0 ≡ what_reply base.now state.now (length log.now.changes) (length book.old + 1) application.now.truck what.now) }
+    ensures permits { IfOk result (λ r. book.new ≡ with_issued book.old caller application.now (length log.now.changes) r.0) }
+    ensures lack { OnErr result (book.new ≡ book.old) }
+{
+    let truck = application.truck();
+    match what {
+        What::NotNeeded => Ok((Reply::NotNeeded, Reply::NotNeeded)),
+        What::Route(route) => issue(alloc, log, book, caller, application, log.version(), route),
+        What::Fails { segment } => Ok(answer_fails(
+            base, state, analyst, log, truck, *segment, steps,
+        )),
+        What::Cut(nodes) => Ok(answer_cut_now(base, state, analyst, log, truck, nodes, steps)),
+    }
+}
+
 // Answers an application by what is found now.
-#[tactic(auto, using(crate::proofs::Founds::found_in_range, crate::proofs::Founds::holds_now))]
+#[tactic(auto, using(crate::proofs::Founds::found_in_range, crate::proofs::Founds::found_holds))]
 fn answer_finding<L: Ledger>(
     alloc: Global,
     base: &Base,
     state: &State,
+    analyst: &mut Analyst,
     log: &Log,
     book: &mut Book,
     day: Day,
@@ -310,6 +392,8 @@ fn answer_finding<L: Ledger>(
     requires log { IsLogOf base.now.roads log.now }
     requires state { state.now ≡ state_of base.now.roads log.now.changes }
     requires sound { Sound base.now application.now }
+    requires known { AreKnown base.now state.now analyst.old }
+    ensures known { AreKnown base.now state.now analyst.new }
     ensures same { IfOk result (λ r. r.1 ≡ r.0) }
     ensures reply { IfOk result (λ r. (w : What) × IsHeld base.now state.now day application.now w × (r.0 ≡ apply_reply base.now state.now (length log.now.changes) day (length book.old + 1) application.now w)) }
     ensures permits { IfOk result (λ r. book.new ≡ with_issued book.old caller application.now (length log.now.changes) r.0) }
@@ -321,16 +405,16 @@ fn answer_finding<L: Ledger>(
     if is_free(base, application) {
         return Ok((Reply::NotNeeded, Reply::NotNeeded));
     }
-    let what = find(alloc, base, state, application)?;
-    answer_what(
+    let what = analyst.find(alloc, base, state, application)?;
+    answer_now(
         alloc,
         base,
         state,
+        analyst,
         log,
         book,
         caller,
         application,
-        log.version(),
         &what,
         steps,
     )
@@ -342,6 +426,7 @@ pub(crate) fn answer_submit<L: Ledger>(
     alloc: Global,
     base: &Base,
     state: &State,
+    analyst: &Analyst,
     log: &Log,
     book: &mut Book,
     day: Day,
@@ -352,6 +437,7 @@ pub(crate) fn answer_submit<L: Ledger>(
 ) -> (Reply, Reply)
     requires roads { IsRoads base.now.roads }
     requires of_base { AreOf base.now.roads state.now }
+    requires studied { AreStudied base.now analyst.now }
     requires log { IsLogOf base.now.roads log.now }
     requires state { state.now ≡ state_of base.now.roads log.now.changes }
     requires found { IsFound base.now (machine_at log.now.changes book.old day) application.now proposal.now }
@@ -363,6 +449,7 @@ pub(crate) fn answer_submit<L: Ledger>(
         alloc,
         base,
         state,
+        analyst,
         log,
         book,
         day,
@@ -382,6 +469,7 @@ pub(crate) fn answer_held<L: Ledger>(
     alloc: Global,
     base: &Base,
     state: &State,
+    analyst: &mut Analyst,
     log: &Log,
     book: &mut Book,
     day: Day,
@@ -394,6 +482,8 @@ pub(crate) fn answer_held<L: Ledger>(
     requires log { IsLogOf base.now.roads log.now }
     requires state { state.now ≡ state_of base.now.roads log.now.changes }
     requires sound { Sound base.now application.now }
+    requires known { AreKnown base.now state.now analyst.old }
+    ensures known { AreKnown base.now state.now analyst.new }
     ensures same { result.1 ≡ result.0 }
     ensures answer { IsAnswer base.now (machine_at log.now.changes book.old day) caller (call.Held application.now) result.0 }
     ensures after { after base.now (machine_at log.now.changes book.old day) caller (call.Held application.now) result.0 ≡ machine_at log.now.changes book.new day }
@@ -402,6 +492,7 @@ pub(crate) fn answer_held<L: Ledger>(
         alloc,
         base,
         state,
+        analyst,
         log,
         book,
         day,

@@ -6,6 +6,7 @@ ghost use Rattle.road_graph.specs.Roads.{IsRoads};
 ghost use Rattle.restriction_log.specs.States.{state_of};
 ghost use Rattle.restriction_log.specs.Logs.{IsLogOf};
 ghost use Rattle.clearance_rules.specs.Limits.{AreOf};
+ghost use Rattle.trip_analysis.specs.Known.{AreKnown};
 ghost use Rattle.permit_book.specs.Permits.{is_issued, permit_of};
 ghost use Rattle.office_core.specs.Machine.{IsAnswer, IsGood, IsLegal, MayAsk, after, machine_at, state_in, version_of};
 ghost use Rattle.office_core.specs.Offices.{Stepped, machine_in};
@@ -23,7 +24,7 @@ use std::alloc::Global;
 use std::marker::Model;
 use std::sync::Arc;
 use std::sync::ledger::Ledger;
-use trip_analysis::Base;
+use trip_analysis::{Analyst, Base};
 
 /// A permit office that one thread calls.
 ///
@@ -37,6 +38,7 @@ pub struct Office {
     most: u32,
     day: Day,
     state: State,
+    analyst: Analyst,
     log: Log,
     book: Book,
     // with room for `most` entries
@@ -69,6 +71,7 @@ impl Office {
         // the network tells that its lists are in order
         let _segments = base.network().segments();
         let state = State::base(alloc, base.network())?;
+        let analyst = Analyst::new(alloc, &base)?;
         let log = Log::start(alloc, base.network())?;
         let history = Vec::with_capacity(alloc, most as usize)?;
         Ok(Office {
@@ -78,6 +81,7 @@ impl Office {
             most,
             day,
             state,
+            analyst,
             log,
             book: Book::new(alloc),
             history,
@@ -98,6 +102,7 @@ impl Office {
             self.alloc,
             &self.base,
             &mut self.state,
+            &mut self.analyst,
             &mut self.log,
             &mut self.book,
             &mut self.day,
@@ -165,6 +170,7 @@ fn answer<L: Ledger>(
     alloc: Global,
     base: &Base,
     state: &mut State,
+    analyst: &mut Analyst,
     log: &mut Log,
     book: &mut Book,
     day: &mut Day,
@@ -177,12 +183,14 @@ fn answer<L: Ledger>(
     requires log { IsLogOf base.now.roads log.old }
     requires state { state.old ≡ state_of base.now.roads log.old.changes }
     requires good { IsGood base.now (machine_at log.old.changes book.old day.old) }
+    requires known { AreKnown base.now state.old analyst.old }
     requires asked { MayAsk base.now (machine_at log.old.changes book.old day.old) call.now }
     ensures same { result.1 ≡ result.0 }
     ensures answer { IsAnswer base.now (machine_at log.old.changes book.old day.old) caller call.now result.0 }
     ensures after { after base.now (machine_at log.old.changes book.old day.old) caller call.now result.0 ≡ machine_at log.new.changes book.new day.new }
     ensures state { state.new ≡ state_of base.now.roads log.new.changes }
     ensures log { IsLogOf base.now.roads log.new }
+    ensures known { AreKnown base.now state.new analyst.new }
 {
     match call {
         Call::Snapshot => {
@@ -196,6 +204,7 @@ fn answer<L: Ledger>(
             alloc,
             base,
             state,
+            analyst,
             log,
             book,
             *day,
@@ -208,6 +217,7 @@ fn answer<L: Ledger>(
             alloc,
             base,
             state,
+            analyst,
             log,
             book,
             *day,
@@ -216,7 +226,7 @@ fn answer<L: Ledger>(
             steps,
         ),
         Call::Post { change } => answer_post(
-            alloc, base, state, log, book, *day, caller, change, steps,
+            alloc, base, state, analyst, log, book, *day, caller, change, steps,
         ),
         Call::Day { day: new } => answer_day(day, *new),
         Call::Surrender { number } => answer_surrender(book, *day, caller, *number),

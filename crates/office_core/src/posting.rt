@@ -6,6 +6,7 @@ ghost use Rattle.restriction_log.specs.Changes.{takes};
 ghost use Rattle.restriction_log.specs.States.{state_of};
 ghost use Rattle.restriction_log.specs.Logs.{IsLogOf};
 ghost use Rattle.clearance_rules.specs.Limits.{AreOf};
+ghost use Rattle.trip_analysis.specs.Known.{AreKnown, AreStudied};
 ghost use Rattle.permit_book.specs.declared.permit.Mark.TheVariants as mark;
 ghost use Rattle.permit_book.specs.Permits.{AreNumbered, in_force};
 ghost use Rattle.office_core.specs.declared.entry.Call.TheVariants as call;
@@ -21,30 +22,41 @@ use restriction_log::{Change, Log, State, takes, touched};
 use road_graph::Numbers;
 use std::alloc::{AllocError, Global};
 use std::sync::ledger::Ledger;
-use trip_analysis::{Base, failing_limit};
+use trip_analysis::{Analyst, Base, failing_limit_by};
 
 // Whether a segment of the permit fails its truck, where each but one is known to meet it: that one alone is tested.
 fn permit_fails<L: Ledger>(
     base: &Base,
     state: &State,
+    analyst: &Analyst,
     segment: u32,
     permit: &Permit,
     steps: &mut Steps<L>,
 ) -> bool
     requires ranged { IsRanged base.now permit.now }
     requires of_base { AreOf base.now.roads state.now }
+    requires studied { AreStudied base.now analyst.now }
     requires there { segment < length base.now.roads.segments }
     requires elsewhere { MeetsElsewhere base.now state.now segment permit.now }
     ensures { result ≡ fails base.now state.now permit.now }
 {
     permit.route.as_slice().contains(&segment)
-        && failing_limit(base, state, permit.truck, segment, steps).is_some()
+        && failing_limit_by(
+            base,
+            state,
+            permit.truck,
+            analyst.study(base, permit.truck),
+            segment,
+            steps,
+        )
+        .is_some()
 }
 
 // Whether the state recalls the permit.
 fn is_recalled<L: Ledger>(
     base: &Base,
     state: &State,
+    analyst: &Analyst,
     segment: u32,
     day: Day,
     permit: &Permit,
@@ -52,11 +64,12 @@ fn is_recalled<L: Ledger>(
 ) -> bool
     requires ranged { IsRanged base.now permit.now }
     requires of_base { AreOf base.now.roads state.now }
+    requires studied { AreStudied base.now analyst.now }
     requires there { segment < length base.now.roads.segments }
     requires elsewhere { in_force day permit.now ≡ true → MeetsElsewhere base.now state.now segment permit.now }
     ensures { result ≡ is_recalled base.now state.now day permit.now }
 {
-    permit.status(day).is_in_force() && permit_fails(base, state, segment, permit, steps)
+    permit.status(day).is_in_force() && permit_fails(base, state, analyst, segment, permit, steps)
 }
 
 // A number more, where it is one of those.
@@ -75,6 +88,7 @@ fn recalled_by<L: Ledger>(
     alloc: Global,
     base: &Base,
     state: &State,
+    analyst: &Analyst,
     segment: u32,
     day: Day,
     permits: &[Permit],
@@ -82,6 +96,7 @@ fn recalled_by<L: Ledger>(
 ) -> Result<Vec<u32>, AllocError>
     requires ranged { All (IsRanged base.now) permits.now }
     requires of_base { AreOf base.now.roads state.now }
+    requires studied { AreStudied base.now analyst.now }
     requires there { segment < length base.now.roads.segments }
     requires elsewhere { InForceMeetElsewhere base.now state.now segment day permits.now }
     ensures { IfOk result (λ numbers. numbers.items ≡ recalled_by base.now state.now day permits.now) }
@@ -89,7 +104,7 @@ fn recalled_by<L: Ledger>(
     let mut numbers = Vec::new(alloc);
     for i in 0..permits.len() {
         let permit = &permits[i];
-        let is_one = is_recalled(base, state, segment, day, permit, steps);
+        let is_one = is_recalled(base, state, analyst, segment, day, permit, steps);
         push_if(&mut numbers, is_one, permit.number)?;
     }
     Ok(numbers)
@@ -111,6 +126,7 @@ fn post<L: Ledger>(
     alloc: Global,
     base: &Base,
     state: &mut State,
+    analyst: &mut Analyst,
     log: &mut Log,
     book: &mut Book,
     day: Day,
@@ -123,12 +139,14 @@ fn post<L: Ledger>(
     requires numbered { AreNumbered 0 book.old }
     requires ranged { All (IsRanged base.now) book.old }
     requires state { state.old ≡ state_of base.now.roads log.old.changes }
+    requires known { AreKnown base.now state.old analyst.old }
     requires meet { InForceMeet base.now (state_of base.now.roads log.old.changes) day book.old }
     ensures same { IfOk result (λ r. r.1 ≡ r.0) }
     ensures reply { IfOk result (λ r. r.0 ≡ posted_reply base.now (machine_at log.old.changes book.old day) change.now) }
     ensures after { IfOk result (λ r. with_posting base.now (machine_at log.old.changes book.old day) change.now r.0 ≡ machine_at log.new.changes book.new day) }
     ensures state { state.new ≡ state_of base.now.roads log.new.changes }
     ensures log { IsLogOf base.now.roads log.new }
+    ensures known { AreKnown base.now state.new analyst.new }
     ensures lack { OnErr result ((log.new.changes ≡ log.old.changes) × (book.new ≡ book.old)) }
 {
     let next = state.with(alloc, change)?;
@@ -137,6 +155,7 @@ fn post<L: Ledger>(
         alloc,
         base,
         &next,
+        analyst,
         segment,
         day,
         book.permits(),
@@ -147,6 +166,7 @@ fn post<L: Ledger>(
         return Err(NoMemory);
     };
     recall_each(book, recalled.as_slice(), version);
+    analyst.turn(base, state, &next, change, steps);
     *state = next;
     Ok((
         Reply::Posted { version, recalled },
@@ -162,6 +182,7 @@ fn post_or_refuse<L: Ledger>(
     alloc: Global,
     base: &Base,
     state: &mut State,
+    analyst: &mut Analyst,
     log: &mut Log,
     book: &mut Book,
     day: Day,
@@ -173,18 +194,20 @@ fn post_or_refuse<L: Ledger>(
     requires numbered { AreNumbered 0 book.old }
     requires ranged { All (IsRanged base.now) book.old }
     requires state { state.old ≡ state_of base.now.roads log.old.changes }
+    requires known { AreKnown base.now state.old analyst.old }
     requires meet { InForceMeet base.now (state_of base.now.roads log.old.changes) day book.old }
     ensures same { IfOk result (λ r. r.1 ≡ r.0) }
     ensures reply { IfOk result (λ r. r.0 ≡ posted_reply base.now (machine_at log.old.changes book.old day) change.now) }
     ensures after { IfOk result (λ r. with_posting base.now (machine_at log.old.changes book.old day) change.now r.0 ≡ machine_at log.new.changes book.new day) }
     ensures state { state.new ≡ state_of base.now.roads log.new.changes }
     ensures log { IsLogOf base.now.roads log.new }
+    ensures known { AreKnown base.now state.new analyst.new }
     ensures lack { OnErr result ((log.new.changes ≡ log.old.changes) × (book.new ≡ book.old) × (takes base.now.roads change.now ≡ true)) }
 {
     if !takes(base.network(), change) {
         return Ok((Reply::OutOfRange, Reply::OutOfRange));
     }
-    post(alloc, base, state, log, book, day, change, steps)
+    post(alloc, base, state, analyst, log, book, day, change, steps)
 }
 
 /// Posts a change, and recalls the permits in force that then fail.
@@ -192,6 +215,7 @@ pub(crate) fn answer_post<L: Ledger>(
     alloc: Global,
     base: &Base,
     state: &mut State,
+    analyst: &mut Analyst,
     log: &mut Log,
     book: &mut Book,
     day: Day,
@@ -204,14 +228,16 @@ pub(crate) fn answer_post<L: Ledger>(
     requires numbered { AreNumbered 0 book.old }
     requires ranged { All (IsRanged base.now) book.old }
     requires state { state.old ≡ state_of base.now.roads log.old.changes }
+    requires known { AreKnown base.now state.old analyst.old }
     requires meet { InForceMeet base.now (state_of base.now.roads log.old.changes) day book.old }
     ensures same { result.1 ≡ result.0 }
     ensures answer { IsAnswer base.now (machine_at log.old.changes book.old day) caller (call.Post change.now) result.0 }
     ensures after { after base.now (machine_at log.old.changes book.old day) caller (call.Post change.now) result.0 ≡ machine_at log.new.changes book.new day }
     ensures state { state.new ≡ state_of base.now.roads log.new.changes }
     ensures log { IsLogOf base.now.roads log.new }
+    ensures known { AreKnown base.now state.new analyst.new }
 {
-    match post_or_refuse(alloc, base, state, log, book, day, change, steps) {
+    match post_or_refuse(alloc, base, state, analyst, log, book, day, change, steps) {
         Ok(replies) => replies,
         Err(NoMemory) => (Reply::NoMemory, Reply::NoMemory),
     }

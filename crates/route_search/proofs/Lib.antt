@@ -8,3 +8,4 @@ pub mod Listed
 pub mod Outcomes
 pub mod Uniqueness
 pub mod Cuts
+pub mod Staying

@@ -18,7 +18,7 @@ number_is : (a b : ℕ) → Some a ≡ Some b → a ≡ b
 number_is a b e = cc
 
 module _ (roads : Roads) (may : ℕ → Bool) (goal : ℕ) (ps : List (Option ℕ)) (ok : IsRoads roads) (h : ArePotentials roads.segments may (length roads.nodes) goal ps) where
-  least_at : (v d : ℕ) → slice_get ps v ≡ Some (Some d) → IsLeastLength roads.segments may v goal d
+  pub least_at : (v d : ℕ) → slice_get ps v ≡ Some (Some d) → IsLeastLength roads.segments may v goal d
   least_at v d at = h.each v (Some d) at
 
   -- a node from which there is a walk has a potential

@@ -7,3 +7,4 @@ pub mod Reaching
 pub mod Listing
 pub mod Buckets
 pub use Rattle.road_graph.specs.Roads
+pub mod Staying

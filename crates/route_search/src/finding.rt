@@ -1,7 +1,7 @@
 // The search from one node to another.
 
 ghost use Rattle.std.specs.Prelude.{◌≡◌, ◌<◌, length, IfOk};
-ghost use Rattle.route_search.specs.Walks.{CanReach, flagged};
+ghost use Rattle.route_search.specs.Walks.{ArePotentials, CanReach, flagged};
 ghost use Rattle.route_search.specs.Founds.{IsFound};
 
 use crate::follow::follow;
@@ -31,6 +31,74 @@ pub fn search(
     match find(alloc, network, passable, from, to) {
         Ok(found) => Ok(found),
         Err(_) => Err(NoMemory),
+    }
+}
+
+/// For each node the least length of a passable walk to a node. `NoMemory` where no memory was left.
+pub fn potentials(
+    alloc: Global,
+    network: &Network,
+    passable: &[bool],
+    to: u32,
+) -> Result<Potentials, NoMemory>
+    requires flags { length passable.now ≡ length network.now.segments }
+    requires to { to < length network.now.nodes }
+    ensures { IfOk result (λ p. ArePotentials network.now.segments (flagged passable.now) (length network.now.nodes) to p) }
+{
+    let list = settle(alloc, network, passable, to)?;
+    Ok(Potentials::of(list))
+}
+
+/// What `search` finds, where the potentials are known. `NoMemory` where no memory was left.
+pub fn search_by(
+    alloc: Global,
+    network: &Network,
+    passable: &[bool],
+    potentials: &Potentials,
+    from: u32,
+    to: u32,
+) -> Result<Found, NoMemory>
+    requires flags { length passable.now ≡ length network.now.segments }
+    requires from { from < length network.now.nodes }
+    requires to { to < length network.now.nodes }
+    requires potentials { ArePotentials network.now.segments (flagged passable.now) (length network.now.nodes) to potentials.now }
+    ensures { IfOk result (IsFound network.now passable.now from to) }
+{
+    match find_by(alloc, network, passable, potentials, from, to) {
+        Ok(found) => Ok(found),
+        Err(_) => Err(NoMemory),
+    }
+}
+
+// The route that the potentials show, or why there is none.
+fn find_by(
+    alloc: Global,
+    network: &Network,
+    passable: &[bool],
+    potentials: &Potentials,
+    from: u32,
+    to: u32,
+) -> Result<Found, AllocError>
+    requires flags { length passable.now ≡ length network.now.segments }
+    requires from { from < length network.now.nodes }
+    requires to { to < length network.now.nodes }
+    requires potentials { ArePotentials network.now.segments (flagged passable.now) (length network.now.nodes) to potentials.now }
+    ensures { IfOk result (IsFound network.now passable.now from to) }
+{
+    // the network tells that its lists are in order
+    let _segments = network.segments();
+    match potentials.at(from) {
+        Some(length) => {
+            let list = potentials.as_slice();
+            let segments = follow(alloc, network, passable, list, from, to, length)?;
+            let potential = potentials.try_clone(alloc)?;
+            Ok(Found::Route {
+                segments: Numbers::of(segments),
+                length,
+                potential,
+            })
+        }
+        None => no_route(alloc, network, passable, from, to),
     }
 }
 

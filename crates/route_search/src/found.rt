@@ -1,6 +1,10 @@
 // What a search answers.
 
-use road_graph::Numbers;
+ghost use Rattle.std.specs.Prelude.{◌≡◌};
+ghost use Rattle.route_search.specs.Staying.{is_slack_by};
+
+use road_graph::{Network, Numbers};
+use std::alloc::{AllocError, Global};
 use std::marker::Model;
 
 /// For each node the least length in feet of a passable walk from there to the goal, where there is one.
@@ -18,7 +22,44 @@ impl Model for Potentials {
 }
 
 impl Potentials {
-    ghost use Rattle.std.specs.Prelude.{◌≡◌, ◌<◌, length, slice_get, Some};
+    ghost use Rattle.std.specs.Prelude.{◌≡◌, ◌<◌, [], length, slice_get, Some, IfOk};
+    ghost use Rattle.route_search.specs.Staying.{is_slack};
+
+    /// Those of no node. Takes no memory.
+    pub fn none(alloc: Global) -> Potentials
+        ensures { result ≡ [] }
+    {
+        Potentials {
+            list: Vec::new(alloc),
+        }
+    }
+
+    /// Whether the segment leads on no walk of least length, be it passable or not. Takes no memory.
+    #[tactic(auto, unfolding(crate::specs::Staying::is_slack))]
+    pub fn is_slack(&self, network: &Network, segment: u32) -> bool
+        requires many { length self.now ≡ length network.now.nodes }
+        requires within { segment < length network.now.segments }
+        ensures { result ≡ is_slack network.now.segments self.now segment }
+    {
+        let list = &self.list;
+        let here = network.segment(segment);
+        is_slack_by(list[here.from as usize], here.feet, list[here.to as usize])
+    }
+
+    // The same once more.
+    pub(crate) fn try_clone(&self, alloc: Global) -> Result<Potentials, AllocError>
+        ensures { IfOk result (λ p. p ≡ self.now) }
+    {
+        let mut list = Vec::new(alloc);
+        list.extend_from_slice(&self.list)?;
+        Ok(Potentials { list })
+    }
+
+    pub(crate) fn as_slice(&self) -> &[Option<u64>]
+        ensures { result.now ≡ self.now }
+    {
+        &self.list
+    }
 
     pub(crate) fn of(list: Vec<Option<u64>>) -> Potentials
         ensures { result ≡ list.items }
@@ -59,4 +100,15 @@ pub enum Found {
         /// The nodes that walks reach, rising.
         reached: Numbers,
     },
+}
+
+// Whether by these potentials of its ends a segment of so many feet leads on no walk of least length.
+fn is_slack_by(from: Option<u64>, feet: u32, to: Option<u64>) -> bool
+    ensures { result ≡ is_slack_by from feet to }
+{
+    match (from, to) {
+        (_, None) => true,
+        (None, Some(_)) => false,
+        (Some(here), Some(left)) => u128::from(here) < u128::from(feet) + u128::from(left),
+    }
 }

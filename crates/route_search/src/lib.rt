@@ -18,7 +18,7 @@ mod settle;
 mod waiting;
 mod width;
 
-pub use finding::search;
+pub use finding::{potentials, search, search_by};
 pub use found::{Found, Potentials};
 pub use laws::{cuts_hold, findings_are_one, potentials_certify};
 

@@ -6,3 +6,4 @@ pub mod Breaks
 pub mod Meanings
 pub mod Searched
 pub mod Flags
+pub mod KnownAt

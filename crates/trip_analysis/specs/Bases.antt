@@ -1,5 +1,6 @@
 -- What an office is about, as plain lists.
 use Rattle.std.specs.Prelude.{ℕ, List, [], slice_index_or}
+use Rattle.axle_train.specs.declared.axle.Axle.{Axle}
 use Rattle.road_graph.specs.Roads.{Roads}
 use Rattle.trip_analysis.specs.declared.base.Truck.{Truck}
 
@@ -15,3 +16,7 @@ no_truck = record { name = []; carrier = []; load = record { height = 0; width =
 -- the truck of a number
 abbrev pub truck_of : BaseLists → ℕ → Truck
 truck_of base number = slice_index_or base.fleet number no_truck
+
+-- its axles
+abbrev pub train_of : BaseLists → ℕ → List Axle
+train_of base number = (truck_of base number).load.train

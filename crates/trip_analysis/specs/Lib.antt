@@ -7,3 +7,4 @@ pub use Rattle.route_search.specs.Walks
 pub use Rattle.restriction_log.specs.States
 pub use Rattle.clearance_rules.specs.Loads
 pub use Rattle.clearance_rules.specs.Limits
+pub mod Known

@@ -3,17 +3,21 @@
 ghost use Rattle.std.specs.Prelude.{◌≡◌, ◌<◌, length, All, IfOk};
 ghost use Rattle.clearance_rules.specs.Limits.{AreOf};
 ghost use Rattle.trip_analysis.specs.Applications.{Sound};
-ghost use Rattle.trip_analysis.specs.Findings.{IsFinding, IsFoundBy, asked_finding, first_on as first_in, what_of};
+ghost use Rattle.trip_analysis.specs.Bases.{train_of};
+ghost use Rattle.trip_analysis.specs.Known.{IsSettled};
+ghost use Rattle.trip_analysis.specs.Findings.{IsFinding, IsFoundBy, asked_finding, first_on as first_in, flags_of, what_of};
 
 use crate::application::Application;
 use crate::base::Base;
 use crate::finding::What;
-use crate::passing::{first_on, flags};
+use crate::passing::{first_on_by, flags, train_of};
 use clearance_rules::Steps;
+use hs20_truck::Live;
 use office_io::NoMemory;
 use restriction_log::State;
 use road_graph::Numbers;
-use route_search::{Found, search};
+use route_search::{Found, Potentials, search, search_by};
+use span_rating::SpanStudy;
 use std::alloc::Global;
 use std::marker::Brand;
 use std::sync::ledger::{Blank, Ledger};
@@ -33,17 +37,38 @@ pub fn find(
     requires sound { Sound base.now application.now }
     ensures { IfOk result (λ w. IsFinding base.now state.now application.now w) }
 {
-    find_counted::<Brand>(alloc, base, state, application, Blank::new(1))
+    let study = Live {
+        train: train_of(base, application.truck()),
+    };
+    find_by(alloc, base, state, application, &study)
 }
 
-// The same over a counter of tests, which nobody reads.
-fn find_counted<L: Ledger>(
+/// The same by a study of the truck's axles.
+pub fn find_by<E: SpanStudy>(
     alloc: Global,
     base: &Base,
     state: &State,
     application: &Application,
+    study: &E,
+) -> Result<What, NoMemory>
+    requires state { AreOf base.now.roads state.now }
+    requires sound { Sound base.now application.now }
+    requires study { E.axles study.now ≡ train_of base.now application.now.truck }
+    ensures { IfOk result (λ w. IsFinding base.now state.now application.now w) }
+{
+    find_counted::<E, Brand>(alloc, base, state, application, study, Blank::new(1))
+}
+
+// The same over a counter of tests, which nobody reads.
+fn find_counted<E: SpanStudy, L: Ledger>(
+    alloc: Global,
+    base: &Base,
+    state: &State,
+    application: &Application,
+    study: &E,
     blank: Blank,
 ) -> Result<What, NoMemory>
+    requires study { E.axles study.now ≡ train_of base.now application.now.truck }
     requires name { blank.name ≡ L.name }
     requires parts { blank.parts ≡ L.parts }
     requires some { 0 < blank.parts }
@@ -56,26 +81,36 @@ fn find_counted<L: Ledger>(
         return Ok(What::NotNeeded);
     }
     match application.asked() {
-        Some(route) => find_asked(alloc, base, state, application.truck(), route, &mut steps),
-        None => find_free(alloc, base, state, application, &mut steps),
+        Some(route) => find_asked(
+            alloc,
+            base,
+            state,
+            application.truck(),
+            study,
+            route,
+            &mut steps,
+        ),
+        None => find_free(alloc, base, state, application, study, &mut steps),
     }
 }
 
 // What is found on an asked route.
-fn find_asked<L: Ledger>(
+pub(crate) fn find_asked<E: SpanStudy, L: Ledger>(
     alloc: Global,
     base: &Base,
     state: &State,
     truck: u32,
+    study: &E,
     route: &Numbers,
     steps: &mut Steps<L>,
 ) -> Result<What, NoMemory>
     requires truck { truck < length base.now.fleet }
+    requires study { E.axles study.now ≡ train_of base.now truck }
     requires state { AreOf base.now.roads state.now }
     requires segments { All (λ s. s < length base.now.roads.segments) route.now }
     ensures { IfOk result (λ w. w ≡ asked_finding (first_in base.now state.now truck route.now) route.now) }
 {
-    match first_on(base, state, truck, route.as_slice(), steps) {
+    match first_on_by(base, state, truck, study, route.as_slice(), steps) {
         Some(failing) => Ok(What::Fails {
             segment: failing.segment,
         }),
@@ -84,23 +119,66 @@ fn find_asked<L: Ledger>(
 }
 
 // What is found without one, by a search over the segments that the truck may pass.
-#[tactic(auto, using(crate::proofs::Flags::flags_many))]
-fn find_free<L: Ledger>(
+fn find_free<E: SpanStudy, L: Ledger>(
     alloc: Global,
     base: &Base,
     state: &State,
     application: &Application,
+    study: &E,
     steps: &mut Steps<L>,
 ) -> Result<What, NoMemory>
+    requires study { E.axles study.now ≡ train_of base.now application.now.truck }
     requires state { AreOf base.now.roads state.now }
     requires sound { Sound base.now application.now }
     ensures { IfOk result (λ w. IsFoundBy base.now state.now application.now None w) }
 {
-    let passable = flags(alloc, base, state, application.truck(), steps)?;
+    let passable = flags(alloc, base, state, application.truck(), study, steps)?;
+    find_flagged(alloc, base, state, application, passable.as_slice())
+}
+
+// The same where the flags of the segments are known.
+#[tactic(auto, using(crate::proofs::Flags::flags_many))]
+pub(crate) fn find_flagged(
+    alloc: Global,
+    base: &Base,
+    _state: &State,
+    application: &Application,
+    passable: &[bool],
+) -> Result<What, NoMemory>
+    requires flags { passable.now ≡ flags_of base.now _state.now application.now.truck }
+    requires sound { Sound base.now application.now }
+    ensures { IfOk result (λ w. IsFoundBy base.now _state.now application.now None w) }
+{
     let found = search(
         alloc,
         base.network(),
-        passable.as_slice(),
+        passable,
+        application.from(),
+        application.to(),
+    )?;
+    Ok(proposed(found))
+}
+
+// The same where the potentials of the end of the trip are known too.
+#[tactic(auto, using(crate::proofs::Flags::flags_many))]
+pub(crate) fn find_settled(
+    alloc: Global,
+    base: &Base,
+    _state: &State,
+    application: &Application,
+    passable: &[bool],
+    potentials: &Potentials,
+) -> Result<What, NoMemory>
+    requires flags { passable.now ≡ flags_of base.now _state.now application.now.truck }
+    requires sound { Sound base.now application.now }
+    requires potentials { IsSettled base.now.roads passable.now application.now.to potentials.now }
+    ensures { IfOk result (λ w. IsFoundBy base.now _state.now application.now None w) }
+{
+    let found = search_by(
+        alloc,
+        base.network(),
+        passable,
+        potentials,
         application.from(),
         application.to(),
     )?;

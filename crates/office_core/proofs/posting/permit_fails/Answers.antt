@@ -6,7 +6,7 @@ use Rattle.office_core.proofs.posting.permit_fails.Goals as goal
 pub returns-then-contains : goal.returns-then-contains
 returns-then-contains g c =
     let among : c.contains.result ≡ is_in c.args.segment c.args.permit.now.route = rw c.as_slice.ensures at c.contains.ensures.value in
-    rw c.is_some.ensures (fails_by c.args.base.now c.args.state.now c.args.segment c.args.permit.now c.contains.result c.failing_limit.result c.requires.elsewhere among c.failing_limit.ensures.value c.if-contains.true)
+    rw c.is_some.ensures (fails_by c.args.base.now c.args.state.now c.args.segment c.args.permit.now c.contains.result c.failing_limit_by.result c.requires.elsewhere among c.failing_limit_by.ensures.value c.if-contains.true)
 
 pub returns-else-contains : goal.returns-else-contains
 returns-else-contains g c =

@@ -36,6 +36,7 @@ invariant_of-self g c = let i = c.self.inside in let inv = c.self.invariant in l
       legal = s.legal;
       machine = s.machine;
       state = search rules;
+      known = search rules;
       log = search rules;
       callers = subst (All (λ (e : Entry). e.caller < 65536)) (sym c.push_reserved.ensures.items) (All-append (λ (e : Entry). e.caller < 65536) i.history.items (e ∷ []) inv.callers (All-cons (λ (e : Entry). e.caller < 65536) e [] c.requires.caller (All-nil (λ (e : Entry). e.caller < 65536))));
       room = search rules;

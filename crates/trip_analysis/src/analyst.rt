@@ -1,0 +1,268 @@
+// Who finds what applications ask for, and keeps what is known of each truck.
+
+ghost use Rattle.std.specs.Prelude.{◌≡◌, ◌<◌, length, slice_set, true, false, None, Some, IfOk};
+ghost use Rattle.road_graph.specs.Roads.{IsRoads};
+ghost use Rattle.restriction_log.specs.States.{InForce, state_after};
+ghost use Rattle.restriction_log.specs.Changes.{takes, touched};
+ghost use Rattle.clearance_rules.specs.Limits.{AreOf};
+ghost use Rattle.trip_analysis.specs.Applications.{Sound};
+ghost use Rattle.trip_analysis.specs.Bases.{train_of};
+ghost use Rattle.trip_analysis.specs.Findings.{IsFinding, flags_of};
+ghost use Rattle.trip_analysis.specs.Known.{AreKnown, AreStudied, IsKnown, IsNew, IsSettled};
+
+use crate::analysis::{find_asked, find_settled};
+use crate::application::Application;
+use crate::base::Base;
+use crate::finding::What;
+use crate::passing::{failing_limit_by, flags, train_of};
+use clearance_rules::Steps;
+use hs20_truck::Kept;
+use office_io::NoMemory;
+use restriction_log::{Change, State, touched};
+use road_graph::Network;
+use route_search::{Potentials, potentials};
+use std::alloc::Global;
+use std::marker::Brand;
+use std::sync::ledger::{Blank, Ledger};
+
+/// What is known of one truck: its study and, once they were needed, for each segment whether it may pass it, and for each
+/// node how far it is from there to the goal of its last trip.
+#[derive(Drop)]
+pub struct Known {
+    study: Kept,
+    is_flagged: bool,
+    flags: Vec<bool>,
+    is_settled: bool,
+    goal: u32,
+    potentials: Potentials,
+}
+
+/// What is known of the trucks of a base, in order, in a state of its roads.
+#[derive(Drop)]
+pub struct Analyst {
+    known: Vec<Known>,
+}
+
+impl Analyst {
+    /// An analyst for this base, who knows nothing of its trucks but their axles.
+    pub fn new(alloc: Global, base: &Base) -> Result<Analyst, NoMemory>
+        ensures { IfOk result (λ a. (state : InForce) → AreKnown base.now state a) }
+    {
+        let mut known = Vec::new(alloc);
+        let count = base.fleet().len();
+        for truck in 0..count {
+            known.push(unknown(alloc, base, truck as u32)?)?;
+        }
+        Ok(Analyst { known })
+    }
+
+    /// What is found for the application in the state of the base's roads, as `find` says it, by what is known.
+    pub fn find(
+        &mut self,
+        alloc: Global,
+        base: &Base,
+        state: &State,
+        application: &Application,
+    ) -> Result<What, NoMemory>
+        requires known { AreKnown base.now state.now self.old }
+        requires state { AreOf base.now.roads state.now }
+        requires sound { Sound base.now application.now }
+        ensures found { IfOk result (λ w. IsFinding base.now state.now application.now w) }
+        ensures known { AreKnown base.now state.now self.new }
+    {
+        let known = &mut self.known[application.truck() as usize];
+        find_known::<Brand>(alloc, base, state, application, known, Blank::new(1))
+    }
+
+    /// The study of a truck. Takes no memory.
+    pub fn study(&self, base: &Base, truck: u32) -> &Kept
+        requires studied { AreStudied base.now self.now }
+        requires truck { truck < length base.now.fleet }
+        ensures { result.now ≡ train_of base.now truck }
+    {
+        let _trucks = base.fleet().len();
+        &self.known[truck as usize].study
+    }
+
+    /// Goes on from a state to the one that a change makes of it: of each truck the segment that the change names is judged
+    /// anew. Takes no memory.
+    pub fn turn<L: Ledger>(
+        &mut self,
+        base: &Base,
+        old: &State,
+        new: &State,
+        change: &Change,
+        steps: &mut Steps<L>,
+    )
+        requires known { AreKnown base.now old.now self.old }
+        requires state { AreOf base.now.roads new.now }
+        requires takes { takes base.now.roads change.now ≡ true }
+        requires after { new.now ≡ state_after old.now change.now }
+        ensures { AreKnown base.now new.now self.new }
+    {
+        // the network tells that its lists are in order
+        let _segments = base.network().segments();
+        let segment = touched(base.network(), change);
+        for truck in 0..base.fleet().len() {
+            let known = &mut self.known[truck];
+            turn_one(base, old, new, change, truck as u32, segment, known, steps);
+        }
+    }
+}
+
+// What is found by what is known of the truck.
+fn find_known<L: Ledger>(
+    alloc: Global,
+    base: &Base,
+    state: &State,
+    application: &Application,
+    known: &mut Known,
+    blank: Blank,
+) -> Result<What, NoMemory>
+    requires name { blank.name ≡ L.name }
+    requires parts { blank.parts ≡ L.parts }
+    requires some { 0 < blank.parts }
+    requires known { IsKnown base.now state.now application.now.truck known.old }
+    requires state { AreOf base.now.roads state.now }
+    requires sound { Sound base.now application.now }
+    ensures found { IfOk result (λ w. IsFinding base.now state.now application.now w) }
+    ensures known { IsKnown base.now state.now application.now.truck known.new }
+{
+    let mut steps = Steps::<L>::new(blank);
+    let truck = application.truck();
+    if base.fleet()[truck as usize].load.legal() {
+        return Ok(What::NotNeeded);
+    }
+    learn(base.network(), &mut known.study)?;
+    match application.asked() {
+        Some(route) => find_asked(alloc, base, state, truck, &known.study, route, &mut steps),
+        None => {
+            learn_flags(alloc, base, state, truck, known, &mut steps)?;
+            learn_potentials(alloc, base, state, truck, application.to(), known)?;
+            let passable = known.flags.as_slice();
+            find_settled(alloc, base, state, application, passable, &known.potentials)
+        }
+    }
+}
+
+// Keeps the flags of the segments, where none are kept yet.
+fn learn_flags<L: Ledger>(
+    alloc: Global,
+    base: &Base,
+    state: &State,
+    truck: u32,
+    known: &mut Known,
+    steps: &mut Steps<L>,
+) -> Result<(), NoMemory>
+    requires truck { truck < length base.now.fleet }
+    requires known { IsKnown base.now state.now truck known.old }
+    requires state { AreOf base.now.roads state.now }
+    ensures flagged { IfOk result (λ _. known.new.is_flagged ≡ true) }
+    ensures known { IsKnown base.now state.now truck known.new }
+{
+    if known.is_flagged {
+        return Ok(());
+    }
+    known.flags = flags(alloc, base, state, truck, &known.study, steps)?;
+    known.is_flagged = true;
+    known.is_settled = false;
+    Ok(())
+}
+
+// Keeps the potentials of a goal, where those of another one are kept, or none.
+#[tactic(auto, using(crate::proofs::Flags::flags_many))]
+fn learn_potentials(
+    alloc: Global,
+    base: &Base,
+    _state: &State,
+    _truck: u32,
+    goal: u32,
+    known: &mut Known,
+) -> Result<(), NoMemory>
+    requires flagged { known.old.is_flagged ≡ true }
+    requires known { IsKnown base.now _state.now _truck known.old }
+    requires goal { goal < length base.now.roads.nodes }
+    ensures flagged { known.new.is_flagged ≡ true }
+    ensures settled { IfOk result (λ _. IsSettled base.now.roads known.new.flags.items goal known.new.potentials) }
+    ensures known { IsKnown base.now _state.now _truck known.new }
+{
+    if known.is_settled && known.goal == goal {
+        return Ok(());
+    }
+    known.potentials = potentials(alloc, base.network(), known.flags.as_slice(), goal)?;
+    known.goal = goal;
+    known.is_settled = true;
+    Ok(())
+}
+
+// Goes on to the state that a change makes, where the flags are kept.
+fn turn_one<L: Ledger>(
+    base: &Base,
+    _old: &State,
+    new: &State,
+    _change: &Change,
+    truck: u32,
+    segment: u32,
+    known: &mut Known,
+    steps: &mut Steps<L>,
+)
+    requires truck { truck < length base.now.fleet }
+    requires known { IsKnown base.now _old.now truck known.old }
+    requires state { AreOf base.now.roads new.now }
+    requires segment { segment ≡ touched base.now.roads _change.now }
+    requires within { segment < length base.now.roads.segments }
+    requires after { new.now ≡ state_after _old.now _change.now }
+    requires roads { IsRoads base.now.roads }
+    ensures { IsKnown base.now new.now truck known.new }
+{
+    if known.is_flagged {
+        let limit = failing_limit_by(base, new, truck, &known.study, segment, steps);
+        write_flag(base.network(), known, segment, limit.is_none());
+    }
+}
+
+// Writes the flag of a segment. The potentials stay where it is as before, or where it does not matter to them.
+fn write_flag(network: &Network, known: &mut Known, segment: u32, passable: bool)
+    requires roads { IsRoads network.now }
+    requires within { segment < length network.now.segments }
+    requires many { length known.old.flags.items ≡ length network.now.segments }
+    requires settled { known.old.is_settled ≡ true → IsSettled network.now known.old.flags.items known.old.goal known.old.potentials }
+    ensures study { known.new.study ≡ known.old.study }
+    ensures flags { known.new.flags.items ≡ slice_set known.old.flags.items segment passable }
+    ensures settled { known.new.is_settled ≡ true → IsSettled network.now known.new.flags.items known.new.goal known.new.potentials }
+{
+    let before = known.flags[segment as usize];
+    known.flags[segment as usize] = passable;
+    if before != passable && known.is_settled {
+        known.is_settled = known.potentials.is_slack(network, segment);
+    }
+}
+
+// Keeps the effects on each span, where none are kept yet.
+fn learn(network: &Network, study: &mut Kept) -> Result<(), NoMemory>
+    ensures { study.new ≡ study.old }
+{
+    if !study.is_empty() {
+        return Ok(());
+    }
+    for span in 0..network.spans() {
+        study.keep(network.span(span).inches)?;
+    }
+    Ok(())
+}
+
+// What is known of a truck of which nothing is known but its axles.
+fn unknown(alloc: Global, base: &Base, truck: u32) -> Result<Known, NoMemory>
+    requires truck { truck < length base.now.fleet }
+    ensures { IfOk result (λ known. IsNew base.now truck known) }
+{
+    let train = train_of(base, truck).clone()?;
+    Ok(Known {
+        study: Kept::new(alloc, train),
+        is_flagged: false,
+        flags: Vec::new(alloc),
+        is_settled: false,
+        goal: 0,
+        potentials: Potentials::none(alloc),
+    })
+}
