@@ -64,6 +64,7 @@ shear_of_all span num den h =
     let r = h.reached in
     let lead = r.4.0 in
     record {
+      some = h.some;
       reached = (r.0, r.1, r.2, r.3, (lead, 168 * r.0, omega arith, omega arith, r.4.1 ∙ placed_is r.0 lead), r.5);
       greatest = λ q end loads a is_placed.
           let second = is_placed.1 in

@@ -43,6 +43,10 @@ pub lowest_same : (f : Ratio) → 1 ≤ f.den → IsRatio (lowest_of f) f.num f.
 unfolding lowest_of
 lowest_same f some = same_ratio f.num f.den (greatest_divisor f.num f.den f.den) (is_gcd f.num f.den some)
 
+pub lowest_some : (f : Ratio) → 1 ≤ f.den → 1 ≤ (lowest_of f).den
+unfolding lowest_of
+lowest_some f some = quotient_some f.num f.den (greatest_divisor f.num f.den f.den) (is_gcd f.num f.den some) some
+
 -- it has the size of a peak where the fraction has
 pub lowest_small : (f : Ratio) → 1 ≤ f.den → f.num < 2 ^ 68 → f.den < 2 ^ 36 → IsSmall (lowest_of f)
 unfolding lowest_of
@@ -50,7 +54,7 @@ lowest_small f some num den =
     let divisor = greatest_divisor f.num f.den f.den in
     let gcd = is_gcd f.num f.den some in
     record {
-      lowest = record { some = quotient_some f.num f.den divisor gcd some; coprime = gcd_quotients f.num f.den divisor gcd some };
+      lowest = record { some = lowest_some f some; coprime = gcd_quotients f.num f.den divisor gcd some };
       num = omega (arith, num, div-le_self f.num divisor);
       den = omega (arith, den, div-le_self f.den divisor);
     }

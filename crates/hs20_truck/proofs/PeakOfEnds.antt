@@ -19,7 +19,7 @@ use Rattle.shear_peak.specs.Ends.{lead_to, reaction_to}
 use Rattle.shear_peak.proofs.Peaks.{is_peak}
 use Rattle.hs20_truck.specs.Effects.{greatest, lowest_of, shear_at, shears_at_ends, shear_of}
 use Rattle.hs20_truck.proofs.Members.{All-range, All-flat_map, Contains-range, Contains-map, Contains-flat_map}
-use Rattle.hs20_truck.proofs.LowestTerms.{lowest_same, lowest_small}
+use Rattle.hs20_truck.proofs.LowestTerms.{lowest_same, lowest_small, lowest_some}
 use Rattle.hs20_truck.proofs.Greatest.{IsNoMore, IsGreatest, greatest_is}
 
 -- a pound gives no more than a pound to a reaction
@@ -69,7 +69,7 @@ among_ends axles span end k within =
 
 -- a peak end shear whose terms have the size of a peak, and by any terms of its value
 record IsPeakValue (axles : List Axle) (span : ℕ) (f : Ratio) : Type 0 where
-  peak : (num den : ℕ) → num * f.den ≡ f.num * den → IsPeakShear (IsTrainPlaced axles) span num den
+  peak : (num den : ℕ) → 1 ≤ den → num * f.den ≡ f.num * den → IsPeakShear (IsTrainPlaced axles) span num den
   some : 1 ≤ f.den
   num : f.num < 2 ^ 68
   den : f.den < 2 ^ 36
@@ -88,7 +88,7 @@ module _ (axles : List Axle) (span : ℕ) (some : 1 ≤ span) (long : span ≤ 6
       let all : (e : End) (i : ℕ) → i < length axles → reaction_to axles span e i ≤ value = λ e i below.
       le_of_mul-le-mul_right {m = reaction_to axles span e i} {n = value} {k = span} (All-contains (λ g. IsNoMore g (shear_at axles span end k)) (shears_at_ends axles span) (shear_at axles span e i) most (among_ends axles span e i below)) some in
       record {
-        peak = λ num den same. is_peak span axles end k value num den some train within refl all same;
+        peak = λ num den den_some same. is_peak span axles end k value num den some train within refl all den_some same;
         some = some;
         num = omega (arith, reaction_most 1 (1 * span) end (lead_to span end (axle_at axles k).place) axles, mul-le-mul long train.gross);
         den = omega (arith, long);
@@ -107,7 +107,7 @@ module _ (axles : List Axle) (span : ℕ) (some : 1 ≤ span) (long : span ≤ 6
   shear_is_peak =
       let f = greatest (shears_at_ends axles span) in
       let p = peak_value in
-      p.peak (lowest_of f).num (lowest_of f).den (lowest_same f p.some)
+      p.peak (lowest_of f).num (lowest_of f).den (lowest_some f p.some) (lowest_same f p.some)
 
   pub shear_is_small : IsSmall (shear_of axles span)
   unfolding shear_of

@@ -17,7 +17,7 @@ use Rattle.moment_peak.proofs.PeakOfBest.{peak_of_best, peak_reduced}
 use Rattle.moment_peak.proofs.RunSums.{are_sums}
 use Rattle.moment_peak.proofs.Small.{run_light, value_most}
 use Rattle.hs20_truck.specs.Effects.{greatest, lowest_of, vertex_moment, moments_of_runs, moment_of}
-use Rattle.hs20_truck.proofs.LowestTerms.{lowest_same, lowest_small}
+use Rattle.hs20_truck.proofs.LowestTerms.{lowest_same, lowest_small, lowest_some}
 use Rattle.hs20_truck.proofs.Greatest.{IsNoMore, IsGreatest, greatest_is}
 use Rattle.hs20_truck.proofs.MomentOfRuns.{IsMomentOfRun, each_of_runs, among_runs}
 
@@ -61,7 +61,6 @@ cancel_span v w v' w' span some h = le_of_mul-le-mul_right {m = v' * w} {n = v *
 -- a peak moment whose terms have the size of a peak, in lowest terms or not
 record IsPeakValue (axles : List Axle) (span : ℕ) (f : Ratio) : Type 0 where
   peak : IsPeakMoment (IsTrainPlaced axles) span f.num f.den
-  some : 1 ≤ f.den
   num : f.num < 2 ^ 68
   den : f.den < 2 ^ 36
 
@@ -109,7 +108,6 @@ module _ (axles : List Axle) (span : ℕ) (some : 1 ≤ span) (long : span ≤ 6
       let light : run_weight axles first last ≤ 2000000 = run_light axles first last train in
       record {
         peak = peak_of_best span axles (candidate axles span k first last) some train a (is_best k first last most);
-        some = den_some axles span some train k first last is_run;
         num = value_small k first last h;
         den = omega (arith, mul-le-mul light long);
       }
@@ -127,11 +125,11 @@ module _ (axles : List Axle) (span : ℕ) (some : 1 ≤ span) (long : span ≤ 6
   moment_is_peak =
       let f = greatest (moments_of_runs axles span) in
       let p = peak_value in
-      peak_reduced (IsTrainPlaced axles) span f.num f.den (lowest_of f).num (lowest_of f).den p.some (lowest_same f p.some) p.peak
+      peak_reduced (IsTrainPlaced axles) span f.num f.den (lowest_of f).num (lowest_of f).den (lowest_some f p.peak.some) (lowest_same f p.peak.some) p.peak
 
   pub moment_is_small : IsSmall (moment_of axles span)
   unfolding moment_of
   moment_is_small =
       let f = greatest (moments_of_runs axles span) in
       let p = peak_value in
-      lowest_small f p.some p.num p.den
+      lowest_small f p.peak.some p.num p.den

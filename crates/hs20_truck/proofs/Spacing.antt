@@ -65,6 +65,7 @@ moment_of_all span num den h =
     let r = h.reached in
     let lead = r.5.0 in
     record {
+      some = h.some;
       reached = (r.0, r.1, r.2, r.3, r.4, (lead, 168 * r.0, omega arith, omega arith, r.5.1 ∙ placed_is r.0 lead), r.6);
       greatest = λ q section loads a b is_placed.
           let second = is_placed.1 in

@@ -6,13 +6,15 @@ use Rattle.influence_line.specs.Placed.{Load, moment_sum, placed}
 use Rattle.influence_line.specs.Reactions.{reaction_sum}
 use Rattle.influence_line.specs.declared.placing.End.{End}
 
--- num over den, with den at least 1, is the greatest moment at any section under any allowed placement, in pounds times inches: some scale, section and placement reach it, and none exceeds it
+-- num over den is the greatest moment at any section under any allowed placement, in pounds times inches: it is a fraction, some scale, section and placement reach it, and none exceeds it
 pub record IsPeakMoment (Allowed : ℕ → List Load → Type 0) (span num den : ℕ) : Type 0 where
+  pub some : 1 ≤ den
   pub reached : (q : ℕ) × (section : ℕ) × (loads : List Load) × (1 ≤ q) × (section ≤ q * span) × Allowed q loads × (moment_sum (q * span) section loads * den ≡ num * (q * q * span))
   pub greatest : (q section : ℕ) (loads : List Load) → 1 ≤ q → section ≤ q * span → Allowed q loads → moment_sum (q * span) section loads * den ≤ num * (q * q * span)
 
--- num over den, with den at least 1, is the greatest reaction of either support under any allowed placement, in pounds: some scale, end and placement reach it, and none exceeds it
+-- num over den is the greatest reaction of either support under any allowed placement, in pounds: it is a fraction, some scale, end and placement reach it, and none exceeds it
 pub record IsPeakShear (Allowed : ℕ → List Load → Type 0) (span num den : ℕ) : Type 0 where
+  pub some : 1 ≤ den
   pub reached : (q : ℕ) × (end : End) × (loads : List Load) × (1 ≤ q) × Allowed q loads × (reaction_sum (q * span) end loads * den ≡ num * (q * span))
   pub greatest : (q : ℕ) (end : End) (loads : List Load) → 1 ≤ q → Allowed q loads → reaction_sum (q * span) end loads * den ≤ num * (q * span)
 

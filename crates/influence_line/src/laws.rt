@@ -3,7 +3,7 @@
 
 ghost use Rattle.influence_line.specs.Laws.{EqualFractionsAreOne, SmallFractionsCompare, PeakMomentIsOne, PeakShearIsOne, NearerIsNoLess};
 
-use crate::placements::Placements;
+use crate::Placements;
 
 /// Two fractions in lowest terms that have one value are one fraction.
 pub fn equal_fractions_are_one()
@@ -33,8 +33,7 @@ pub fn nearer_is_no_less()
 #[cfg(test)]
 mod tests {
     use super::*;
-    use crate::fraction::Frac;
-    use crate::placements::Hs20Placements;
+    use crate::{Frac, Hs20Placements};
     use axle_train::{Axle, Train};
     use std::cmp::Ordering;
     use std::test::Fail;

@@ -1,6 +1,6 @@
 -- The best run's value is the peak moment.
 use Rattle.std.proofs.Common.{◌≡◌, ℕ, ◌*◌, ◌<◌, ◌≤◌, List, arith, refl, ap}
-use Rattle.std.proofs.Math.Nat.{mul-le-mul_right, le_of_mul-le-mul_right}
+use Rattle.std.proofs.Math.Nat.{mul-le-mul_right, le_of_mul-le-mul_right, mul-pos}
 use Rattle.axle_train.specs.declared.axle.Axle.{Axle}
 use Rattle.axle_train.specs.Bounds.{IsTrain}
 use Rattle.axle_train.specs.Trains.{axle_at}
@@ -18,10 +18,12 @@ pub peak_of_best : (span : ℕ) (axles : List Axle) (best : Candidate) → 0 < s
 peak_of_best span axles best some train a is_best =
     let R = run_weight axles best.run.first best.run.last in
     let peak = best_peaks span axles best a in
+    let four : 0 < 4 = omega arith in
     let loaded : 0 < R = run_loaded axles best.axle best.run.first best.run.last train.each peak.is_run in
     let place = peak_place span axles best best.value (4 * best.run.sums.weight * span) best.axle best.run.first best.run.last some train a is_best refl peak in
     let lead = lead_at (2 * R) (axle_at axles best.axle).place place.v in
     record {
+      some = mul-pos (mul-pos four a.loaded) some;
       reached = (2 * R, place.v, placed (2 * R) lead axles, omega arith, place.on, (lead, refl), place.reaches);
       greatest = λ q section loads h k is_placed. rw is_placed.1 (greatest span axles best train is_best q section is_placed.0 h k);
     }
@@ -30,10 +32,11 @@ cancel_den-le : (M n d num den Q : ℕ) → num * d ≡ n * den → 0 < d → M 
 cancel_den-le M n d num den Q e p h = le_of_mul-le-mul_right {m = M * den} {n = num * Q} {k = d} (omega (arith, mul-le-mul_right den h, ap (λ t. t * Q) e)) p
 
 -- a peak is one by every fraction of its value
-pub peak_reduced : (Allowed : ℕ → List Load → Type 0) (span n d num den : ℕ) → 0 < d → num * d ≡ n * den → IsPeakMoment Allowed span n d → IsPeakMoment Allowed span num den
-peak_reduced Allowed span n d num den p e h =
+pub peak_reduced : (Allowed : ℕ → List Load → Type 0) (span n d num den : ℕ) → 1 ≤ den → num * d ≡ n * den → IsPeakMoment Allowed span n d → IsPeakMoment Allowed span num den
+peak_reduced Allowed span n d num den some e h =
     let r = h.reached in
     record {
-      reached = (r.0, r.1, r.2, r.3, r.4, r.5, cancel_den _ n d num den _ e p r.6);
-      greatest = λ q section loads a b c. cancel_den-le _ n d num den _ e p (h.greatest q section loads a b c);
+      some = some;
+      reached = (r.0, r.1, r.2, r.3, r.4, r.5, cancel_den _ n d num den _ e h.some r.6);
+      greatest = λ q section loads a b c. cancel_den-le _ n d num den _ e h.some (h.greatest q section loads a b c);
     }

@@ -16,10 +16,11 @@ scaled : (r q rk value num den span : ℕ) → r ≤ q * rk → rk ≤ value →
 scaled r q rk value num den span h k e p = omega (arith, mul-le-mul_right den h, mul-le-mul_left (q * den) k, ap (λ t. q * t) e)
 
 -- a value that no axle at a support exceeds, and that one reaches, is the peak
-pub is_peak : (span : ℕ) (axles : List Axle) (end : End) (k value num den : ℕ) → 0 < span → IsTrain axles → k < length axles → value ≡ reaction_to axles span end k → ((e : End) (i : ℕ) → i < length axles → reaction_to axles span e i ≤ value) → num * span ≡ value * den → IsPeakShear (IsTrainPlaced axles) span num den
-is_peak span axles end k value num den some train within reached all e =
+pub is_peak : (span : ℕ) (axles : List Axle) (end : End) (k value num den : ℕ) → 0 < span → IsTrain axles → k < length axles → value ≡ reaction_to axles span end k → ((e : End) (i : ℕ) → i < length axles → reaction_to axles span e i ≤ value) → 1 ≤ den → num * span ≡ value * den → IsPeakShear (IsTrainPlaced axles) span num den
+is_peak span axles end k value num den some train within reached all den_some e =
     let loads = placed 1 (lead_to span end (axle_at axles k).place) axles in
     record {
+      some = den_some;
       reached = (1, end, loads, omega arith, (lead_to span end (axle_at axles k).place, refl), omega (arith, ap (λ t. t * den) reached, e));
       greatest = λ q at others h is_placed.
           let b = below_some_axle q span 0 at is_placed.0 axles train.rising (omega (arith, train.many)) in

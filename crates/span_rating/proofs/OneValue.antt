@@ -14,19 +14,27 @@ within_from : (rating n d a b n' d' a' b' : ℕ) → n' * d ≡ n * d' → a' * 
 within_from rating n d a b n' d' a' b' e f p q h =
     le_of_mul-le-mul_right {m = 1000 * n' * b'} {n = rating * a' * d'} {k = d * b} (omega (arith, mul-le-mul_left (d' * b') h, ap (λ t. 1000 * b' * b * t) e, ap (λ t. rating * d * d' * t) f)) (mul-pos p q)
 
-moment_fits : (Truck Design : ℕ → List Load → Type 0) (span rating : ℕ) (truck design : Effects) → 1 ≤ span → AreEffects Truck span truck → AreEffects Design span design → IsWithin rating truck.moment design.moment → MomentFits Truck Design span rating
-moment_fits Truck Design span rating truck design some t d within = λ f g p q tf dg.
-    within_from rating truck.moment.num truck.moment.den design.moment.num design.moment.den f.num f.den g.num g.den
-    (moment_same Truck span f.num f.den truck.moment.num truck.moment.den some tf t.moment)
-    (moment_same Design span g.num g.den design.moment.num design.moment.den some dg d.moment)
-    t.small.moment.lowest.some d.small.moment.lowest.some within
+-- where the peak moments fit, so do these effects; and the same of the shears
+moment_within : (Truck Design : ℕ → List Load → Type 0) (span rating : ℕ) (truck design : Effects) → 1 ≤ span → AreEffects Truck span truck → AreEffects Design span design → MomentFits Truck Design span rating → IsWithin rating truck.moment design.moment
+moment_within Truck Design span rating truck design some t d fit =
+    within_from rating fit.truck.num fit.truck.den fit.design.num fit.design.den truck.moment.num truck.moment.den design.moment.num design.moment.den
+    (moment_same Truck span truck.moment.num truck.moment.den fit.truck.num fit.truck.den some t.moment fit.truck_peak)
+    (moment_same Design span design.moment.num design.moment.den fit.design.num fit.design.den some d.moment fit.design_peak)
+    fit.truck_peak.some fit.design_peak.some fit.within
 
-shear_fits : (Truck Design : ℕ → List Load → Type 0) (span rating : ℕ) (truck design : Effects) → 1 ≤ span → AreEffects Truck span truck → AreEffects Design span design → IsWithin rating truck.shear design.shear → ShearFits Truck Design span rating
-shear_fits Truck Design span rating truck design some t d within = λ f g p q tf dg.
-    within_from rating truck.shear.num truck.shear.den design.shear.num design.shear.den f.num f.den g.num g.den
-    (shear_same Truck span f.num f.den truck.shear.num truck.shear.den some tf t.shear)
-    (shear_same Design span g.num g.den design.shear.num design.shear.den some dg d.shear)
-    t.small.shear.lowest.some d.small.shear.lowest.some within
+shear_within : (Truck Design : ℕ → List Load → Type 0) (span rating : ℕ) (truck design : Effects) → 1 ≤ span → AreEffects Truck span truck → AreEffects Design span design → ShearFits Truck Design span rating → IsWithin rating truck.shear design.shear
+shear_within Truck Design span rating truck design some t d fit =
+    within_from rating fit.truck.num fit.truck.den fit.design.num fit.design.den truck.shear.num truck.shear.den design.shear.num design.shear.den
+    (shear_same Truck span truck.shear.num truck.shear.den fit.truck.num fit.truck.den some t.shear fit.truck_peak)
+    (shear_same Design span design.shear.num design.shear.den fit.design.num fit.design.den some d.shear fit.design_peak)
+    fit.truck_peak.some fit.design_peak.some fit.within
+
+-- effects that are within the rating are peaks that fit
+moment_fits : (Truck Design : ℕ → List Load → Type 0) (span rating : ℕ) (truck design : Effects) → AreEffects Truck span truck → AreEffects Design span design → IsWithin rating truck.moment design.moment → MomentFits Truck Design span rating
+moment_fits Truck Design span rating truck design t d within = record { truck = truck.moment; design = design.moment; truck_peak = t.moment; design_peak = d.moment; within = within }
+
+shear_fits : (Truck Design : ℕ → List Load → Type 0) (span rating : ℕ) (truck design : Effects) → AreEffects Truck span truck → AreEffects Design span design → IsWithin rating truck.shear design.shear → ShearFits Truck Design span rating
+shear_fits Truck Design span rating truck design t d within = record { truck = truck.shear; design = design.shear; truck_peak = t.shear; design_peak = d.shear; within = within }
 
 moment_says : (rating : ℕ) (truck design : Effects) → fit_of truck design rating ≡ Moment → IsWithin rating truck.moment design.moment → ⊥
 moment_says rating truck design e = grind (arith, nat_tests)
@@ -39,7 +47,7 @@ shear_says rating truck design e = grind (arith, nat_tests)
 
 pub says_of_peaks : (Truck Design : ℕ → List Load → Type 0) (span rating : ℕ) (truck design : Effects) → 1 ≤ span → AreEffects Truck span truck → AreEffects Design span design → SaysOfPeaks Truck Design span rating truck design
 says_of_peaks Truck Design span rating truck design some t d = record {
-  fits = λ e. let h = fits_says rating truck design e in (moment_fits Truck Design span rating truck design some t d h.0, shear_fits Truck Design span rating truck design some t d h.1);
-  moment = λ e all. moment_says rating truck design e (all truck.moment design.moment t.small.moment.lowest.some d.small.moment.lowest.some t.moment d.moment);
-  shear = λ e. let h = shear_says rating truck design e in (moment_fits Truck Design span rating truck design some t d h.0, λ all. h.1 (all truck.shear design.shear t.small.shear.lowest.some d.small.shear.lowest.some t.shear d.shear));
+  fits = λ e. let h = fits_says rating truck design e in (moment_fits Truck Design span rating truck design t d h.0, shear_fits Truck Design span rating truck design t d h.1);
+  moment = λ e fit. moment_says rating truck design e (moment_within Truck Design span rating truck design some t d fit);
+  shear = λ e. let h = shear_says rating truck design e in (moment_fits Truck Design span rating truck design t d h.0, λ fit. h.1 (shear_within Truck Design span rating truck design some t d fit));
 }

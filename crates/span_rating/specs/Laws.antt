@@ -8,13 +8,21 @@ use Rattle.span_rating.specs.Judgement.{IsWithin, fit_of}
 use Rattle.span_rating.specs.declared.loading.Effects.{Effects}
 use Rattle.span_rating.specs.declared.judgement.Fit.TheVariants.{Fits, Moment, Shear}
 
--- a truck's moment fits where each fraction that is its peak moment is within the rating of each that is the design's
-abbrev pub MomentFits : (ℕ → List Load → Type 0) → (ℕ → List Load → Type 0) → ℕ → ℕ → Type 0
-MomentFits Truck Design span rating = (f g : Ratio) → 1 ≤ f.den → 1 ≤ g.den → IsPeakMoment Truck span f.num f.den → IsPeakMoment Design span g.num g.den → IsWithin rating f g
+-- a truck's moment fits: there is its peak moment, there is the design's, and the one is within the rating of the other
+pub record MomentFits (Truck Design : ℕ → List Load → Type 0) (span rating : ℕ) : Type 0 where
+  pub truck : Ratio
+  pub design : Ratio
+  pub truck_peak : IsPeakMoment Truck span truck.num truck.den
+  pub design_peak : IsPeakMoment Design span design.num design.den
+  pub within : IsWithin rating truck design
 
 -- the same of its shear
-abbrev pub ShearFits : (ℕ → List Load → Type 0) → (ℕ → List Load → Type 0) → ℕ → ℕ → Type 0
-ShearFits Truck Design span rating = (f g : Ratio) → 1 ≤ f.den → 1 ≤ g.den → IsPeakShear Truck span f.num f.den → IsPeakShear Design span g.num g.den → IsWithin rating f g
+pub record ShearFits (Truck Design : ℕ → List Load → Type 0) (span rating : ℕ) : Type 0 where
+  pub truck : Ratio
+  pub design : Ratio
+  pub truck_peak : IsPeakShear Truck span truck.num truck.den
+  pub design_peak : IsPeakShear Design span design.num design.den
+  pub within : IsWithin rating truck design
 
 -- what each judgement of the effects of two sets of placements says of their peaks
 pub record SaysOfPeaks (Truck Design : ℕ → List Load → Type 0) (span rating : ℕ) (truck design : Effects) : Type 0 where

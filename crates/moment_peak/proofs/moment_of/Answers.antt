@@ -1,5 +1,4 @@
-use Rattle.std.proofs.Common.{◌<◌, arith}
-use Rattle.std.proofs.Math.Nat.{mul-pos}
+use Rattle.std.proofs.Common.{arith}
 use Rattle.influence_line.specs.Peaks.{IsTrainPlaced}
 use Rattle.moment_peak.proofs.PeakOfBest.{peak_of_best, peak_reduced}
 use Rattle.moment_peak.proofs.Small.{best_small}
@@ -9,9 +8,8 @@ pub returns-clause-peak : goal.returns-clause-peak
 returns-clause-peak c =
     let best = c.args.best in
     let train = c.len-len.ensures.bounds in
-    let four : 0 < 4 = omega arith in
     let whole = peak_of_best c.args.span c.args.train.now best c.requires.some train c.requires.attained c.requires.best in
-    peak_reduced (IsTrainPlaced c.args.train.now) c.args.span best.value _ c.reduced.result.num c.reduced.result.den (mul-pos (mul-pos four c.requires.attained.loaded) c.requires.some) (grind arith) whole
+    peak_reduced (IsTrainPlaced c.args.train.now) c.args.span best.value _ c.reduced.result.num c.reduced.result.den c.reduced.ensures.lowest.some (grind arith) whole
 
 pub returns-clause-small_num : goal.returns-clause-small_num
 returns-clause-small_num c =
