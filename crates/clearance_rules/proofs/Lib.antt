@@ -4,4 +4,3 @@ pub mod Legal
 pub mod Naming
 pub mod Meeting
 pub mod Agreeing
-pub mod Standing

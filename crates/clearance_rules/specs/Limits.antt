@@ -20,12 +20,6 @@ use Rattle.clearance_rules.specs.Loads.{LoadParts, gross_of, groups_of, worst_of
 use Rattle.clearance_rules.specs.declared.limit.Limit.{Limit}
 use Rattle.clearance_rules.specs.declared.limit.Limit.TheVariants.{Closed, Height, Width, Length, Gross, Group, Moment, Shear}
 
--- the state is of this network: it has limits for each segment, and for each span a rating that is in range
-pub record AreOf (roads : Roads) (state : InForce) : Type 0 where
-  pub values : length state.values ≡ length roads.segments
-  pub ratings : length state.ratings ≡ length roads.spans
-  pub in_range : (i : ℕ) → rating_at state.ratings i ≤ 100000
-
 -- the first posted value that fails the load: the segment is closed, or the load is higher, wider, longer or heavier
 unfoldable pub posted_limit : Values → LoadParts → ℕ → Option Limit
 posted_limit values load segment =

@@ -3,8 +3,8 @@
 ghost use Rattle.std.specs.Prelude.{◌≡◌, ◌<◌, ◌≤◌, ◌+◌, ◌↔◌, List, ℕ, length, None, All};
 ghost use Rattle.axle_train.specs.Bounds.{IsTrain};
 ghost use Rattle.road_graph.specs.Roads.{span_at, spans_of};
-ghost use Rattle.restriction_log.specs.States.{values_at, rating_at};
-ghost use Rattle.clearance_rules.specs.Limits.{AreOf, posted_limit, group_limit, span_limit, spans_limit, limit_of, Meets};
+ghost use Rattle.restriction_log.specs.States.{AreOf, values_at, rating_at};
+ghost use Rattle.clearance_rules.specs.Limits.{posted_limit, group_limit, span_limit, spans_limit, limit_of, Meets};
 
 use crate::limit::Limit;
 use crate::load::Load;

@@ -1,5 +1,5 @@
 ghost use Rattle.std.specs.Prelude.{◌≡◌, ◌<◌, length, IfOk};
-ghost use Rattle.clearance_rules.specs.Limits.{AreOf};
+ghost use Rattle.restriction_log.specs.States.{AreOf};
 
 use crate::{
     Limit, Load, Range, Steps, first_failing, limits_are_of_their_segment,

@@ -1,12 +1,10 @@
 -- What is known of findings, from below.
 use Rattle.std.proofs.Common.{◌≡◌, ℕ, List, [], ◌∷◌, ◌++◌, true, length, take, ap, sym, subst, ◌∙◌, arith}
 use Rattle.std.proofs.lemmas.List.{take_all}
-use Rattle.std.specs.List.{All}
 use Rattle.road_graph.specs.Roads.{Roads, IsRoads}
 use Rattle.restriction_log.specs.declared.change.Change.{Change}
-use Rattle.restriction_log.specs.States.{InForce, state_of, state_after, is_named}
-use Rattle.restriction_log.specs.Changes.{takes}
-use Rattle.clearance_rules.specs.Limits.{AreOf}
+use Rattle.restriction_log.specs.States.{InForce, state_of, state_after, is_named, AreOf}
+use Rattle.restriction_log.specs.Changes.{takes, AreTaken}
 use Rattle.trip_analysis.specs.declared.application.Application.{Application}
 use Rattle.trip_analysis.specs.declared.finding.What.{What}
 use Rattle.trip_analysis.specs.declared.finding.Proposal.{Proposal}
@@ -16,7 +14,7 @@ use Rattle.trip_analysis.specs.Findings.{IsFinding, HoldsIn}
 use Rattle.office_core.specs.Machine.{Machine, version_of, state_in, IsFound}
 use Rattle.restriction_log.proofs.Standing.{named_by_count}
 use Rattle.restriction_log.proofs.Elsewhere.{state-posted}
-use Rattle.clearance_rules.proofs.Standing.{state_is_of, stays_of}
+use Rattle.restriction_log.proofs.Standing.{state_is_of, stays_of}
 use Rattle.trip_analysis.proofs.Found as found
 pub use Rattle.trip_analysis.proofs.Found.{found_in_range, found_holds}
 
@@ -38,7 +36,7 @@ pub state_posted : (roads : Roads) (postings : List Change) (change : Change) �
 state_posted roads postings change = state-posted roads postings change
 
 -- the state of postings that the network takes is of the network
-pub of_base : (roads : Roads) (postings : List Change) → IsRoads roads → All (λ c. takes roads c ≡ true) postings → AreOf roads (state_of roads postings)
+pub of_base : (roads : Roads) (postings : List Change) → IsRoads roads → AreTaken roads postings → AreOf roads (state_of roads postings)
 of_base roads postings is taken = state_is_of roads postings is taken
 
 -- what is found now may be asked as a proposal of the current version

@@ -7,7 +7,7 @@ use Rattle.std.proofs.lemmas.List.Elements.{All-append, All-set, All-nil, All-co
 use Rattle.road_graph.specs.Roads.{IsRoads}
 use Rattle.restriction_log.specs.declared.change.Change.{Change}
 use Rattle.restriction_log.specs.States.{InForce, state_of}
-use Rattle.restriction_log.specs.Changes.{takes}
+use Rattle.restriction_log.specs.Changes.{takes, AreTaken}
 use Rattle.permit_book.specs.declared.permit.Permit.{Permit}
 use Rattle.permit_book.specs.declared.permit.Mark.{Mark}
 use Rattle.permit_book.specs.Permits.{no_permit, in_force, AreNumbered}
@@ -115,10 +115,6 @@ kept_after base m caller (call.Day day) r roads ask answer had = day_kept base m
 kept_after base m caller (call.Surrender number) r roads ask answer had = surrender_kept base m number r had
 kept_after base m caller (call.Show number) r roads ask answer had = had
 
--- the network takes each posting
-abbrev AreTaken : BaseLists → List Change → Type 0
-AreTaken base postings = All (λ c. takes base.roads c ≡ true) postings
-
 -- of a reply that posts a change, that the network takes it
 abbrev PostedTaken : BaseLists → Change → Reply → Type 0
 PostedTaken base change (reply.Posted version recalled) = takes base.roads change ≡ true
@@ -128,19 +124,19 @@ posted_taken : (base : BaseLists) (m : Machine) (caller : ℕ) (change : Change)
 posted_taken base m caller change r (inl e) = subst (PostedTaken base change) (sym e) (pick (PostedTaken base change) (takes base.roads change) (reply.Posted _ _) reply.OutOfRange (λ t. t) (λ _. tt))
 posted_taken base m caller change r (inr e) = subst (PostedTaken base change) (sym e.0) tt
 
-post_taken : (base : BaseLists) (m : Machine) (change : Change) (r : Reply) → PostedTaken base change r → AreTaken base m.postings → AreTaken base (with_posting base m change r).postings
+post_taken : (base : BaseLists) (m : Machine) (change : Change) (r : Reply) → PostedTaken base change r → AreTaken base.roads m.postings → AreTaken base.roads (with_posting base m change r).postings
 post_taken base m change (reply.Posted v recalled) taken had = All-append (λ c. takes base.roads c ≡ true) m.postings (change ∷ []) had (All-cons (λ c. takes base.roads c ≡ true) change [] taken (All-nil (λ c. takes base.roads c ≡ true)))
 post_taken base m change _ taken had = had
 
-day_taken : (base : BaseLists) (m : Machine) (r : Reply) → AreTaken base m.postings → AreTaken base (with_day m r).postings
+day_taken : (base : BaseLists) (m : Machine) (r : Reply) → AreTaken base.roads m.postings → AreTaken base.roads (with_day m r).postings
 day_taken base m (reply.DayIs day) had = had
 day_taken base m _ had = had
 
-surrender_taken : (base : BaseLists) (m : Machine) (number : ℕ) (r : Reply) → AreTaken base m.postings → AreTaken base (with_surrender m number r).postings
+surrender_taken : (base : BaseLists) (m : Machine) (number : ℕ) (r : Reply) → AreTaken base.roads m.postings → AreTaken base.roads (with_surrender m number r).postings
 surrender_taken base m number reply.Surrendered had = had
 surrender_taken base m number _ had = had
 
-taken_after : (base : BaseLists) (m : Machine) (caller : ℕ) (c : Call) (r : Reply) → IsAnswer base m caller c r → AreTaken base m.postings → AreTaken base (after base m caller c r).postings
+taken_after : (base : BaseLists) (m : Machine) (caller : ℕ) (c : Call) (r : Reply) → IsAnswer base m caller c r → AreTaken base.roads m.postings → AreTaken base.roads (after base m caller c r).postings
 taken_after base m caller call.Snapshot r answer had = had
 taken_after base m caller (call.Submit a p) r answer had = had
 taken_after base m caller (call.Held a) r answer had = had

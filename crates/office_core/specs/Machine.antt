@@ -1,7 +1,7 @@
 -- The office as a machine: each entry of a history is a step, from what the entries before it leave.
 use Rattle.std.specs.Prelude.{◌≡◌, ℕ, ◌+◌, ◌≤◌, ◌⊎◌, Bool, true, false, IsTrue, List, [], ◌∷◌, ◌++◌, length, filter, take, ◌&&◌, not, if◌then◌else◌, ◌==◌, All}
 use Rattle.restriction_log.specs.declared.change.Change.{Change}
-use Rattle.restriction_log.specs.Changes.{takes}
+use Rattle.restriction_log.specs.Changes.{takes, AreTaken}
 use Rattle.restriction_log.specs.States.{InForce, state_of}
 use Rattle.permit_book.specs.declared.permit.Permit.{Permit}
 use Rattle.permit_book.specs.declared.permit.Mark.TheVariants as mark
@@ -162,7 +162,7 @@ entries_by caller es = filter (λ e. e.caller == caller) es
 -- what every legal history leaves: the network takes each posting; permits are numbered by their places, with trucks and
 -- segments that are there; and each that is in force meets what is in force on the roads
 pub record IsGood (base : BaseLists) (m : Machine) : Type 0 where
-  pub taken : All (λ c. takes base.roads c ≡ true) m.postings
+  pub taken : AreTaken base.roads m.postings
   pub numbered : AreNumbered 0 m.permits
   pub ranged : All (IsRanged base) m.permits
   pub meets : All (λ p. in_force m.day p ≡ true → fails base (state_in base m) p ≡ false) m.permits

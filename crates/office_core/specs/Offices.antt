@@ -3,7 +3,7 @@ use Rattle.std.specs.Prelude.{◌≡◌, ◌≤◌, ◌<◌, ◌++◌, ◌∷◌
 use Rattle.std.specs.Arc.{arc_value}
 use Rattle.road_graph.specs.Roads.{IsRoads}
 use Rattle.restriction_log.specs.States.{state_of}
-use Rattle.restriction_log.specs.Logs.{IsLogOf}
+use Rattle.restriction_log.specs.Changes.{AreTaken}
 use Rattle.trip_analysis.specs.Bases.{BaseLists}
 use Rattle.trip_analysis.specs.Known.{AreKnown}
 use Rattle.office_core.specs.declared.entry.Call.{Call}
@@ -40,10 +40,10 @@ grown o e = record o { history = o.history ++ e ∷ [] }
 pub record IsOffice (o : Inside) : Type 0 where
   pub roads : IsRoads (arc_value o.base).roads
   pub legal : IsLegal (arc_value o.base) o.opening o.history.items
-  pub machine : machine_of (arc_value o.base) o.opening o.history.items ≡ machine_at o.log.changes o.book o.day
-  pub state : o.state ≡ state_of (arc_value o.base).roads o.log.changes
+  pub machine : machine_of (arc_value o.base) o.opening o.history.items ≡ machine_at o.log o.book o.day
+  pub state : o.state ≡ state_of (arc_value o.base).roads o.log
   pub known : AreKnown (arc_value o.base) o.state o.analyst
-  pub log : IsLogOf (arc_value o.base).roads o.log
+  pub log : AreTaken (arc_value o.base).roads o.log
   pub callers : All (λ e. e.caller < 65536) o.history.items
   pub room : o.most ≤ vec_capacity o.history
   pub few : length o.history.items ≤ o.most

@@ -3,9 +3,8 @@
 
 ghost use Rattle.std.specs.Prelude.{◌≡◌, ◌+◌, ◌<◌, ◌≤◌, ◌++◌, length, All, IfOk, OnErr, None, true, false, take};
 ghost use Rattle.road_graph.specs.Roads.{IsRoads};
-ghost use Rattle.restriction_log.specs.States.{state_of};
-ghost use Rattle.restriction_log.specs.Logs.{IsLogOf};
-ghost use Rattle.clearance_rules.specs.Limits.{AreOf};
+ghost use Rattle.restriction_log.specs.States.{AreOf, state_of};
+ghost use Rattle.restriction_log.specs.Changes.{AreTaken};
 ghost use Rattle.trip_analysis.specs.declared.finding.What.{What};
 ghost use Rattle.trip_analysis.specs.Applications.{Sound};
 ghost use Rattle.trip_analysis.specs.Known.{AreKnown, AreStudied};
@@ -55,7 +54,7 @@ fn issue(
     route: &Numbers,
 ) -> Result<(Reply, Reply), NoMemory>
     ensures same { IfOk result (λ r. r.1 ≡ r.0) }
-    ensures reply { IfOk result (λ r. r.0 ≡ reply.Issued (length book.old + 1) (length log.now.changes) route.now) }
+    ensures reply { IfOk result (λ r. r.0 ≡ reply.Issued (length book.old + 1) (length log.now) route.now) }
     ensures permits { IfOk result (λ r. book.new ≡ with_issued book.old caller application.now seen r.0) }
     ensures lack { OnErr result (book.new ≡ book.old) }
 {
@@ -134,11 +133,11 @@ fn answer_route<L: Ledger>(
     requires of_base { AreOf base.now.roads state.now }
     requires studied { AreStudied base.now analyst.now }
     requires segments { All (λ s. s < length base.now.roads.segments) route.now }
-    requires log { IsLogOf base.now.roads log.now }
-    requires state { state.now ≡ state_of base.now.roads log.now.changes }
-    requires met { first_in base.now (state_of base.now.roads (take seen log.now.changes)) application.now.truck route.now ≡ None }
+    requires log { AreTaken base.now.roads log.now }
+    requires state { state.now ≡ state_of base.now.roads log.now }
+    requires met { first_in base.now (state_of base.now.roads (take seen log.now)) application.now.truck route.now ≡ None }
     ensures same { IfOk result (λ r. r.1 ≡ r.0) }
-    ensures reply { IfOk result (λ r. r.0 ≡ route_reply (length book.old + 1) (length log.now.changes) route.now (first_in base.now state.now application.now.truck route.now)) }
+    ensures reply { IfOk result (λ r. r.0 ≡ route_reply (length book.old + 1) (length log.now) route.now (first_in base.now state.now application.now.truck route.now)) }
     ensures permits { IfOk result (λ r. book.new ≡ with_issued book.old caller application.now seen r.0) }
     ensures lack { OnErr result ((book.new ≡ book.old) × (first_in base.now state.now application.now.truck route.now ≡ None)) }
 {
@@ -170,7 +169,7 @@ fn answer_fails<L: Ledger>(
     requires studied { AreStudied base.now analyst.now }
     requires segment { segment < length base.now.roads.segments }
     ensures same { result.1 ≡ result.0 }
-    ensures reply { result.0 ≡ fails_reply (length log.now.changes) segment (limit_for base.now state.now truck segment) }
+    ensures reply { result.0 ≡ fails_reply (length log.now) segment (limit_for base.now state.now truck segment) }
 {
     let study = analyst.study(base, truck);
     match failing_limit_by(base, state, truck, study, segment, steps) {
@@ -194,11 +193,11 @@ fn answer_cut<L: Ledger>(
     requires of_base { AreOf base.now.roads state.now }
     requires studied { AreStudied base.now analyst.now }
     requires rising { AreRising nodes.now }
-    requires log { IsLogOf base.now.roads log.now }
-    requires state { state.now ≡ state_of base.now.roads log.now.changes }
-    requires met { first_meeting base.now (state_of base.now.roads (take seen log.now.changes)) truck (leaving base.now.roads nodes.now) ≡ None }
+    requires log { AreTaken base.now.roads log.now }
+    requires state { state.now ≡ state_of base.now.roads log.now }
+    requires met { first_meeting base.now (state_of base.now.roads (take seen log.now)) truck (leaving base.now.roads nodes.now) ≡ None }
     ensures same { result.1 ≡ result.0 }
-    ensures reply { result.0 ≡ cut_reply base.now state.now truck (length log.now.changes) (leaving base.now.roads nodes.now) (first_meeting base.now state.now truck (leaving base.now.roads nodes.now)) }
+    ensures reply { result.0 ≡ cut_reply base.now state.now truck (length log.now) (leaving base.now.roads nodes.now) (first_meeting base.now state.now truck (leaving base.now.roads nodes.now)) }
 {
     let nodes = nodes.as_slice();
     let Some(first) = next_leaving(base.network(), nodes, 0) else {
@@ -232,13 +231,13 @@ fn answer_what<L: Ledger>(
     requires of_base { AreOf base.now.roads state.now }
     requires studied { AreStudied base.now analyst.now }
     requires what { InRange base.now what.now }
-    requires log { IsLogOf base.now.roads log.now }
-    requires state { state.now ≡ state_of base.now.roads log.now.changes }
-    requires holds { HoldsIn base.now (state_of base.now.roads (take seen log.now.changes)) application.now.truck what.now }
+    requires log { AreTaken base.now.roads log.now }
+    requires state { state.now ≡ state_of base.now.roads log.now }
+    requires holds { HoldsIn base.now (state_of base.now.roads (take seen log.now)) application.now.truck what.now }
     ensures same { IfOk result (λ r. r.1 ≡ r.0) }
-    ensures reply { IfOk result (λ r. r.0 ≡ what_reply base.now state.now (length log.now.changes) (length book.old + 1) application.now.truck what.now) }
+    ensures reply { IfOk result (λ r. r.0 ≡ what_reply base.now state.now (length log.now) (length book.old + 1) application.now.truck what.now) }
     ensures permits { IfOk result (λ r. book.new ≡ with_issued book.old caller application.now seen r.0) }
-    ensures lack { OnErr result ((book.new ≡ book.old) × (is_issue (what_reply base.now state.now (length log.now.changes) (length book.old + 1) application.now.truck what.now) ≡ true)) }
+    ensures lack { OnErr result ((book.new ≡ book.old) × (is_issue (what_reply base.now state.now (length log.now) (length book.old + 1) application.now.truck what.now) ≡ true)) }
 {
     let truck = application.truck();
     match what {
@@ -282,13 +281,13 @@ fn answer_found<L: Ledger>(
     requires of_base { AreOf base.now.roads state.now }
     requires studied { AreStudied base.now analyst.now }
     requires what { InRange base.now what.now }
-    requires log { IsLogOf base.now.roads log.now }
-    requires state { state.now ≡ state_of base.now.roads log.now.changes }
-    requires holds { HoldsIn base.now (state_of base.now.roads (take seen log.now.changes)) application.now.truck what.now }
+    requires log { AreTaken base.now.roads log.now }
+    requires state { state.now ≡ state_of base.now.roads log.now }
+    requires holds { HoldsIn base.now (state_of base.now.roads (take seen log.now)) application.now.truck what.now }
     ensures same { IfOk result (λ r. r.1 ≡ r.0) }
-    ensures reply { IfOk result (λ r. r.0 ≡ apply_reply base.now state.now (length log.now.changes) day (length book.old + 1) application.now what.now) }
+    ensures reply { IfOk result (λ r. r.0 ≡ apply_reply base.now state.now (length log.now) day (length book.old + 1) application.now what.now) }
     ensures permits { IfOk result (λ r. book.new ≡ with_issued book.old caller application.now seen r.0) }
-    ensures lack { OnErr result ((book.new ≡ book.old) × (is_issue (apply_reply base.now state.now (length log.now.changes) day (length book.old + 1) application.now what.now) ≡ true)) }
+    ensures lack { OnErr result ((book.new ≡ book.old) × (is_issue (apply_reply base.now state.now (length log.now) day (length book.old + 1) application.now what.now) ≡ true)) }
 {
     if is_late(application, day) {
         return Ok((Reply::Late { day }, Reply::Late { day }));
@@ -327,7 +326,7 @@ fn answer_cut_now<L: Ledger>(
     requires rising { AreRising nodes.now }
     requires met { first_meeting base.now state.now truck (leaving base.now.roads nodes.now) ≡ None }
     ensures same { result.1 ≡ result.0 }
-    ensures reply { result.0 ≡ cut_reply base.now state.now truck (length log.now.changes) (leaving base.now.roads nodes.now) (first_meeting base.now state.now truck (leaving base.now.roads nodes.now)) }
+    ensures reply { result.0 ≡ cut_reply base.now state.now truck (length log.now) (leaving base.now.roads nodes.now) (first_meeting base.now state.now truck (leaving base.now.roads nodes.now)) }
 {
     let Some(first) = next_leaving(base.network(), nodes.as_slice(), 0) else {
         return (Reply::NoRoad, Reply::NoRoad);
@@ -358,8 +357,8 @@ fn answer_now<L: Ledger>(
     requires what { InRange base.now what.now }
     requires holds { HoldsIn base.now state.now application.now.truck what.now }
     ensures same { IfOk result (λ r. r.1 ≡ r.0) }
-    ensures reply { IfOk result (λ r. r.0 ≡ what_reply base.now state.now (length log.now.changes) (length book.old + 1) application.now.truck what.now) }
-    ensures permits { IfOk result (λ r. book.new ≡ with_issued book.old caller application.now (length log.now.changes) r.0) }
+    ensures reply { IfOk result (λ r. r.0 ≡ what_reply base.now state.now (length log.now) (length book.old + 1) application.now.truck what.now) }
+    ensures permits { IfOk result (λ r. book.new ≡ with_issued book.old caller application.now (length log.now) r.0) }
     ensures lack { OnErr result (book.new ≡ book.old) }
 {
     let truck = application.truck();
@@ -389,14 +388,14 @@ fn answer_finding<L: Ledger>(
 ) -> Result<(Reply, Reply), NoMemory>
     requires roads { IsRoads base.now.roads }
     requires of_base { AreOf base.now.roads state.now }
-    requires log { IsLogOf base.now.roads log.now }
-    requires state { state.now ≡ state_of base.now.roads log.now.changes }
+    requires log { AreTaken base.now.roads log.now }
+    requires state { state.now ≡ state_of base.now.roads log.now }
     requires sound { Sound base.now application.now }
     requires known { AreKnown base.now state.now analyst.old }
     ensures known { AreKnown base.now state.now analyst.new }
     ensures same { IfOk result (λ r. r.1 ≡ r.0) }
-    ensures reply { IfOk result (λ r. (w : What) × IsHeld base.now state.now day application.now w × (r.0 ≡ apply_reply base.now state.now (length log.now.changes) day (length book.old + 1) application.now w)) }
-    ensures permits { IfOk result (λ r. book.new ≡ with_issued book.old caller application.now (length log.now.changes) r.0) }
+    ensures reply { IfOk result (λ r. (w : What) × IsHeld base.now state.now day application.now w × (r.0 ≡ apply_reply base.now state.now (length log.now) day (length book.old + 1) application.now w)) }
+    ensures permits { IfOk result (λ r. book.new ≡ with_issued book.old caller application.now (length log.now) r.0) }
     ensures lack { OnErr result ((book.new ≡ book.old) × (is_late day application.now ≡ false) × (is_free base.now application.now ≡ false)) }
 {
     if is_late(application, day) {
@@ -438,12 +437,12 @@ pub(crate) fn answer_submit<L: Ledger>(
     requires roads { IsRoads base.now.roads }
     requires of_base { AreOf base.now.roads state.now }
     requires studied { AreStudied base.now analyst.now }
-    requires log { IsLogOf base.now.roads log.now }
-    requires state { state.now ≡ state_of base.now.roads log.now.changes }
-    requires found { IsFound base.now (machine_at log.now.changes book.old day) application.now proposal.now }
+    requires log { AreTaken base.now.roads log.now }
+    requires state { state.now ≡ state_of base.now.roads log.now }
+    requires found { IsFound base.now (machine_at log.now book.old day) application.now proposal.now }
     ensures same { result.1 ≡ result.0 }
-    ensures answer { IsAnswer base.now (machine_at log.now.changes book.old day) caller (call.Submit application.now proposal.now) result.0 }
-    ensures after { after base.now (machine_at log.now.changes book.old day) caller (call.Submit application.now proposal.now) result.0 ≡ machine_at log.now.changes book.new day }
+    ensures answer { IsAnswer base.now (machine_at log.now book.old day) caller (call.Submit application.now proposal.now) result.0 }
+    ensures after { after base.now (machine_at log.now book.old day) caller (call.Submit application.now proposal.now) result.0 ≡ machine_at log.now book.new day }
 {
     match answer_found(
         alloc,
@@ -479,14 +478,14 @@ pub(crate) fn answer_held<L: Ledger>(
 ) -> (Reply, Reply)
     requires roads { IsRoads base.now.roads }
     requires of_base { AreOf base.now.roads state.now }
-    requires log { IsLogOf base.now.roads log.now }
-    requires state { state.now ≡ state_of base.now.roads log.now.changes }
+    requires log { AreTaken base.now.roads log.now }
+    requires state { state.now ≡ state_of base.now.roads log.now }
     requires sound { Sound base.now application.now }
     requires known { AreKnown base.now state.now analyst.old }
     ensures known { AreKnown base.now state.now analyst.new }
     ensures same { result.1 ≡ result.0 }
-    ensures answer { IsAnswer base.now (machine_at log.now.changes book.old day) caller (call.Held application.now) result.0 }
-    ensures after { after base.now (machine_at log.now.changes book.old day) caller (call.Held application.now) result.0 ≡ machine_at log.now.changes book.new day }
+    ensures answer { IsAnswer base.now (machine_at log.now book.old day) caller (call.Held application.now) result.0 }
+    ensures after { after base.now (machine_at log.now book.old day) caller (call.Held application.now) result.0 ≡ machine_at log.now book.new day }
 {
     match answer_finding(
         alloc,

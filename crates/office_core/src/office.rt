@@ -3,9 +3,8 @@
 ghost use Rattle.std.specs.Prelude.{◌≡◌, ◌<◌, ◌≤◌, ◌++◌, [], length, All, IfOk, IfSome, is_some};
 ghost use Rattle.std.specs.Arc.{arc_value};
 ghost use Rattle.road_graph.specs.Roads.{IsRoads};
-ghost use Rattle.restriction_log.specs.States.{state_of};
-ghost use Rattle.restriction_log.specs.Logs.{IsLogOf};
-ghost use Rattle.clearance_rules.specs.Limits.{AreOf};
+ghost use Rattle.restriction_log.specs.States.{AreOf, state_of};
+ghost use Rattle.restriction_log.specs.Changes.{AreTaken};
 ghost use Rattle.trip_analysis.specs.Known.{AreKnown};
 ghost use Rattle.permit_book.specs.Permits.{is_issued, permit_of};
 ghost use Rattle.office_core.specs.Machine.{IsAnswer, IsGood, IsLegal, MayAsk, after, machine_at, state_in, version_of};
@@ -180,16 +179,16 @@ fn answer<L: Ledger>(
 ) -> (Reply, Reply)
     requires roads { IsRoads base.now.roads }
     requires of_base { AreOf base.now.roads state.old }
-    requires log { IsLogOf base.now.roads log.old }
-    requires state { state.old ≡ state_of base.now.roads log.old.changes }
-    requires good { IsGood base.now (machine_at log.old.changes book.old day.old) }
+    requires log { AreTaken base.now.roads log.old }
+    requires state { state.old ≡ state_of base.now.roads log.old }
+    requires good { IsGood base.now (machine_at log.old book.old day.old) }
     requires known { AreKnown base.now state.old analyst.old }
-    requires asked { MayAsk base.now (machine_at log.old.changes book.old day.old) call.now }
+    requires asked { MayAsk base.now (machine_at log.old book.old day.old) call.now }
     ensures same { result.1 ≡ result.0 }
-    ensures answer { IsAnswer base.now (machine_at log.old.changes book.old day.old) caller call.now result.0 }
-    ensures after { after base.now (machine_at log.old.changes book.old day.old) caller call.now result.0 ≡ machine_at log.new.changes book.new day.new }
-    ensures state { state.new ≡ state_of base.now.roads log.new.changes }
-    ensures log { IsLogOf base.now.roads log.new }
+    ensures answer { IsAnswer base.now (machine_at log.old book.old day.old) caller call.now result.0 }
+    ensures after { after base.now (machine_at log.old book.old day.old) caller call.now result.0 ≡ machine_at log.new book.new day.new }
+    ensures state { state.new ≡ state_of base.now.roads log.new }
+    ensures log { AreTaken base.now.roads log.new }
     ensures known { AreKnown base.now state.new analyst.new }
 {
     match call {

@@ -2,10 +2,8 @@
 
 ghost use Rattle.std.specs.Prelude.{◌≡◌, ◌+◌, ◌<◌, ◌≤◌, ◌++◌, ◌∷◌, [], length, All, IfOk, OnErr, true, ◌&&◌, if◌then◌else◌};
 ghost use Rattle.road_graph.specs.Roads.{IsRoads};
-ghost use Rattle.restriction_log.specs.Changes.{takes};
-ghost use Rattle.restriction_log.specs.States.{state_of};
-ghost use Rattle.restriction_log.specs.Logs.{IsLogOf};
-ghost use Rattle.clearance_rules.specs.Limits.{AreOf};
+ghost use Rattle.restriction_log.specs.Changes.{takes, AreTaken};
+ghost use Rattle.restriction_log.specs.States.{AreOf, state_of};
 ghost use Rattle.trip_analysis.specs.Known.{AreKnown, AreStudied};
 ghost use Rattle.permit_book.specs.declared.permit.Mark.TheVariants as mark;
 ghost use Rattle.permit_book.specs.Permits.{AreNumbered, in_force};
@@ -135,19 +133,19 @@ fn post<L: Ledger>(
 ) -> Result<(Reply, Reply), NoMemory>
     requires takes { takes base.now.roads change.now ≡ true }
     requires of_base { AreOf base.now.roads state.old }
-    requires log { IsLogOf base.now.roads log.old }
+    requires log { AreTaken base.now.roads log.old }
     requires numbered { AreNumbered 0 book.old }
     requires ranged { All (IsRanged base.now) book.old }
-    requires state { state.old ≡ state_of base.now.roads log.old.changes }
+    requires state { state.old ≡ state_of base.now.roads log.old }
     requires known { AreKnown base.now state.old analyst.old }
-    requires meet { InForceMeet base.now (state_of base.now.roads log.old.changes) day book.old }
+    requires meet { InForceMeet base.now (state_of base.now.roads log.old) day book.old }
     ensures same { IfOk result (λ r. r.1 ≡ r.0) }
-    ensures reply { IfOk result (λ r. r.0 ≡ posted_reply base.now (machine_at log.old.changes book.old day) change.now) }
-    ensures after { IfOk result (λ r. with_posting base.now (machine_at log.old.changes book.old day) change.now r.0 ≡ machine_at log.new.changes book.new day) }
-    ensures state { state.new ≡ state_of base.now.roads log.new.changes }
-    ensures log { IsLogOf base.now.roads log.new }
+    ensures reply { IfOk result (λ r. r.0 ≡ posted_reply base.now (machine_at log.old book.old day) change.now) }
+    ensures after { IfOk result (λ r. with_posting base.now (machine_at log.old book.old day) change.now r.0 ≡ machine_at log.new book.new day) }
+    ensures state { state.new ≡ state_of base.now.roads log.new }
+    ensures log { AreTaken base.now.roads log.new }
     ensures known { AreKnown base.now state.new analyst.new }
-    ensures lack { OnErr result ((log.new.changes ≡ log.old.changes) × (book.new ≡ book.old)) }
+    ensures lack { OnErr result ((log.new ≡ log.old) × (book.new ≡ book.old)) }
 {
     let next = state.with(alloc, change)?;
     let segment = touched(base.network(), change);
@@ -190,19 +188,19 @@ fn post_or_refuse<L: Ledger>(
     steps: &mut Steps<L>,
 ) -> Result<(Reply, Reply), NoMemory>
     requires of_base { AreOf base.now.roads state.old }
-    requires log { IsLogOf base.now.roads log.old }
+    requires log { AreTaken base.now.roads log.old }
     requires numbered { AreNumbered 0 book.old }
     requires ranged { All (IsRanged base.now) book.old }
-    requires state { state.old ≡ state_of base.now.roads log.old.changes }
+    requires state { state.old ≡ state_of base.now.roads log.old }
     requires known { AreKnown base.now state.old analyst.old }
-    requires meet { InForceMeet base.now (state_of base.now.roads log.old.changes) day book.old }
+    requires meet { InForceMeet base.now (state_of base.now.roads log.old) day book.old }
     ensures same { IfOk result (λ r. r.1 ≡ r.0) }
-    ensures reply { IfOk result (λ r. r.0 ≡ posted_reply base.now (machine_at log.old.changes book.old day) change.now) }
-    ensures after { IfOk result (λ r. with_posting base.now (machine_at log.old.changes book.old day) change.now r.0 ≡ machine_at log.new.changes book.new day) }
-    ensures state { state.new ≡ state_of base.now.roads log.new.changes }
-    ensures log { IsLogOf base.now.roads log.new }
+    ensures reply { IfOk result (λ r. r.0 ≡ posted_reply base.now (machine_at log.old book.old day) change.now) }
+    ensures after { IfOk result (λ r. with_posting base.now (machine_at log.old book.old day) change.now r.0 ≡ machine_at log.new book.new day) }
+    ensures state { state.new ≡ state_of base.now.roads log.new }
+    ensures log { AreTaken base.now.roads log.new }
     ensures known { AreKnown base.now state.new analyst.new }
-    ensures lack { OnErr result ((log.new.changes ≡ log.old.changes) × (book.new ≡ book.old) × (takes base.now.roads change.now ≡ true)) }
+    ensures lack { OnErr result ((log.new ≡ log.old) × (book.new ≡ book.old) × (takes base.now.roads change.now ≡ true)) }
 {
     if !takes(base.network(), change) {
         return Ok((Reply::OutOfRange, Reply::OutOfRange));
@@ -224,17 +222,17 @@ pub(crate) fn answer_post<L: Ledger>(
     steps: &mut Steps<L>,
 ) -> (Reply, Reply)
     requires of_base { AreOf base.now.roads state.old }
-    requires log { IsLogOf base.now.roads log.old }
+    requires log { AreTaken base.now.roads log.old }
     requires numbered { AreNumbered 0 book.old }
     requires ranged { All (IsRanged base.now) book.old }
-    requires state { state.old ≡ state_of base.now.roads log.old.changes }
+    requires state { state.old ≡ state_of base.now.roads log.old }
     requires known { AreKnown base.now state.old analyst.old }
-    requires meet { InForceMeet base.now (state_of base.now.roads log.old.changes) day book.old }
+    requires meet { InForceMeet base.now (state_of base.now.roads log.old) day book.old }
     ensures same { result.1 ≡ result.0 }
-    ensures answer { IsAnswer base.now (machine_at log.old.changes book.old day) caller (call.Post change.now) result.0 }
-    ensures after { after base.now (machine_at log.old.changes book.old day) caller (call.Post change.now) result.0 ≡ machine_at log.new.changes book.new day }
-    ensures state { state.new ≡ state_of base.now.roads log.new.changes }
-    ensures log { IsLogOf base.now.roads log.new }
+    ensures answer { IsAnswer base.now (machine_at log.old book.old day) caller (call.Post change.now) result.0 }
+    ensures after { after base.now (machine_at log.old book.old day) caller (call.Post change.now) result.0 ≡ machine_at log.new book.new day }
+    ensures state { state.new ≡ state_of base.now.roads log.new }
+    ensures log { AreTaken base.now.roads log.new }
     ensures known { AreKnown base.now state.new analyst.new }
 {
     match post_or_refuse(alloc, base, state, analyst, log, book, day, change, steps) {

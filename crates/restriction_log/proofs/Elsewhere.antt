@@ -1,9 +1,8 @@
 -- A change leaves the limits of other segments, and the ratings of their spans, as they were.
-use Rattle.std.proofs.Common.{◌≡◌, ◌≢◌, ◌∷◌, ◌++◌, [], ℕ, List, Bool, false, ◌||◌, take, drop, map, refl, ap, sym, ◌∙◌, get_or-set_other}
+use Rattle.std.proofs.Common.{◌≡◌, ◌≢◌, ◌∷◌, ◌++◌, [], ℕ, List, false, take, drop, refl, ap, sym, ◌∙◌, get_or-set_other}
 use Rattle.std.specs.Prelude.{◌==◌, fold}
-use Rattle.std.specs.List.{list_any}
 use Rattle.std.proofs.lemmas.Bool.{or_parts, eqb-false}
-use Rattle.std.proofs.lemmas.List.{drop-map, take-append-drop}
+use Rattle.std.proofs.lemmas.List.{take-append-drop}
 use Rattle.std.proofs.lemmas.Option.{get_or_from_slice_get}
 use Rattle.road_graph.specs.declared.segment.Span.{Span}
 use Rattle.road_graph.specs.Ranges.{default_values}
@@ -11,17 +10,7 @@ use Rattle.road_graph.specs.Roads.{Roads, no_span, span_at}
 use Rattle.restriction_log.specs.declared.change.Change.{Change}
 use Rattle.restriction_log.specs.declared.change.Change.TheVariants.{Closed, Height, Width, Length, Gross, Allowance, Rating}
 use Rattle.restriction_log.specs.Changes.{touched, is_touched, value_after}
-use Rattle.restriction_log.specs.States.{InForce, values_at, with_change, state_after, state_of, base_of, AgreeOn}
-
--- whether a segment is among those that the changes name
-pub any-touched : (roads : Roads) (segment n : ℕ) (changes : List Change)
-    → list_any (λ s. s == segment) (drop n (map (touched roads) changes)) ≡ is_touched roads segment (drop n changes)
-any-touched roads segment n changes =
-    ap (list_any (λ (s : ℕ). s == segment)) (drop-map (touched roads) n changes) ∙ mapped (drop n changes)
-  where
-    mapped : (cs : List Change) → list_any (λ s. s == segment) (map (touched roads) cs) ≡ is_touched roads segment cs
-    mapped [] = refl
-    mapped (c ∷ cs) = ap (λ (b : Bool). (touched roads c == segment) || b) (mapped cs)
+use Rattle.restriction_log.specs.States.{InForce, values_at, with_change, state_after, state_of, base_of, AgreeOn, AgreeSince}
 
 -- what a segment's change leaves: each other segment, and each span
 agree-change : (roads : Roads) (segment other : ℕ) (state : InForce) (change : Change) → segment ≢ other
@@ -74,7 +63,7 @@ state-posted roads changes change = fold-append (base_of roads) changes (change 
 
 -- where no posting above a number names the segment, its state is that of the number
 pub agree-since : (roads : Roads) (segment n : ℕ) (changes : List Change) → is_touched roads segment (drop n changes) ≡ false
-    → AgreeOn roads segment (state_of roads (take n changes)) (state_of roads changes)
+    → AgreeSince roads segment n changes
 agree-since roads segment n changes none =
     let whole : fold state_after (state_of roads (take n changes)) (drop n changes) ≡ state_of roads changes =
     sym (fold-append (base_of roads) (take n changes) (drop n changes)) ∙ ap (state_of roads) (take-append-drop n changes) in

@@ -1,5 +1,5 @@
 -- Changes of limits and ratings: which a network takes, and the segment that each names.
-use Rattle.std.specs.Prelude.{ℕ, Bool, ◌&&◌, ◌==◌, nat_lt, List, length}
+use Rattle.std.specs.Prelude.{◌≡◌, ℕ, Bool, true, ◌&&◌, ◌==◌, nat_lt, List, length, All}
 use Rattle.std.specs.List.{list_any}
 use Rattle.road_graph.specs.declared.values.Values.{Values}
 use Rattle.road_graph.specs.declared.values.What.TheVariants as what
@@ -21,6 +21,10 @@ takes roads (Length segment inches) = has_segment roads segment && is_limit what
 takes roads (Gross segment pounds) = has_segment roads segment && is_limit what.Gross pounds
 takes roads (Allowance segment permille) = has_segment roads segment && is_limit what.Allowance permille
 takes roads (Rating span permille) = nat_lt span (length roads.spans) && is_rating permille
+
+-- the network takes each of these changes
+abbrev pub AreTaken : Roads → List Change → Type 0
+AreTaken roads changes = All (λ c. takes roads c ≡ true) changes
 
 -- the segment that a change names, or the segment of the span that it names
 abbrev pub touched : Roads → Change → ℕ

@@ -1,5 +1,5 @@
 -- What is in force at a version: the base values with the postings applied in order, each replacing one value.
-use Rattle.std.specs.Prelude.{◌≡◌, ℕ, Bool, List, map, fold, length, nat_lt, slice_get, slice_set, slice_index_or, Some}
+use Rattle.std.specs.Prelude.{◌≡◌, ◌≤◌, ℕ, Bool, List, map, take, fold, length, nat_lt, slice_get, slice_set, slice_index_or, Some}
 use Rattle.road_graph.specs.declared.values.Values.{Values}
 use Rattle.road_graph.specs.declared.segment.Span.{Span}
 use Rattle.road_graph.specs.Ranges.{default_values}
@@ -12,6 +12,10 @@ use Rattle.restriction_log.specs.Changes.{value_after}
 pub record InForce : Type 0 where
   pub values : List Values
   pub ratings : List ℕ
+
+-- these limits and these ratings
+abbrev pub in_force : List Values → List ℕ → InForce
+in_force values ratings = record { values = values; ratings = ratings }
 
 -- the limits of a segment
 abbrev pub values_at : List Values → ℕ → Values
@@ -58,3 +62,14 @@ is_named state (Rating span permille) = nat_lt span (length state.ratings)
 pub record AgreeOn (roads : Roads) (segment : ℕ) (old new : InForce) : Type 0 where
   pub values : values_at new.values segment ≡ values_at old.values segment
   pub ratings : (i : ℕ) (t : Span) → slice_get roads.spans i ≡ Some t → t.segment ≡ segment → rating_at new.ratings i ≡ rating_at old.ratings i
+
+-- after these postings the segment is as it was after the first so many
+abbrev pub AgreeSince : Roads → ℕ → ℕ → List Change → Type 0
+AgreeSince roads segment after postings =
+    AgreeOn roads segment (state_of roads (take after postings)) (state_of roads postings)
+
+-- the state is of this network: it has limits for each segment, and for each span a rating that is in range
+pub record AreOf (roads : Roads) (state : InForce) : Type 0 where
+  pub values : length state.values ≡ length roads.segments
+  pub ratings : length state.ratings ≡ length roads.spans
+  pub in_range : (i : ℕ) → rating_at state.ratings i ≤ 100000

@@ -10,12 +10,14 @@
 #![tactic(auto)]
 
 mod change;
+mod laws;
 mod lists;
 mod log;
 mod refusal;
 mod state;
 
 pub use change::{Change, takes, touched};
+pub use laws::states_are_of_their_network;
 pub use log::Log;
 pub use refusal::PostRefusal;
 pub use state::State;

@@ -1,7 +1,7 @@
 // The lists of a state: as a network begins with them, copied, and with one value replaced.
 
 ghost use Rattle.std.specs.Prelude.{◌≡◌, map, true, IfOk};
-ghost use Rattle.restriction_log.specs.States.{InForce, state_after, is_named};
+ghost use Rattle.restriction_log.specs.States.{in_force, state_after, is_named};
 
 use crate::change::Change;
 use road_graph::{Network, Values};
@@ -51,9 +51,9 @@ pub(crate) fn copied_ratings(alloc: Global, ratings: &[u32]) -> Result<Vec<u32>,
 
 /// Replaces the value that the change names.
 pub(crate) fn replace(values: &mut Vec<Values>, ratings: &mut Vec<u32>, change: &Change)
-    requires { is_named (record { values = values.old.items; ratings = ratings.old.items }) change.now ≡ true }
-    ensures values { values.new.items ≡ (state_after (record { values = values.old.items; ratings = ratings.old.items }) change.now).values }
-    ensures ratings { ratings.new.items ≡ (state_after (record { values = values.old.items; ratings = ratings.old.items }) change.now).ratings }
+    requires { is_named (in_force values.old.items ratings.old.items) change.now ≡ true }
+    ensures values { values.new.items ≡ (state_after (in_force values.old.items ratings.old.items) change.now).values }
+    ensures ratings { ratings.new.items ≡ (state_after (in_force values.old.items ratings.old.items) change.now).ratings }
 {
     match change {
         Change::Closed { segment, closed } => values[*segment as usize].closed = *closed,

@@ -1,7 +1,7 @@
 // The log of postings.
 
-ghost use Rattle.std.specs.Prelude.{◌≡◌, ◌==◌, drop};
-ghost use Rattle.std.specs.List.{list_any};
+ghost use Rattle.std.specs.Prelude.{◌≡◌};
+ghost use Rattle.restriction_log.specs.Changes.{AreTaken, is_touched};
 
 use crate::change::{Change, takes, touched};
 use crate::refusal::PostRefusal;
@@ -19,35 +19,32 @@ const MOST_POSTINGS: usize = 1000000;
 #[derive(Debug, Drop)]
 pub struct Log {
     changes: Vec<Change>,
-    // the segment that each change names, itself or by its span, so that no span is looked up again
-    segments: Vec<u32>,
 }
 
 impl Model for Log {
-    ghost use Rattle.std.specs.Prelude.{◌≡◌, ◌≤◌, length};
-    ghost use Rattle.restriction_log.specs.Logs.{Postings};
+    ghost use Rattle.std.specs.Prelude.{◌≤◌, List, length};
+    ghost use Rattle.restriction_log.specs.declared.change.Change.{Change};
 
-    ghost Value = { Postings };
+    ghost Value = { List Change };
 
-    ghost view = { λ log. record { changes = log.changes.items; segments = log.segments.items } };
+    ghost view = { λ log. log.changes.items };
 
     ghost invariant = { λ log. length log.changes.items ≤ 1000000 };
 }
 
 impl Log {
-    ghost use Rattle.std.specs.Prelude.{◌≡◌, ◌+◌, ◌<◌, ◌≤◌, length, drop, take, false, None, IfOk, IfErr, OnOk, OnErr};
-    ghost use Rattle.restriction_log.specs.Changes.{is_touched};
-    ghost use Rattle.restriction_log.specs.States.{state_of, AgreeOn};
-    ghost use Rattle.restriction_log.specs.Logs.{Postings, no_postings, with_posting, post_refusal, IsPostCause, IsLogOf};
+    ghost use Rattle.std.specs.Prelude.{◌≡◌, ◌+◌, ◌<◌, ◌≤◌, ◌++◌, ◌∷◌, [], length, drop, false, None, IfOk, IfErr, OnOk, OnErr};
+    ghost use Rattle.restriction_log.specs.Changes.{AreTaken, is_touched};
+    ghost use Rattle.restriction_log.specs.States.{AgreeSince};
+    ghost use Rattle.restriction_log.specs.Logs.{post_refusal, IsPostCause};
 
     /// A log of this network with no postings, which keeps the allocator for those to come.
     pub fn start(alloc: Global, network: &Network) -> Result<Log, NoMemory>
-        ensures empty { IfOk result (λ log. log ≡ no_postings) }
-        ensures network { IfOk result (λ log. IsLogOf network.now log) }
+        ensures empty { IfOk result (λ log. log ≡ []) }
+        ensures taken { IfOk result (λ log. AreTaken network.now log) }
     {
         Ok(Log {
             changes: Vec::new(alloc),
-            segments: Vec::new(alloc),
         })
     }
 
@@ -56,13 +53,13 @@ impl Log {
     /// Refusals, in this order: `Range` where the network does not take the change, `Full` at version 1,000,000,
     /// `NoMemory`. After each the log is as it was.
     pub fn post(&mut self, network: &Network, change: Change) -> Result<u32, PostRefusal>
-        requires { IsLogOf network.now self.old }
-        ensures version { IfOk result (λ version. version ≡ length self.old.changes + 1) }
-        ensures posted { OnOk result (self.new ≡ with_posting network.now self.old change) }
-        ensures taken { OnOk result (post_refusal network.now self.old change ≡ None) }
-        ensures refused { IfErr result (λ refusal. IsPostCause (post_refusal network.now self.old change) refusal) }
+        requires { AreTaken network.now self.old }
+        ensures version { IfOk result (λ version. version ≡ length self.old + 1) }
+        ensures posted { OnOk result (self.new ≡ self.old ++ change ∷ []) }
+        ensures allowed { OnOk result (post_refusal network.now self.old change ≡ None) }
+        ensures refused { IfErr result (IsPostCause (post_refusal network.now self.old change)) }
         ensures unchanged { OnErr result (self.new ≡ self.old) }
-        ensures network { IsLogOf network.now self.new }
+        ensures taken { AreTaken network.now self.new }
     {
         if !takes(network, &change) {
             return Err(PostRefusal::Range);
@@ -71,17 +68,14 @@ impl Log {
         if version >= MOST_POSTINGS {
             return Err(PostRefusal::Full);
         }
-        let segment = touched(network, &change);
         self.changes.reserve(1)?;
-        self.segments.reserve(1)?;
         self.changes.push_reserved(change);
-        self.segments.push_reserved(segment);
         Ok(version as u32 + 1)
     }
 
     /// The number of the last posting, 0 where there is none. Takes no memory.
     pub fn version(&self) -> u32
-        ensures count { result ≡ length self.now.changes }
+        ensures count { result ≡ length self.now }
         ensures few { result ≤ 1000000 }
     {
         self.changes.len() as u32
@@ -91,18 +85,25 @@ impl Log {
     ///
     /// Where none does, the limits of the segment and the ratings of its spans are those of version `after`.
     pub fn changed(&self, network: &Network, segment: u32, after: u32) -> bool
-        requires network { IsLogOf network.now self.now }
+        requires taken { AreTaken network.now self.now }
         requires within { segment < length network.now.segments }
-        ensures value { result ≡ is_touched network.now segment (drop after self.now.changes) }
-        ensures meaning { result ≡ false → AgreeOn network.now segment (state_of network.now (take after self.now.changes)) (state_of network.now self.now.changes) }
+        ensures value { result ≡ is_touched network.now segment (drop after self.now) }
+        ensures meaning { result ≡ false → AgreeSince network.now segment after self.now }
     {
-        has_after(&self.segments, segment, after as usize)
+        let after = after as usize;
+        after < self.changes.len() && is_touched(network, segment, &self.changes[after..])
     }
 }
 
-/// Whether the number stands in the list behind so many others.
-fn has_after(list: &[u32], number: u32, after: usize) -> bool
-    ensures { result ≡ list_any (λ n. n == number) (drop after list.now) }
+/// Whether one of these changes names the segment or one of its spans.
+fn is_touched(network: &Network, segment: u32, changes: &[Change]) -> bool
+    requires { AreTaken network.now changes.now }
+    ensures { result ≡ is_touched network.now segment changes.now }
 {
-    list.iter().skip(after).any(|n| *n == number)
+    'changes: for change in changes {
+        if touched(network, change) == segment {
+            return true;
+        }
+    }
+    false
 }

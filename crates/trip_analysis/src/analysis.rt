@@ -1,7 +1,7 @@
 // What is found for an application.
 
 ghost use Rattle.std.specs.Prelude.{◌≡◌, ◌<◌, length, All, IfOk};
-ghost use Rattle.clearance_rules.specs.Limits.{AreOf};
+ghost use Rattle.restriction_log.specs.States.{AreOf};
 ghost use Rattle.trip_analysis.specs.Applications.{Sound};
 ghost use Rattle.trip_analysis.specs.Bases.{train_of};
 ghost use Rattle.trip_analysis.specs.Known.{IsSettled};

@@ -2,9 +2,8 @@
 
 ghost use Rattle.std.specs.Prelude.{◌≡◌, ◌<◌, length, slice_set, true, false, None, Some, IfOk};
 ghost use Rattle.road_graph.specs.Roads.{IsRoads};
-ghost use Rattle.restriction_log.specs.States.{InForce, state_after};
+ghost use Rattle.restriction_log.specs.States.{AreOf, InForce, state_after};
 ghost use Rattle.restriction_log.specs.Changes.{takes, touched};
-ghost use Rattle.clearance_rules.specs.Limits.{AreOf};
 ghost use Rattle.trip_analysis.specs.Applications.{Sound};
 ghost use Rattle.trip_analysis.specs.Bases.{train_of};
 ghost use Rattle.trip_analysis.specs.Findings.{IsFinding, flags_of};

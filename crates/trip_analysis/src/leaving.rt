@@ -1,7 +1,7 @@
 // Which segments leave a set of nodes.
 
 ghost use Rattle.std.specs.Prelude.{◌≡◌, ◌+◌, ◌<◌, ◌≤◌, ◌∷◌, [], length, MatchOption};
-ghost use Rattle.clearance_rules.specs.Limits.{AreOf};
+ghost use Rattle.restriction_log.specs.States.{AreOf};
 ghost use Rattle.trip_analysis.specs.Bases.{train_of};
 ghost use Rattle.trip_analysis.specs.Findings.{AreRising, first_meeting, is_in, leaves, leaving, leaving_from};
 

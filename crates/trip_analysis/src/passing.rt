@@ -1,7 +1,7 @@
 // Which segments a truck of the fleet may pass. What its axles do on the spans is told by a study of them.
 
 ghost use Rattle.std.specs.Prelude.{◌≡◌, ◌+◌, ◌<◌, ◌≤◌, length, All, IfOk};
-ghost use Rattle.clearance_rules.specs.Limits.{AreOf};
+ghost use Rattle.restriction_log.specs.States.{AreOf};
 ghost use Rattle.trip_analysis.specs.Bases.{train_of};
 ghost use Rattle.trip_analysis.specs.Findings.{limit_for, first_on as first_in, flags_of};
 

@@ -1,5 +1,5 @@
 -- The base of a network is of it.
-use Rattle.clearance_rules.proofs.Standing.{base_is_of}
+use Rattle.restriction_log.proofs.Standing.{base_is_of}
 use Rattle.clearance_rules.proofs.tests.state_after.Goals as goal
 
 pub changes-init : goal.changes-init

@@ -1,4 +1,4 @@
-use Rattle.clearance_rules.specs.Limits.{AreOf}
+use Rattle.restriction_log.specs.States.{AreOf}
 use Rattle.clearance_rules.proofs.tests.state_after.Given as goal
 
 abbrev pub invariant-changes : goal.invariant-changes

@@ -1,5 +1,5 @@
 -- The base of a network is of it, and stays so by each change that the network takes.
-use Rattle.clearance_rules.proofs.Standing.{base_is_of}
+use Rattle.restriction_log.proofs.Standing.{base_is_of}
 use Rattle.trip_analysis.proofs.tests.lowered.Goals as goal
 
 pub low-init : goal.low-init

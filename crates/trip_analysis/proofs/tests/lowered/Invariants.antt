@@ -1,4 +1,4 @@
-use Rattle.clearance_rules.specs.Limits.{AreOf}
+use Rattle.restriction_log.specs.States.{AreOf}
 use Rattle.trip_analysis.proofs.tests.lowered.Given as goal
 
 abbrev pub invariant-low : goal.invariant-low

@@ -1,18 +1,14 @@
-use Rattle.std.proofs.Common.{◌≡◌, ◌∙◌, ℕ, List, map, drop, ap, sym}
-use Rattle.std.specs.Prelude.{◌==◌}
-use Rattle.std.specs.List.{list_any}
-use Rattle.restriction_log.specs.Changes.{touched}
-use Rattle.restriction_log.specs.Logs.{Postings}
-use Rattle.restriction_log.proofs.Elsewhere.{any-touched, agree-since}
+use Rattle.std.proofs.Common.{◌≡◌, ◌∙◌, ◌-◌, List, length, take, drop, sym, ap, arith, length-drop}
+use Rattle.std.proofs.lemmas.List.{take_all}
+use Rattle.restriction_log.specs.declared.change.Change.{Change}
+use Rattle.restriction_log.specs.Changes.{is_touched}
+use Rattle.restriction_log.proofs.Elsewhere.{agree-since}
 use Rattle.restriction_log.proofs.log.Log.changed.Goals as goal
 
-pub returns-clause-value : goal.returns-clause-value
-returns-clause-value c =
-    let segments : c.deref.result.now ≡ map (touched c.args.network.now) c.args.self.now.changes =
-    c.deref.ensures.value ∙ ap (λ (log : Postings). log.segments) c.self.view_is ∙ c.requires.network.segments in
-    c.has_after.ensures ∙ ap (λ (list : List ℕ). list_any (λ n. n == c.args.segment) (drop c.args.after list)) segments
-    ∙ any-touched c.args.network.now c.args.segment c.args.after c.args.self.now.changes
-
-pub returns-clause-meaning : goal.returns-clause-meaning
-returns-clause-meaning c =
-    λ none. agree-since c.args.network.now c.args.segment c.args.after c.args.self.now.changes (sym (returns-clause-value c) ∙ none)
+pub returns-then-after-len-clause-meaning : goal.returns-then-after-len-clause-meaning
+returns-then-after-len-clause-meaning c =
+    let xs : List Change = c.deref.result.now in let n = c.args.after in
+    let rest : take (length xs - n) (drop n xs) ≡ drop n xs = take_all (length xs - n) (drop n xs) (omega (arith, length-drop n xs)) in
+    let whole : xs ≡ c.args.self.now = c.deref.ensures.value ∙ c.self.view_is in
+    let value = c.is_touched.ensures ∙ ap (is_touched c.args.network.now c.args.segment) (rest ∙ ap (drop n) whole) in
+    λ none. agree-since c.args.network.now c.args.segment n c.args.self.now (sym value ∙ none)
