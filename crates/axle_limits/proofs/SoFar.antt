@@ -1,5 +1,5 @@
 -- The worst group so far, one group more.
-use Rattle.std.proofs.Common.{◌≡◌, ℕ, ◌+◌, ◌-◌, ◌*◌, ◌<◌, ◌≤◌, ◌⊎◌, List, length, Bool, true, false, ◌&&◌, arith, inl, inr, leb, ltb}
+use Rattle.std.proofs.Common.{◌≡◌, ℕ, ◌+◌, ◌-◌, ◌*◌, ◌<◌, ◌≤◌, ◌⊎◌, List, length, Bool, true, false, ◌&&◌, arith, inl, inr, leb, ltb, refl, ◌∙◌, subst}
 use Rattle.std.proofs.lemmas.Bool.{cases_lt}
 use Rattle.axle_train.specs.declared.axle.Axle.{Axle}
 use Rattle.axle_train.specs.Trains.{group_weight, spread}
@@ -7,7 +7,8 @@ use Rattle.bridge_formula.specs.Formula.{formula_limit}
 use Rattle.axle_limits.specs.declared.worst_group.WorstGroup.{WorstGroup}
 use Rattle.axle_limits.specs.Limits.{limit_of, is_two_tandem}
 use Rattle.axle_limits.proofs.OneLimit.{chosen}
-use Rattle.axle_limits.specs.Worst.{IsGroup, IsNoWorse, IsWorstSoFar}
+use Rattle.axle_limits.specs.Groups.{IsGroup, group_at}
+use Rattle.axle_limits.specs.Worst.{IsNoWorse, IsWorstSoFar, IsAtLeastAsBad, IsWorseThan}
 
 chosen_some : (a b c : Bool) (f : ℕ) → 0 < f → 0 < (chosen a b c f).limit
 chosen_some true b c f h = omega arith
@@ -18,9 +19,6 @@ chosen_some false false false f h = h
 -- every limit is above 0
 pub limit_some : (axles : List Axle) (i j : ℕ) → 0 < limit_of axles i j
 limit_some axles i j = chosen_some (leb (spread axles i j) 40) (leb (spread axles i j) 96) (ltb (formula_limit (spread axles i j) (j - i + 1)) 68000 && is_two_tandem axles i j) (formula_limit (spread axles i j) (j - i + 1)) (omega arith)
-
-no_worse_self : (axles : List Axle) (i j : ℕ) (next result : WorstGroup) → IsGroup axles next → next.i ≡ i → next.j ≡ j → next.weight * result.limit ≤ result.weight * next.limit → IsNoWorse axles i j result
-no_worse_self axles i j next result g ei ej met = rw (← ei, ← ej, ← g.weight_is, ← g.limit_is) met
 
 -- the same group stays
 stays : (axles : List Axle) (i j : ℕ) (best : WorstGroup) → IsWorstSoFar axles i j best → IsNoWorse axles i j best → IsWorstSoFar axles i (j + 1) best
@@ -33,20 +31,27 @@ stays axles i j best s here = record {
 }
 
 -- the next group takes its place
-takes : (axles : List Axle) (i j : ℕ) (best next : WorstGroup) → IsWorstSoFar axles i j best → IsGroup axles next → next.i ≡ i → next.j ≡ j → ((w l : ℕ) → w * best.limit ≤ best.weight * l → w * next.limit ≤ next.weight * l) → IsNoWorse axles i j next → ((w l : ℕ) → 0 < l → w * best.limit ≤ best.weight * l → w * next.limit < next.weight * l) → IsWorstSoFar axles i (j + 1) next
-takes axles i j best next s g ei ej kept here strict = record {
-  is_group = g;
+takes : (axles : List Axle) (i j : ℕ) (best : WorstGroup) → i ≤ j → j < length axles → IsWorstSoFar axles i j best → IsAtLeastAsBad best (group_at axles i j) → IsWorseThan best (group_at axles i j) → IsWorstSoFar axles i (j + 1) (group_at axles i j)
+takes axles i j best ordered within s kept strict = record {
+  is_group = record { ordered = ordered; within = within; weight_is = refl; limit_is = refl };
   rows = λ a b h k m. kept (group_weight axles a b) (limit_of axles a b) (s.rows a b h k m);
-  row = λ b h k. elim (cases_lt b j) [ inl before ↦ kept (group_weight axles i b) (limit_of axles i b) (s.row b h before) | inr same ↦ (let e : j ≡ b = omega arith in rw e at here) ];
-  first_row = λ a b h k m. strict (group_weight axles a b) (limit_of axles a b) (limit_some axles a b) (s.rows a b (omega arith) k m);
-  first_in_row = λ b h k. rw ei (strict (group_weight axles i b) (limit_of axles i b) (limit_some axles i b) (s.row b (omega arith) (omega arith)));
+  row = λ b h k. elim (cases_lt b j) [
+    | inl before ↦ kept (group_weight axles i b) (limit_of axles i b) (s.row b h before)
+    | inr same ↦ (let e : j ≡ b = omega arith in subst (λ t. IsNoWorse axles i t (group_at axles i j)) e (omega arith))
+  ];
+  first_row = λ a b h k m. strict (group_weight axles a b) (limit_of axles a b) (limit_some axles a b) (s.rows a b h k m);
+  first_in_row = λ b h k. strict (group_weight axles i b) (limit_of axles i b) (limit_some axles i b) (s.row b h k);
 }
 
-pub so_far_more : (axles : List Axle) (i j : ℕ) (best next result : WorstGroup) → IsWorstSoFar axles i j best → IsGroup axles next → next.i ≡ i → next.j ≡ j → ((w l : ℕ) → w * best.limit ≤ best.weight * l → w * result.limit ≤ result.weight * l) → next.weight * result.limit ≤ result.weight * next.limit → (result ≡ best) ⊎ ((result ≡ next) × ((w l : ℕ) → 0 < l → w * best.limit ≤ best.weight * l → w * next.limit < next.weight * l)) → IsWorstSoFar axles i (j + 1) result
-so_far_more axles i j best next result s g ei ej kept met (inl e) =
-    rw e (stays axles i j best s (rw e at (no_worse_self axles i j next result g ei ej met)))
-so_far_more axles i j best next result s g ei ej kept met (inr e) =
-    rw e.0 (takes axles i j best next s g ei ej (rw e.0 at kept) (rw e.0 at (no_worse_self axles i j next result g ei ej met)) e.1)
+-- one group more
+pub so_far_more : (axles : List Axle) (i j : ℕ) (best next result : WorstGroup) → i ≤ j → j < length axles → IsWorstSoFar axles i j best → next ≡ group_at axles i j
+    → IsAtLeastAsBad best result → next.weight * result.limit ≤ result.weight * next.limit → (result ≡ best) ⊎ ((result ≡ next) × IsWorseThan best next)
+    → IsWorstSoFar axles i (j + 1) result
+so_far_more axles i j best next result ordered within s is kept met (inl e) =
+    rw e (stays axles i j best s (rw (e, is) at met))
+so_far_more axles i j best next result ordered within s is kept met (inr e) =
+    let here : result ≡ group_at axles i j = e.0 ∙ is in
+    rw here (takes axles i j best ordered within s (rw here at kept) (rw is at e.1))
 
 -- a whole row
 pub so_far_row : (axles : List Axle) (i j : ℕ) (best : WorstGroup) → IsWorstSoFar axles i j best → length axles ≤ j → IsWorstSoFar axles (i + 1) (i + 1) best

@@ -1,9 +1,11 @@
 // The groups over their limits.
 
-ghost use Rattle.std.specs.Prelude.{◌≡◌, ◌-◌, ◌<◌, ◌≤◌, ◌++◌, ◌↔◌, [], length, IfOk};
-ghost use Rattle.axle_limits.specs.Findings.{findings_of, finding_at, gross_finding, row_of, AreFindings, IsLegalByWeight};
+ghost use Rattle.std.specs.Prelude.{◌≡◌, ◌<◌, ◌≤◌, ◌++◌, ◌↔◌, ◌∷◌, [], length, IfOk};
+ghost use Rattle.axle_limits.specs.Groups.{group_at, groups_from};
+ghost use Rattle.axle_limits.specs.Findings.{findings_of, over_limit, gross_finding, AreFindings, IsLegalByWeight};
 
 use crate::group::{Rule, group_limit};
+use crate::legal::GROSS_LIMIT;
 use axle_train::Train;
 use office_io::NoMemory;
 use std::alloc::Global;
@@ -37,7 +39,7 @@ pub fn findings(alloc: Global, train: &Train) -> Result<Vec<Finding>, NoMemory>
 /// Adds the groups over their limits that begin with axle `i`.
 fn add_row(train: &Train, i: usize, list: &mut Vec<Finding>) -> Result<(), NoMemory>
     requires within { i < length train.now }
-    ensures { IfOk result (λ _. list.new.items ≡ list.old.items ++ row_of train.now i (length train.now - i)) }
+    ensures { IfOk result (λ _. list.new.items ≡ list.old.items ++ over_limit train.now (groups_from train.now i)) }
 {
     for j in i..train.len() {
         add_group(train, i, j, list)?;
@@ -49,7 +51,8 @@ fn add_row(train: &Train, i: usize, list: &mut Vec<Finding>) -> Result<(), NoMem
 fn add_group(train: &Train, i: usize, j: usize, list: &mut Vec<Finding>) -> Result<(), NoMemory>
     requires ordered { i ≤ j }
     requires within { j < length train.now }
-    ensures { IfOk result (λ _. list.new.items ≡ list.old.items ++ finding_at train.now i j) }
+    ensures { IfOk result (λ _. list.new.items
+        ≡ list.old.items ++ over_limit train.now (group_at train.now i j ∷ [])) }
 {
     let weight = train.group_weight(i, j);
     let limit = group_limit(train, i, j);
@@ -71,12 +74,12 @@ fn add_gross(train: &Train, list: &mut Vec<Finding>) -> Result<(), NoMemory>
 {
     let len = train.len();
     let gross = train.gross();
-    if gross > 80000 {
+    if gross > GROSS_LIMIT {
         list.push(Finding {
             i: 0,
             j: len - 1,
             weight: gross,
-            limit: 80000,
+            limit: GROSS_LIMIT,
             rule: Rule::Gross,
         })?;
     }

@@ -1,9 +1,8 @@
 // The worst group: the one whose weight is the greatest part of its limit.
 
-ghost use Rattle.std.specs.Prelude.{◌≡◌, ◌+◌, ◌*◌, ◌<◌, ◌≤◌, ◌⊎◌, ℕ, length};
-ghost use Rattle.axle_train.specs.Trains.{group_weight};
-ghost use Rattle.axle_limits.specs.Limits.{limit_of};
-ghost use Rattle.axle_limits.specs.Worst.{IsGroup, IsWorstSoFar, IsWorst};
+ghost use Rattle.std.specs.Prelude.{◌≡◌, ◌+◌, ◌*◌, ◌<◌, ◌≤◌, ◌⊎◌, length};
+ghost use Rattle.axle_limits.specs.Groups.{group_at};
+ghost use Rattle.axle_limits.specs.Worst.{IsWorst, IsWorstSoFar, worst_of, IsAtLeastAsBad, IsWorseThan};
 
 use crate::group::group_limit;
 use axle_train::Train;
@@ -20,9 +19,10 @@ pub struct WorstGroup {
 /// The group, single axles among them, whose weight is the greatest part of its limit, over it or not.
 ///
 /// Of groups that are equally bad it is the first, by the first axle and then by the last. Fractions are compared by their
-/// cross products, which stay below 2^42. Takes no memory.
+/// cross products. Takes no memory.
 pub fn worst(train: &Train) -> WorstGroup
-    ensures { IsWorst train.now result }
+    ensures meaning { IsWorst train.now result }
+    ensures value { result ≡ worst_of train.now }
 {
     let len = train.len();
     prove!(0 < len);
@@ -48,15 +48,10 @@ fn worst_in_row(train: &Train, i: usize, best: WorstGroup) -> WorstGroup
 
 /// The worse of two groups, the first where they are equally bad.
 fn worse(best: WorstGroup, next: WorstGroup) -> WorstGroup
-    requires some { 0 < best.limit }
-    requires best_light { best.weight ≤ 2000000 }
-    requires best_small { best.limit ≤ 2000000 }
-    requires light { next.weight ≤ 2000000 }
-    requires small { next.limit ≤ 2000000 }
-    ensures kept { (w l : ℕ) → w * best.limit ≤ best.weight * l → w * result.limit ≤ result.weight * l }
+    requires { 0 < best.limit }
+    ensures kept { IsAtLeastAsBad best result }
     ensures met { next.weight * result.limit ≤ result.weight * next.limit }
-    ensures either { (result ≡ best)
-        ⊎ ((result ≡ next) × ((w l : ℕ) → 0 < l → w * best.limit ≤ best.weight * l → w * next.limit < next.weight * l)) }
+    ensures either { (result ≡ best) ⊎ ((result ≡ next) × IsWorseThan best next) }
 {
     if u64::from(next.weight) * u64::from(best.limit)
         > u64::from(best.weight) * u64::from(next.limit)
@@ -71,9 +66,7 @@ fn worse(best: WorstGroup, next: WorstGroup) -> WorstGroup
 fn group_at(train: &Train, i: usize, j: usize) -> WorstGroup
     requires ordered { i ≤ j }
     requires within { j < length train.now }
-    ensures is_group { IsGroup train.now result }
-    ensures first { result.i ≡ i }
-    ensures last { result.j ≡ j }
+    ensures { result ≡ group_at train.now i j }
 {
     WorstGroup {
         i,

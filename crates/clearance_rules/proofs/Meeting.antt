@@ -8,7 +8,8 @@ use Rattle.std.proofs.lemmas.Option.{none-some, get_or_from_slice_get}
 use Rattle.axle_train.specs.declared.axle.Axle.{Axle}
 use Rattle.axle_train.specs.Trains.{group_weight}
 use Rattle.axle_limits.specs.Limits.{limit_of as limit_of_group}
-use Rattle.axle_limits.specs.Worst.{AllPass}
+use Rattle.axle_limits.specs.Groups.{gross_of, group_at, groups_of}
+use Rattle.axle_limits.specs.Worst.{AllPass, is_over}
 use Rattle.axle_limits.specs.declared.worst_group.WorstGroup.{WorstGroup}
 use Rattle.span_rating.specs.declared.loading.Effects.{Effects}
 use Rattle.span_rating.specs.declared.judgement.Fit.{Fit}
@@ -23,11 +24,12 @@ use Rattle.road_graph.specs.declared.values.Values.{Values}
 use Rattle.road_graph.specs.Roads.{Roads, IsRoads, no_span, span_at, spans_of}
 use Rattle.road_graph.proofs.Filters.{spans_are}
 use Rattle.restriction_log.specs.States.{InForce, values_at, rating_at}
-use Rattle.clearance_rules.specs.Loads.{LoadParts, gross_of, group_at, groups_of}
-use Rattle.clearance_rules.specs.Limits.{IsWithinPosted, Carries, Meets, posted_limit, group_limit, span_limit, spans_limit, limit_of, limit_of_fit, is_over}
+use Rattle.clearance_rules.specs.Loads.{LoadParts}
+use Rattle.clearance_rules.specs.Limits.{IsWithinPosted, Carries, Meets, posted_limit, group_limit, span_limit, limit_of_span, first_of_spans, spans_limit, limit_of, limit_of_fit}
 use Rattle.clearance_rules.specs.declared.limit.Limit.{Limit}
 use Rattle.clearance_rules.specs.declared.limit.Limit.TheVariants as limit
-use Rattle.clearance_rules.proofs.Groups.{all_groups, each_group, any_is_not_all}
+use Rattle.axle_limits.proofs.Allowance.{any_is_not_all}
+use Rattle.axle_limits.proofs.Groups.{all_groups, each_group}
 
 -- a choice that gives nothing did not take its first part
 not_taken : (b : Bool) (x : Limit) (o : Option Limit) → cond b (Some x) o ≡ None → (b ≡ false) × (o ≡ None)
@@ -131,28 +133,28 @@ span_none axles inches rating s i train some long is =
 abbrev AreInRange : Roads → List ℕ → Type 0
 AreInRange roads list = (k i : ℕ) → slice_get list k ≡ Some i → (1 ≤ (span_at roads.spans i).inches) × ((span_at roads.spans i).inches ≤ 6000)
 
-spans_only : (roads : Roads) (ratings : List ℕ) (axles : List Axle) (s : ℕ) (list : List ℕ) → IsTrain axles → AreInRange roads list
-    → spans_limit roads ratings axles s list ≡ None
-    → (k i : ℕ) → slice_get list k ≡ Some i → Carries axles (span_at roads.spans i).inches (rating_at ratings i)
-spans_only roads ratings axles s [] train range h k i at = absurd (none-some i at)
-spans_only roads ratings axles s (span ∷ list) train range h zero i at =
-    let parts = or_none (span_limit axles (span_at roads.spans span).inches (rating_at ratings span) s span) (spans_limit roads ratings axles s list) h in
+spans_only : (roads : Roads) (state : InForce) (axles : List Axle) (s : ℕ) (list : List ℕ) → IsTrain axles → AreInRange roads list
+    → first_of_spans roads state axles s list ≡ None
+    → (k i : ℕ) → slice_get list k ≡ Some i → Carries axles (span_at roads.spans i).inches (rating_at state.ratings i)
+spans_only roads state axles s [] train range h k i at = absurd (none-some i at)
+spans_only roads state axles s (span ∷ list) train range h zero i at =
+    let parts = or_none (limit_of_span roads state axles s span) (first_of_spans roads state axles s list) h in
     let inches = range 0 span refl in
     let same : span ≡ i = cc in
-    rw (← same) (span_only axles (span_at roads.spans span).inches (rating_at ratings span) s span train inches.0 inches.1 parts.0)
-spans_only roads ratings axles s (span ∷ list) train range h (suc k) i at =
-    let parts = or_none (span_limit axles (span_at roads.spans span).inches (rating_at ratings span) s span) (spans_limit roads ratings axles s list) h in
-    spans_only roads ratings axles s list train (λ n j on. range (suc n) j on) parts.1 k i at
+    rw (← same) (span_only axles (span_at roads.spans span).inches (rating_at state.ratings span) s span train inches.0 inches.1 parts.0)
+spans_only roads state axles s (span ∷ list) train range h (suc k) i at =
+    let parts = or_none (limit_of_span roads state axles s span) (first_of_spans roads state axles s list) h in
+    spans_only roads state axles s list train (λ n j on. range (suc n) j on) parts.1 k i at
 
-spans_none : (roads : Roads) (ratings : List ℕ) (axles : List Axle) (s : ℕ) (list : List ℕ) → IsTrain axles → AreInRange roads list
-    → ((k i : ℕ) → slice_get list k ≡ Some i → Carries axles (span_at roads.spans i).inches (rating_at ratings i))
-    → spans_limit roads ratings axles s list ≡ None
-spans_none roads ratings axles s [] train range each = refl
-spans_none roads ratings axles s (span ∷ list) train range each =
+spans_none : (roads : Roads) (state : InForce) (axles : List Axle) (s : ℕ) (list : List ℕ) → IsTrain axles → AreInRange roads list
+    → ((k i : ℕ) → slice_get list k ≡ Some i → Carries axles (span_at roads.spans i).inches (rating_at state.ratings i))
+    → first_of_spans roads state axles s list ≡ None
+spans_none roads state axles s [] train range each = refl
+spans_none roads state axles s (span ∷ list) train range each =
     let inches = range 0 span refl in
-    none_or (span_limit axles (span_at roads.spans span).inches (rating_at ratings span) s span) (spans_limit roads ratings axles s list)
-    (span_none axles (span_at roads.spans span).inches (rating_at ratings span) s span train inches.0 inches.1 (each 0 span refl))
-    (spans_none roads ratings axles s list train (λ n j on. range (suc n) j on) (λ k i at. each (suc k) i at))
+    none_or (limit_of_span roads state axles s span) (first_of_spans roads state axles s list)
+    (span_none axles (span_at roads.spans span).inches (rating_at state.ratings span) s span train inches.0 inches.1 (each 0 span refl))
+    (spans_none roads state axles s list train (λ n j on. range (suc n) j on) (λ k i at. each (suc k) i at))
 
 in_range : (roads : Roads) (s : ℕ) → IsRoads roads → AreInRange roads (spans_of roads.spans s)
 in_range roads s is k i at =
@@ -174,7 +176,7 @@ none_meets roads state load s is train h =
       spans = λ i t at on.
           let listed = (spans_are roads.spans s).complete i t at on in
           let here : span_at roads.spans i ≡ t = get_or_from_slice_get roads.spans i t no_span at in
-          rw (← here) (spans_only roads state.ratings load.train s (spans_of roads.spans s) train (in_range roads s is) b.1 listed.0 i listed.1);
+          rw (← here) (spans_only roads state load.train s (spans_of roads.spans s) train (in_range roads s is) b.1 listed.0 i listed.1);
     }
 
 pub meets_none : (roads : Roads) (state : InForce) (load : LoadParts) (s : ℕ) → IsRoads roads → IsTrain load.train → Meets roads state load s → limit_of roads state load s ≡ None
@@ -183,7 +185,7 @@ meets_none roads state load s is train meets =
     let values = values_at state.values s in
     none_or (posted_limit values load s) _ (posted_none values load s meets.posted)
     (none_or (group_limit values.allowance load s) _ (groups_none values.allowance load s meets.groups)
-    (spans_none roads state.ratings load.train s (spans_of roads.spans s) train (in_range roads s is) (λ k i at.
+    (spans_none roads state load.train s (spans_of roads.spans s) train (in_range roads s is) (λ k i at.
     let (t, there, on) = (spans_are roads.spans s).sound k i at in
     let here : span_at roads.spans i ≡ t = get_or_from_slice_get roads.spans i t no_span there in
     rw here (meets.spans i t there on))))

@@ -4,20 +4,23 @@ use Rattle.std.specs.Option.{option_or}
 use Rattle.std.proofs.lemmas.Bool.{lt-ltb, le-ltb}
 use Rattle.std.proofs.lemmas.List.{drop_all}
 use Rattle.axle_train.specs.declared.axle.Axle.{Axle}
-use Rattle.axle_limits.specs.Worst.{IsWorst}
+use Rattle.axle_limits.specs.Worst.{IsWorst, worst_of}
 use Rattle.axle_limits.specs.declared.worst_group.WorstGroup.{WorstGroup}
 use Rattle.span_rating.specs.declared.loading.Effects.{Effects}
 use Rattle.span_rating.specs.declared.judgement.Fit.{Fit}
 use Rattle.span_rating.specs.Judgement.{fit_of}
-use Rattle.hs20_truck.specs.Effects.{effects_of, design_of}
+use Rattle.span_rating.specs.Loading.{AreEffects}
+use Rattle.influence_line.specs.Peaks.{IsTrainPlaced, IsHs20Placed}
+use Rattle.hs20_truck.proofs.OneEffects.{effects_are_one, design_is_one}
+use Rattle.axle_train.specs.Bounds.{IsTrain}
 use Rattle.road_graph.specs.declared.values.Values.{Values}
-use Rattle.road_graph.specs.Roads.{Roads, span_at, spans_of}
-use Rattle.restriction_log.specs.States.{InForce, values_at, rating_at}
-use Rattle.clearance_rules.specs.Loads.{LoadParts, worst_of}
-use Rattle.clearance_rules.specs.Limits.{posted_limit, group_limit, limit_of_fit, span_limit, spans_limit, limit_of}
+use Rattle.road_graph.specs.Roads.{Roads}
+use Rattle.restriction_log.specs.States.{InForce, values_at}
+use Rattle.clearance_rules.specs.Loads.{LoadParts}
+use Rattle.clearance_rules.specs.Limits.{posted_limit, group_limit, limit_of_fit, span_limit, limit_of_span, first_of_spans, spans_limit, limit_of}
 use Rattle.clearance_rules.specs.declared.limit.Limit.{Limit}
 use Rattle.clearance_rules.specs.declared.limit.Limit.TheVariants.{Group}
-use Rattle.clearance_rules.proofs.Worst.{any_over}
+use Rattle.axle_limits.proofs.Allowance.{any_over}
 
 -- where the worst group passes, no limit on groups fails
 pub worst_within : (load : LoadParts) (g : WorstGroup) (allowance s : ℕ) → IsWorst load.train g → 1000 * g.weight ≤ allowance * g.limit → None ≡ group_limit allowance load s
@@ -33,27 +36,27 @@ worst_named load g allowance s is same fails =
     rw (any_over load.train g allowance is, lt-ltb (allowance * g.limit) (1000 * g.weight) fails, ← same) refl
 
 -- a span is judged by the effects of the train and of the design truck
-pub judged : (axles : List Axle) (inches rating s i : ℕ) (truck design : Effects) (f : Fit) → f ≡ fit_of truck design rating
-    → truck ≡ effects_of axles inches → design ≡ design_of inches
+pub judged : (axles : List Axle) (inches rating s i : ℕ) (truck design : Effects) (f : Fit) → IsTrain axles → 1 ≤ inches → inches ≤ 6000
+    → AreEffects (IsTrainPlaced axles) inches truck → AreEffects IsHs20Placed inches design → f ≡ fit_of truck design rating
     → limit_of_fit f truck design rating s i ≡ span_limit axles inches rating s i
 unfolding span_limit
-judged axles inches rating s i truck design f is et ed = rw (is, et, ed) refl
+judged axles inches rating s i truck design f train some long one other is =
+    rw (is, effects_are_one axles inches truck train some long one, design_is_one inches design some long other) refl
 
 -- the next of the spans that are left
-pub next_span : (roads : Roads) (ratings : List ℕ) (axles : List Axle) (s : ℕ) (list : List ℕ) (k : ℕ) → k < length list
-    → spans_limit roads ratings axles s (drop k list)
-    ≡ option_or (span_limit axles (span_at roads.spans (get_or list k 0)).inches (rating_at ratings (get_or list k 0)) s (get_or list k 0))
-    (spans_limit roads ratings axles s (drop (k + 1) list))
-next_span roads ratings axles s list k inside = rw (add-one, drop-cons list k 0 inside) refl
+pub next_span : (roads : Roads) (state : InForce) (axles same : List Axle) (s : ℕ) (list : List ℕ) (k : ℕ) (limit : Option Limit) → k < length list
+    → same ≡ axles → limit ≡ limit_of_span roads state same s (get_or list k 0)
+    → first_of_spans roads state axles s (drop k list) ≡ option_or limit (first_of_spans roads state axles s (drop (k + 1) list))
+next_span roads state axles same s list k limit inside one is = rw (is, one, add-one, drop-cons list k 0 inside) refl
 
 -- past the last span nothing fails
-pub no_more_spans : (roads : Roads) (ratings : List ℕ) (axles : List Axle) (s : ℕ) (list : List ℕ) (k : ℕ) → length list ≤ k
-    → spans_limit roads ratings axles s (drop k list) ≡ None
-no_more_spans roads ratings axles s list k past = rw (drop_all k list past) refl
+pub no_more_spans : (roads : Roads) (state : InForce) (axles : List Axle) (s : ℕ) (list : List ℕ) (k : ℕ) → length list ≤ k
+    → first_of_spans roads state axles s (drop k list) ≡ None
+no_more_spans roads state axles s list k past = rw (drop_all k list past) refl
 
 -- the limit of a segment from its parts
 pub in_parts : (roads : Roads) (state : InForce) (load : LoadParts) (s : ℕ) (values : Values) (posted group : Option Limit)
     → values ≡ values_at state.values s → posted_limit values load s ≡ posted → group_limit values.allowance load s ≡ group
-    → option_or posted (option_or group (spans_limit roads state.ratings load.train s (spans_of roads.spans s))) ≡ limit_of roads state load s
+    → option_or posted (option_or group (spans_limit roads state load.train s)) ≡ limit_of roads state load s
 unfolding limit_of
 in_parts roads state load s values posted group ev ep eg = rw (← ep, ← eg, ev) refl

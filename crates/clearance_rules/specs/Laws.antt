@@ -1,9 +1,18 @@
--- What the first failing limit of a segment depends on.
-use Rattle.std.specs.Prelude.{◌≡◌, ℕ}
-use Rattle.road_graph.specs.Roads.{Roads}
+-- What the first failing limit of a segment says, and what it depends on.
+use Rattle.std.specs.Prelude.{◌≡◌, ℕ, Some}
+use Rattle.axle_train.specs.Bounds.{IsTrain}
+use Rattle.road_graph.specs.Roads.{Roads, IsRoads}
 use Rattle.restriction_log.specs.States.{InForce, AgreeOn}
 use Rattle.clearance_rules.specs.Loads.{LoadParts}
 use Rattle.clearance_rules.specs.Limits.{limit_of}
+use Rattle.clearance_rules.specs.Failing.{FailsAt}
+use Rattle.clearance_rules.specs.declared.limit.Limit.{Limit}
+
+-- the limit that is named for a segment fails the load there
+abbrev pub NamedLimitFails : Type 0
+NamedLimitFails =
+    (roads : Roads) (state : InForce) (load : LoadParts) (segment : ℕ) (limit : Limit) → IsRoads roads → IsTrain load.train
+    → limit_of roads state load segment ≡ Some limit → FailsAt roads state load segment limit
 
 -- two states that agree on the values of a segment and on the ratings of its spans have the same limit there
 abbrev pub LimitsAgree : Type 0

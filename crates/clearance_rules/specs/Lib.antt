@@ -1,4 +1,5 @@
 pub use Rattle.axle_train.specs.Bounds
+pub use Rattle.axle_limits.specs.Groups
 pub use Rattle.axle_limits.specs.Findings
 pub use Rattle.axle_limits.specs.Worst
 pub use Rattle.influence_line.specs.Peaks
@@ -7,4 +8,5 @@ pub use Rattle.road_graph.specs.Roads
 pub use Rattle.restriction_log.specs.States
 pub mod Loads
 pub mod Limits
+pub mod Failing
 pub mod Laws

@@ -3,8 +3,8 @@ use Rattle.std.specs.Prelude.{◌≡◌, ℕ, ◌*◌, ◌≤◌, Bool, false, n
 use Rattle.std.specs.List.{list_any}
 use Rattle.std.specs.Option.{option_or}
 use Rattle.axle_train.specs.declared.axle.Axle.{Axle}
-use Rattle.axle_limits.specs.Worst.{AllPass}
-use Rattle.axle_limits.specs.declared.worst_group.WorstGroup.{WorstGroup}
+use Rattle.axle_limits.specs.Groups.{gross_of, groups_of}
+use Rattle.axle_limits.specs.Worst.{AllPass, is_over, worst_of}
 use Rattle.influence_line.specs.Peaks.{IsTrainPlaced, IsHs20Placed}
 use Rattle.span_rating.specs.declared.loading.Effects.{Effects}
 use Rattle.span_rating.specs.declared.judgement.Fit.{Fit}
@@ -16,7 +16,7 @@ use Rattle.road_graph.specs.declared.values.Values.{Values}
 use Rattle.road_graph.specs.declared.segment.Span.{Span}
 use Rattle.road_graph.specs.Roads.{Roads, span_at, spans_of}
 use Rattle.restriction_log.specs.States.{InForce, values_at, rating_at}
-use Rattle.clearance_rules.specs.Loads.{LoadParts, gross_of, groups_of, worst_of}
+use Rattle.clearance_rules.specs.Loads.{LoadParts}
 use Rattle.clearance_rules.specs.declared.limit.Limit.{Limit}
 use Rattle.clearance_rules.specs.declared.limit.Limit.TheVariants.{Closed, Height, Width, Length, Gross, Group, Moment, Shear}
 
@@ -29,10 +29,6 @@ posted_limit values load segment =
     else (if nat_lt values.length load.length then Some (Length segment load.length values.length)
     else (if nat_lt values.gross (gross_of load.train) then Some (Gross segment (gross_of load.train) values.gross)
     else None))))
-
--- the group weighs more than so many thousandths of its limit
-abbrev pub is_over : ℕ → WorstGroup → Bool
-is_over allowance g = nat_lt (allowance * g.limit) (1000 * g.weight)
 
 -- the failing limit on groups of axles: where any group is over the allowance, the worst one is named
 unfoldable pub group_limit : ℕ → LoadParts → ℕ → Option Limit
@@ -55,12 +51,20 @@ span_limit axles inches rating segment span =
     let design = design_of inches in
     limit_of_fit (fit_of truck design rating) truck design rating segment span
 
+-- the failing limit of a span of a segment, with its rating in a state
+abbrev pub limit_of_span : Roads → InForce → List Axle → ℕ → ℕ → Option Limit
+limit_of_span roads state axles segment span =
+    span_limit axles (span_at roads.spans span).inches (rating_at state.ratings span) segment span
+
 -- the first failing limit of these spans of a segment
-abbrev pub spans_limit : Roads → List ℕ → List Axle → ℕ → List ℕ → Option Limit
-spans_limit roads ratings axles segment [] = None
-spans_limit roads ratings axles segment (span ∷ spans) = option_or
-    (span_limit axles (span_at roads.spans span).inches (rating_at ratings span) segment span)
-    (spans_limit roads ratings axles segment spans)
+abbrev pub first_of_spans : Roads → InForce → List Axle → ℕ → List ℕ → Option Limit
+first_of_spans roads state axles segment [] = None
+first_of_spans roads state axles segment (span ∷ spans) =
+    option_or (limit_of_span roads state axles segment span) (first_of_spans roads state axles segment spans)
+
+-- the first failing limit of the spans of a segment, by rising number
+abbrev pub spans_limit : Roads → InForce → List Axle → ℕ → Option Limit
+spans_limit roads state axles segment = first_of_spans roads state axles segment (spans_of roads.spans segment)
 
 -- the first limit of the segment that fails the load: a posted value, a group of axles, a span by rising number
 unfoldable pub limit_of : Roads → InForce → LoadParts → ℕ → Option Limit
@@ -68,7 +72,7 @@ limit_of roads state load segment =
     let values = values_at state.values segment in
     option_or (posted_limit values load segment)
     (option_or (group_limit values.allowance load segment)
-    (spans_limit roads state.ratings load.train segment (spans_of roads.spans segment)))
+    (spans_limit roads state load.train segment))
 
 -- whether the segment meets the load: no limit fails
 abbrev pub meets : Roads → InForce → LoadParts → ℕ → Bool

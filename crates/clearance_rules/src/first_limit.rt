@@ -1,17 +1,17 @@
 // The first limit of a segment that a load fails.
 
-ghost use Rattle.std.specs.Prelude.{◌≡◌, ◌<◌, ◌≤◌, ◌+◌, ◌↔◌, List, ℕ, length, None, All};
+ghost use Rattle.std.specs.Prelude.{◌≡◌, ◌<◌, ◌+◌, ◌↔◌, length, None};
 ghost use Rattle.axle_train.specs.Bounds.{IsTrain};
-ghost use Rattle.road_graph.specs.Roads.{span_at, spans_of};
-ghost use Rattle.restriction_log.specs.States.{AreOf, values_at, rating_at};
-ghost use Rattle.clearance_rules.specs.Limits.{posted_limit, group_limit, span_limit, spans_limit, limit_of, Meets};
+ghost use Rattle.road_graph.specs.Roads.{IsRoads};
+ghost use Rattle.restriction_log.specs.States.{AreOf};
+ghost use Rattle.clearance_rules.specs.Limits.{posted_limit, group_limit, limit_of_fit, limit_of_span, spans_limit, limit_of, Meets};
 
 use crate::limit::Limit;
 use crate::load::Load;
 use crate::steps::Steps;
 use restriction_log::State;
 use road_graph::{Network, Values};
-use span_rating::{Fit, SpanStudy, fits};
+use span_rating::{Effects, Fit, SpanStudy, fits};
 use std::sync::ledger::Ledger;
 
 /// The first limit of the segment that fails the load in this state, or none where the segment meets it.
@@ -35,8 +35,7 @@ pub fn first_failing<E: SpanStudy, L: Ledger>(
     ensures steps { steps.new ≡ steps.old + 1 }
 {
     steps.tick();
-    let (segments, axles) = (network.segments(), load.train().len());
-    prove!(segment < segments && axles <= 32);
+    bounds(network, load);
     first_limit(network, state, load, study, segment)
 }
 
@@ -62,6 +61,15 @@ fn first_limit<E: SpanStudy>(
         return Some(limit);
     }
     spans_limit(network, state, load, study, segment)
+}
+
+/// That a network and the axles of a load are within their bounds, which no value of them shows by itself. A fact for the
+/// proof, and no code.
+fn bounds(network: &Network, load: &Load)
+    ensures roads { IsRoads network.now }
+    ensures train { IsTrain load.now.train }
+{
+    let (_, _) = (network.segments(), load.train());
 }
 
 /// The first of the posted values that fails the load.
@@ -136,7 +144,7 @@ fn spans_limit<E: SpanStudy>(
     requires state { AreOf network.now state.now }
     requires train { IsTrain load.now.train }
     requires study { E.axles study.now ≡ load.now.train }
-    ensures { result ≡ spans_limit network.now state.now.ratings load.now.train segment (spans_of network.now.spans segment) }
+    ensures { result ≡ spans_limit network.now state.now load.now.train segment }
 {
     for span in network.spans_of(segment) {
         if let Some(limit) = span_limit(network, state, study, segment, *span) {
@@ -157,13 +165,27 @@ fn span_limit<E: SpanStudy>(
     requires span { span < length network.now.spans }
     requires state { AreOf network.now state.now }
     requires train { IsTrain (E.axles study.now) }
-    ensures { result ≡ span_limit (E.axles study.now) (span_at network.now.spans span).inches (rating_at state.now.ratings span) segment span }
+    ensures { result ≡ limit_of_span network.now state.now (E.axles study.now) segment span }
 {
     let inches = network.span(span).inches;
     let rating = state.rating(span);
     let effects = study.of(inches);
-    let (truck, design) = (effects.truck, effects.design);
-    match fits(&truck, &design, rating) {
+    let fit = fits(&effects.truck, &effects.design, rating);
+    limit_of_fit(fit, &effects.truck, &effects.design, rating, segment, span)
+}
+
+/// The limit that a judgement of a span names, with the two effects that were compared.
+fn limit_of_fit(
+    fit: Fit,
+    truck: &Effects,
+    design: &Effects,
+    rating: u32,
+    segment: u32,
+    span: u32,
+) -> Option<Limit>
+    ensures { result ≡ limit_of_fit fit truck.now design.now rating segment span }
+{
+    match fit {
         Fit::Fits => None,
         Fit::Moment => Some(Limit::Moment {
             segment,

@@ -14,7 +14,7 @@ mod load;
 mod steps;
 
 pub use first_limit::first_failing;
-pub use laws::limits_are_of_their_segment;
+pub use laws::{limits_are_of_their_segment, named_limit_fails};
 pub use limit::Limit;
 pub use load::{Load, Range, is_cross_section, is_length};
 pub use steps::Steps;

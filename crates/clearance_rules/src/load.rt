@@ -2,10 +2,11 @@
 
 ghost use Rattle.std.specs.Prelude.{◌≡◌, ◌&&◌, IfOk, OnOk, OnErr, IsTrue, ◌↔◌, true, false};
 ghost use Rattle.axle_train.specs.Bounds.{IsTrain};
-ghost use Rattle.axle_limits.specs.Worst.{IsWorst};
-ghost use Rattle.clearance_rules.specs.Loads.{is_cross_section, is_length, is_load, worst_of, is_legal, IsLegal, is_legal_by_weight, is_legal_size};
+ghost use Rattle.axle_limits.specs.Findings.{is_legal_by_weight};
+ghost use Rattle.axle_limits.specs.Worst.{IsWorst, worst_of};
+ghost use Rattle.clearance_rules.specs.Loads.{is_cross_section, is_length, is_load, parts_of, is_legal, IsLegal, is_legal_size};
 
-use axle_limits::{WorstGroup, worst};
+use axle_limits::{GROSS_LIMIT, LEGAL_HEIGHT, LEGAL_WIDTH, WorstGroup, worst};
 use axle_train::Train;
 use std::marker::Model;
 use thiserror::Error;
@@ -29,28 +30,26 @@ pub struct Load {
 }
 
 impl Model for Load {
-    ghost use Rattle.clearance_rules.specs.Loads.{LoadParts, IsKept};
+    ghost use Rattle.clearance_rules.specs.Loads.{LoadParts, IsKept, parts_of};
 
     ghost Value = { LoadParts };
 
-    ghost view = { λ a. record { height = a.height; width = a.width; length = a.length; train = a.train } };
+    ghost view = { λ a. parts_of a.height a.width a.length a.train };
 
-    ghost invariant = { λ a. IsKept (record { height = a.height; width = a.width; length = a.length; train = a.train }) a.worst a.legal };
+    ghost invariant = { λ a. IsKept (parts_of a.height a.width a.length a.train) a.worst a.legal };
 }
 
 impl Load {
     /// The load of these numbers of inches and this train. Takes no memory.
-    #[tactic(auto, using(crate::proofs::Worst::worst_is_computed))]
     pub fn new(height: u32, width: u32, length: u32, train: Train) -> Result<Load, Range>
-        ensures ok { IfOk result (λ load. load ≡ record { height = height; width = width; length = length; train = train }) }
+        ensures ok { IfOk result (λ load. load ≡ parts_of height width length train) }
         ensures taken { OnOk result (is_load height width length ≡ true) }
         ensures range { OnErr result (is_load height width length ≡ false) }
     {
         if !is_cross_section(height) || !is_cross_section(width) || !is_length(length) {
             return Err(Range);
         }
-        let axles = train.len();
-        prove!(axles <= 32);
+        bounds(&train);
         let worst = worst(&train);
         let by_weight = is_legal_by_weight(&train, &worst);
         let by_size = is_legal_size(height, width);
@@ -102,8 +101,8 @@ impl Load {
         self.worst
     }
 
-    /// Whether the load is legal: no group of axles is over its limit and the gross weight is at most 80,000 lb
-    /// (23 CFR 658.17), the width is at most 102 in (23 CFR 658.15), and the height is at most 162 in.
+    /// Whether the load is legal: no group of axles is over its limit and neither is the gross weight
+    /// (23 CFR 658.17), nor the width (23 CFR 658.15), nor the height.
     pub fn legal(&self) -> bool
         ensures value { result ≡ is_legal self.now }
         ensures meaning { IsTrue result ↔ IsLegal self.now }
@@ -126,18 +125,24 @@ pub fn is_length(inches: u32) -> bool
     1 <= inches && inches <= 9999
 }
 
+/// That a train is within its bounds, which no value of a train shows by itself. A fact for the proof, and no code.
+fn bounds(train: &Train)
+    ensures { IsTrain train.now }
+{
+    let _ = train.len();
+}
+
 /// Whether a truck is legal by its size.
 fn is_legal_size(height: u32, width: u32) -> bool
     ensures { result ≡ is_legal_size height width }
 {
-    height <= 162 && width <= 102
+    height <= LEGAL_HEIGHT && width <= LEGAL_WIDTH
 }
 
 /// Whether a truck is legal by its weights. No group is over its limit exactly where the worst one is not.
-#[tactic(auto, using(crate::proofs::Worst::legal_by_worst))]
 fn is_legal_by_weight(train: &Train, worst: &WorstGroup) -> bool
     requires { IsWorst train.now worst.now }
     ensures { result ≡ is_legal_by_weight train.now }
 {
-    worst.weight <= worst.limit && train.gross() <= 80000
+    worst.weight <= worst.limit && train.gross() <= GROSS_LIMIT
 }

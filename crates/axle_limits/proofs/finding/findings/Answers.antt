@@ -1,7 +1,11 @@
 use Rattle.std.proofs.Common.{sym, subst, arith}
 use Rattle.axle_limits.specs.Findings.{AreFindings}
-use Rattle.axle_limits.proofs.Listing.{are_findings, none_iff_legal, all_rows}
+use Rattle.axle_limits.proofs.Adding.{rows_more, all_rows}
+use Rattle.axle_limits.proofs.Listing.{are_findings, none_iff_legal}
 use Rattle.axle_limits.proofs.finding.findings.Goals as goal
+
+pub loop-i-preserved : goal.loop-i-preserved
+loop-i-preserved c = rows_more c.args.train.now c.loop-i.i c.loop-i.list.items c.add_row.new.list.items c.loop-i.invariant c.in_ok-add_row.ensures
 
 pub returns-clause-computed : goal.returns-clause-computed
 returns-clause-computed c = all_rows c.args.train.now c.loop-i.i c.loop-i.list.items c.add_gross.new.list.items (omega arith) (omega arith) c.loop-i.invariant c.in_ok-add_gross.ensures

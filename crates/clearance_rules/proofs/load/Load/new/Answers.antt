@@ -1,7 +1,7 @@
 -- What a new load keeps is what it is seen as.
 use Rattle.std.proofs.Common.{◌≡◌, Bool, true, false, ◌&&◌, rules, sym, ap, ◌∙◌}
-use Rattle.clearance_rules.specs.Loads.{is_legal_by_weight, is_legal_size}
-use Rattle.clearance_rules.proofs.Worst.{worst_is_computed}
+use Rattle.axle_limits.specs.Findings.{is_legal_by_weight}
+use Rattle.clearance_rules.specs.Loads.{is_legal_size}
 use Rattle.clearance_rules.proofs.load.Load.new.Goals as goal
 use Rattle.clearance_rules.proofs.load.Load.new.Goals.{then-by_weight, else-by_weight}
 
@@ -14,9 +14,9 @@ no_turn result a x y ea h is = is ∙ h ∙ ap (λ (t : Bool). t && y) (sym h �
 pub invariant_of-result : goal.invariant_of-result
 invariant_of-result c = record {
   in_range = search rules;
-  is_train = c.len-axles.ensures.bounds;
-  is_worst = c.worst-worst.ensures;
-  worst_is = worst_is_computed c.args.train c.worst-worst.result c.worst-worst.ensures;
+  is_train = c.bounds.ensures;
+  is_worst = c.worst-worst.ensures.meaning;
+  worst_is = c.worst-worst.ensures.value;
   legal_is = elim c.if-by_weight.branch [
     | then-by_weight w ↦ in_turn c.if-by_weight.result c.is_legal_by_weight-by_weight.result c.is_legal_size-by_size.result (is_legal_by_weight c.args.train) (is_legal_size c.args.height c.args.width)
         c.is_legal_by_weight-by_weight.ensures c.is_legal_size-by_size.ensures w.if-by_weight.true w.result-is
