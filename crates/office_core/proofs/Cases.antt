@@ -1,5 +1,5 @@
 -- What holds of each case of an answer to an application holds of the answer.
-use Rattle.std.proofs.Common.{◌≡◌, ◌∷◌, [], List, ℕ, ◌+◌, ◌⊎◌, inl, inr, false, ap, sym, subst, refl, ◌∙◌, Option, Some, None, length, not, nat_eq, if◌then◌else◌, is_none, arith}
+use Rattle.std.proofs.Common.{◌≡◌, ◌∷◌, [], List, ℕ, ◌+◌, ◌⊎◌, inl, inr, true, false, ap, sym, subst, refl, ◌∙◌, Option, Some, None, length, not, nat_eq, if◌then◌else◌, is_none, arith}
 use Rattle.road_graph.specs.Roads.{IsRoads}
 use Rattle.restriction_log.specs.States.{InForce}
 use Rattle.restriction_log.specs.Changes.{takes}
@@ -17,7 +17,6 @@ use Rattle.office_core.specs.declared.entry.Call.{Call}
 use Rattle.office_core.specs.declared.entry.Reply.{Reply}
 use Rattle.office_core.specs.Replies.{route_reply, fails_reply, refused_or, cut_reply, what_reply, is_late, is_free, apply_reply, day_reply, surrender_reply, shown, show_reply, is_full}
 use Rattle.office_core.specs.Machine.{Machine, version_of, state_in, reply_in, posted_reply, IsAnswer}
-use Rattle.office_core.specs.Laws.{IsCurrent}
 use Rattle.office_core.specs.declared.entry.Call.TheVariants as call
 use Rattle.office_core.specs.declared.entry.Reply.TheVariants as reply
 use Rattle.office_core.specs.declared.entry.Cause.TheVariants as cause
@@ -27,8 +26,7 @@ use Rattle.office_core.proofs.Lists.{pick}
 
 module _ (base : BaseLists) (state : InForce) (v : ℕ) (day : List ℕ) (number : ℕ) (a : Application) (w : What) where
   pub record Cases (P : Reply → Type 0) : Type 0 where
-    pub late : P (reply.Late day)
-    pub not_needed : P reply.NotNeeded
+    pub not_needed : w ≡ what.NotNeeded → P reply.NotNeeded
     pub no_road : (nodes : List ℕ) → w ≡ what.Cut nodes → leaving base.roads nodes ≡ [] → P reply.NoRoad
     pub now_fails : (route : List ℕ) (f : Failing) → w ≡ what.Route route → first_on base state a.truck route ≡ Some f → P (reply.Outdated v (cause.NowFails f.limit))
     pub issued : (route : List ℕ) → w ≡ what.Route route → first_on base state a.truck route ≡ None → P (reply.Issued number v route)
@@ -60,7 +58,7 @@ module _ (base : BaseLists) (state : InForce) (v : ℕ) (day : List ℕ) (number
     cut_case nodes e (s ∷ rest) out None h = refused_case nodes rest s e out h (limit_for base state a.truck s) refl
 
     what_case : (u : What) → w ≡ u → P (what_reply base state v number a.truck u)
-    what_case what.NotNeeded e = c.not_needed
+    what_case what.NotNeeded e = c.not_needed e
     what_case (what.Route route) e = route_case route e (first_on base state a.truck route) refl
     what_case (what.Fails s) e = fails_case s e (limit_for base state a.truck s) refl
     what_case (what.Cut nodes) e = cut_case nodes e (leaving base.roads nodes) refl (first_meeting base state a.truck (leaving base.roads nodes)) refl
@@ -69,19 +67,18 @@ module _ (base : BaseLists) (state : InForce) (v : ℕ) (day : List ℕ) (number
     found_case = what_case w refl
 
   -- the answer, where each case is known if the trip is neither late nor free
-  pub apply_found : (P : Reply → Type 0) → P (reply.Late day) → P reply.NotNeeded → (is_late day a ≡ false → is_free base a ≡ false → Cases P) → P (apply_reply base state v day number a w)
-  apply_found P late free c = pick P (is_late day a) (reply.Late day) _ (λ _. late) (λ early. pick P (is_free base a) reply.NotNeeded _ (λ _. free) (λ needed. found_case P (c early needed)))
+  pub apply_found : (P : Reply → Type 0) → (is_late day a ≡ true → P (reply.Late day)) → (is_free base a ≡ true → P reply.NotNeeded) → (is_late day a ≡ false → is_free base a ≡ false → Cases P) → P (apply_reply base state v day number a w)
+  apply_found P late free c = pick P (is_late day a) (reply.Late day) _ late (λ early. pick P (is_free base a) reply.NotNeeded _ free (λ needed. found_case P (c early needed)))
 
-  pub apply_cases : (P : Reply → Type 0) → Cases P → P (apply_reply base state v day number a w)
-  apply_cases P c = apply_found P c.late c.not_needed (λ _ _. c)
+  pub apply_cases : (P : Reply → Type 0) → P (reply.Late day) → P reply.NotNeeded → Cases P → P (apply_reply base state v day number a w)
+  apply_cases P late free c = apply_found P (λ _. late) (λ _. free) (λ _ _. c)
 
 abbrev NotFull : Reply → Type 0
 NotFull r = is_full r ≡ false
 
 apply_open : (base : BaseLists) (state : InForce) (v : ℕ) (day : List ℕ) (number : ℕ) (a : Application) (w : What) → NotFull (apply_reply base state v day number a w)
-apply_open base state v day number a w = apply_cases base state v day number a w NotFull (record {
-  late = refl;
-  not_needed = refl;
+apply_open base state v day number a w = apply_cases base state v day number a w NotFull refl refl (record {
+  not_needed = λ _. refl;
   no_road = λ _ _ _. refl;
   now_fails = λ _ _ _ _. refl;
   issued = λ _ _ _. refl;
@@ -113,33 +110,3 @@ never_full base m caller (call.Post change) r answer = given_open (posted_reply 
 never_full base m caller (call.Day day) r answer = given_open (day_reply m.day day) r (pick NotFull (is_before day m.day) (reply.DayBack m.day) (reply.DayIs day) (λ _. refl) (λ _. refl)) answer
 never_full base m caller (call.Surrender number) r answer = given_open (surrender_reply m.permits m.day caller number) r (surrender_open m.permits m.day caller number) answer
 never_full base m caller (call.Show number) r answer = given_open (show_reply m.permits m.day number) r (pick NotFull (not (is_issued m.permits number)) reply.Unknown (shown (permit_of m.permits number) number m.day) (λ _. refl) (λ _. refl)) answer
-
-some_none : {A : Type 0} {x : Option A} (y : A) → x ≡ None → x ≡ Some y → ⊥
-some_none y e f = absurd (grind (arith, e, f))
-
-meets_not : (l : Option Limit) → l ≡ None → is_none l ≡ false → ⊥
-meets_not None e h = absurd (grind (arith, h))
-meets_not (Some l) e h = absurd (grind (arith, e))
-
--- an answer to what was found in this very state is never out of date
-current_cases : (base : BaseLists) (state : InForce) (v : ℕ) (day : List ℕ) (number : ℕ) (a : Application) (w : What) → HoldsIn base state a.truck w → Cases base state v day number a w IsCurrent
-current_cases base state v day number a w h = record {
-  late = tt;
-  not_needed = tt;
-  no_road = λ _ _ _. tt;
-  now_fails = λ route f e g. some_none f (subst (HoldsIn base state a.truck) e h) g;
-  issued = λ _ _ _. tt;
-  refused = λ _ _ _ _. tt;
-  now_meets = λ s e g. meets_not (limit_for base state a.truck s) g (subst (HoldsIn base state a.truck) e h);
-  cut_refused = λ _ _ _ _ _ _ _ _. tt;
-  cut_meets = λ nodes s e g. some_none s (subst (HoldsIn base state a.truck) e h) g;
-}
-
-pub apply_current : (base : BaseLists) (state : InForce) (v : ℕ) (day : List ℕ) (number : ℕ) (a : Application) (w : What) → HoldsIn base state a.truck w → IsCurrent (apply_reply base state v day number a w)
-apply_current base state v day number a w h = apply_cases base state v day number a w IsCurrent (current_cases base state v day number a w h)
-
--- the answer to a held application is never out of date
-pub held_current : (base : BaseLists) (m : Machine) (caller : ℕ) (a : Application) (r : Reply) → IsRoads base.roads → Sound base a → IsAnswer base m caller (call.Held a) r → IsCurrent r
-held_current base m caller a r roads sound (inl g) = subst IsCurrent (sym g.2) (apply_found base (state_in base m) (version_of m) m.day (length m.permits + 1) a g.0 IsCurrent tt tt
-    (λ early needed. current_cases base (state_in base m) (version_of m) m.day (length m.permits + 1) a g.0 (found_holds base (state_in base m) a g.0 roads sound (g.1 early needed))))
-held_current base m caller a r roads sound (inr e) = subst IsCurrent (sym e.0) tt

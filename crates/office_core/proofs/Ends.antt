@@ -18,7 +18,6 @@ use Rattle.office_core.specs.declared.entry.Entry.{Entry}
 use Rattle.office_core.specs.Recalls.{recalled_if}
 use Rattle.office_core.specs.Replies.{surrender_reply}
 use Rattle.office_core.specs.Machine.{Machine, opened, version_of, IsAnswer, with_permit, with_posting, with_day, with_surrender, after, after_entry, after_all, IsLegalFrom, IsLegal, machine_of}
-use Rattle.office_core.specs.Laws.{StaysAsItIs}
 use Rattle.permit_book.specs.declared.permit.Status.TheVariants as status
 use Rattle.permit_book.specs.declared.permit.Mark.TheVariants as mark
 use Rattle.office_core.specs.declared.entry.Call.TheVariants as call
@@ -110,6 +109,11 @@ end_all k base m (e ∷ es) p s legal h off here =
     let still : status_of p next.day ≡ s = ap (λ (q : Permit). status_of q next.day) (sym here.0) ∙ (kept.1 ∙ (ap (λ (q : Permit). status_of q m.day) here.0 ∙ here.1)) in
     end_all k base next es p s legal.1 (omega (arith, one.0, h)) off (kept.0 ∙ here.0, still)
 
+-- the permit of a number is the same in both, and is the same on the day of each
+pub record StaysAsItIs (number : ℕ) (m next : Machine) : Type 0 where
+  pub permit : permit_of next.permits number ≡ permit_of m.permits number
+  pub status : status_of (permit_of m.permits number) next.day ≡ status_of (permit_of m.permits number) m.day
+
 pub ends_stay : (base : BaseLists) (day : List ℕ) (es more : List Entry) (number : ℕ) → IsLegal base day (es ++ more) → is_issued (machine_of base day es).permits number ≡ true
     → in_force (machine_of base day es).day (permit_of (machine_of base day es).permits number) ≡ false → StaysAsItIs number (machine_of base day es) (machine_of base day (es ++ more))
 ends_stay base day es more number legal here off =
@@ -117,15 +121,3 @@ ends_stay base day es more number legal here off =
     let h : number - 1 < length m.permits = grind (arith, nat_tests, here) in
     let later = end_all (number - 1) base m more p (status_of p m.day) (legal_later base (opened day) es more legal) h off (refl, refl) in
     subst (λ (n : Machine). StaysAsItIs number m n) (sym (after_all-append base (opened day) es more)) (record { permit = later.0; status = later.1 })
-
-not_live : (m : Mark) (last day : List ℕ) → m ≢ mark.Live → is_in_force (status_by m last day) ≡ false
-not_live mark.Live last day off = absurd (off refl)
-not_live (mark.Recalled v) last day off = refl
-not_live mark.Surrendered last day off = refl
-
--- so a mark other than `Live` stays
-pub marks_stay : (base : BaseLists) (day : List ℕ) (es more : List Entry) (number : ℕ) → IsLegal base day (es ++ more) → is_issued (machine_of base day es).permits number ≡ true → (permit_of (machine_of base day es).permits number).mark ≢ mark.Live
-    → (permit_of (machine_of base day (es ++ more)).permits number).mark ≡ (permit_of (machine_of base day es).permits number).mark
-marks_stay base day es more number legal here off =
-    let m = machine_of base day es in let p = permit_of m.permits number in
-    ap (λ (q : Permit). q.mark) (ends_stay base day es more number legal here (not_live p.mark p.last m.day off)).permit

@@ -12,10 +12,9 @@ use Rattle.trip_analysis.specs.Bases.{BaseLists}
 use Rattle.office_core.specs.declared.entry.Call.{Call}
 use Rattle.office_core.specs.declared.entry.Reply.{Reply}
 use Rattle.office_core.specs.declared.entry.Entry.{Entry}
-use Rattle.office_core.specs.Recalls.{fails, is_recalled, recalled_if}
+use Rattle.office_core.specs.Recalls.{InForceMeet, fails, is_recalled, recalled_if}
 use Rattle.office_core.specs.Replies.{day_reply}
 use Rattle.office_core.specs.Machine.{Machine, opened, version_of, state_in, reply_in, IsAnswer, with_permit, with_posting, with_day, with_surrender, after, after_entry, after_all, IsLegalFrom, IsLegal, machine_of}
-use Rattle.office_core.specs.Laws.{MeetsNow}
 use Rattle.permit_book.specs.declared.permit.Status.TheVariants as status
 use Rattle.permit_book.specs.declared.permit.Mark.TheVariants as mark
 use Rattle.office_core.specs.declared.entry.Call.TheVariants as call
@@ -24,10 +23,14 @@ use Rattle.office_core.proofs.DayOrders.{not_before}
 use Rattle.office_core.proofs.Lists.{pick, All-map, All-weaker}
 use Rattle.office_core.proofs.Replies.{IssuedMeets, apply_meets, none_fails}
 
+-- every permit in force meets what is in force on the roads
+abbrev pub MeetNow : BaseLists → Machine → Type 0
+MeetNow base m = InForceMeet base (state_in base m) m.day m.permits
+
 abbrev IsFine : BaseLists → InForce → List ℕ → Permit → Type 0
 IsFine base state day p = in_force day p ≡ true → fails base state p ≡ false
 
-issue_meets : (base : BaseLists) (m : Machine) (caller : ℕ) (a : Application) (seen : ℕ) (r : Reply) → MeetsNow base m → IssuedMeets base (state_in base m) a.truck r → MeetsNow base (with_permit m caller a seen r)
+issue_meets : (base : BaseLists) (m : Machine) (caller : ℕ) (a : Application) (seen : ℕ) (r : Reply) → MeetNow base m → IssuedMeets base (state_in base m) a.truck r → MeetNow base (with_permit m caller a seen r)
 issue_meets base m caller a seen (reply.Issued number v route) had e = All-append (IsFine base (state_in base m) m.day) m.permits _ had
     (All-cons (IsFine base (state_in base m) m.day) _ [] (λ _. none_fails base (state_in base m) a.truck route e) (All-nil (IsFine base (state_in base m) m.day)))
 issue_meets base m caller a seen _ had e = had
@@ -35,7 +38,7 @@ issue_meets base m caller a seen _ had e = had
 recalled_fine : (base : BaseLists) (state : InForce) (day : List ℕ) (v : ℕ) (p : Permit) → IsFine base state day (recalled_if base state day v p)
 recalled_fine base state day v p = pick (IsFine base state day) (is_recalled base state day p) (record p { mark = mark.Recalled v }) p (λ _ e. absurd (grind (arith, e))) (λ off on. grind (arith, off, on))
 
-post_meets : (base : BaseLists) (m : Machine) (change : Change) (r : Reply) → MeetsNow base m → MeetsNow base (with_posting base m change r)
+post_meets : (base : BaseLists) (m : Machine) (change : Change) (r : Reply) → MeetNow base m → MeetNow base (with_posting base m change r)
 post_meets base m change (reply.Posted v recalled) had = let state = state_of base.roads (m.postings ++ change ∷ []) in
     All-map (IsFine base (state_in base m) m.day) (IsFine base state m.day) (recalled_if base state m.day v) (λ p _. recalled_fine base state m.day v p) m.permits had
 post_meets base m change _ had = had
@@ -63,11 +66,11 @@ Advances kept _ = Unit {0}
 advances : (kept day : List ℕ) → Advances kept (day_reply kept day)
 advances kept day = pick (Advances kept) (is_before day kept) (reply.DayBack kept) (reply.DayIs day) (λ _. tt) (λ e. e)
 
-day_meets : (base : BaseLists) (m : Machine) (r : Reply) → MeetsNow base m → Advances m.day r → MeetsNow base (with_day m r)
+day_meets : (base : BaseLists) (m : Machine) (r : Reply) → MeetNow base m → Advances m.day r → MeetNow base (with_day m r)
 day_meets base m (reply.DayIs day) had h = All-weaker (IsFine base (state_in base m) m.day) (IsFine base (state_in base m) day) (λ p f on. f (earlier p.mark p.last m.day day h on)) m.permits had
 day_meets base m _ had h = had
 
-surrender_meets : (base : BaseLists) (m : Machine) (number : ℕ) (r : Reply) → MeetsNow base m → MeetsNow base (with_surrender m number r)
+surrender_meets : (base : BaseLists) (m : Machine) (number : ℕ) (r : Reply) → MeetNow base m → MeetNow base (with_surrender m number r)
 surrender_meets base m number reply.Surrendered had = All-set (IsFine base (state_in base m) m.day) m.permits _ _ (λ e. absurd (grind (arith, e))) had
 surrender_meets base m number _ had = had
 
@@ -84,7 +87,7 @@ pub day_advances : (base : BaseLists) (m : Machine) (caller : ℕ) (day : List �
 day_advances base m caller day r (inl g) = subst (Advances m.day) (sym g) (advances m.day day)
 day_advances base m caller day r (inr e) = subst (Advances m.day) (sym e.0) tt
 
-pub answer_meets : (base : BaseLists) (m : Machine) (caller : ℕ) (c : Call) (r : Reply) → IsAnswer base m caller c r → MeetsNow base m → MeetsNow base (after base m caller c r)
+pub answer_meets : (base : BaseLists) (m : Machine) (caller : ℕ) (c : Call) (r : Reply) → IsAnswer base m caller c r → MeetNow base m → MeetNow base (after base m caller c r)
 answer_meets base m caller call.Snapshot r answer had = had
 answer_meets base m caller (call.Submit a p) r answer had = issue_meets base m caller a p.seen r had (issued_meets base m a.truck r (reply_in base m a p.what) (apply_meets base m a p.what) answer)
 answer_meets base m caller (call.Held a) r answer had = issue_meets base m caller a (version_of m) r had (held_meets base m caller a r answer)
@@ -92,13 +95,6 @@ answer_meets base m caller (call.Post change) r answer had = post_meets base m c
 answer_meets base m caller (call.Day day) r answer had = day_meets base m r had (day_advances base m caller day r answer)
 answer_meets base m caller (call.Surrender number) r answer had = surrender_meets base m number r had
 answer_meets base m caller (call.Show number) r answer had = had
-
-pub all_meet : (base : BaseLists) (m : Machine) (es : List Entry) → IsLegalFrom base m es → MeetsNow base m → MeetsNow base (after_all base m es)
-all_meet base m [] legal had = had
-all_meet base m (e ∷ es) legal had = all_meet base (after_entry base m e) es legal.1 (answer_meets base m e.caller e.call e.reply legal.0.answer had)
-
-pub in_force_meets : (base : BaseLists) (day : List ℕ) (es : List Entry) → IsLegal base day es → MeetsNow base (machine_of base day es)
-in_force_meets base day es legal = all_meet base (opened day) es legal (All-nil (IsFine base (state_in base (opened day)) day))
 
 -- a permit that is in force is live
 mark_in_force : (m : Mark) (last day : List ℕ) → is_in_force (status_by m last day) ≡ true → is_live m ≡ true

@@ -36,9 +36,8 @@ IssuedAs base number (reply.Issued n version route) = (n ≡ number) × All (λ 
 IssuedAs base number _ = Unit {0}
 
 issued_as : (base : BaseLists) (m : Machine) (a : Application) (w : What) → (is_late m.day a ≡ false → is_free base a ≡ false → InRange base w) → IssuedAs base (length m.permits + 1) (reply_in base m a w)
-issued_as base m a w h = apply_found base (state_in base m) (version_of m) m.day (length m.permits + 1) a w (IssuedAs base (length m.permits + 1)) tt tt (λ early needed. record {
-  late = tt;
-  not_needed = tt;
+issued_as base m a w h = apply_found base (state_in base m) (version_of m) m.day (length m.permits + 1) a w (IssuedAs base (length m.permits + 1)) (λ _. tt) (λ _. tt) (λ early needed. record {
+  not_needed = λ _. tt;
   no_road = λ _ _ _. tt;
   now_fails = λ _ _ _ _. tt;
   issued = λ route e meets. (refl, subst (InRange base) e (h early needed));

@@ -19,9 +19,8 @@ IssuedMeets base state truck (reply.Issued number version route) = first_on base
 IssuedMeets base state truck _ = Unit {0}
 
 pub apply_meets : (base : BaseLists) (m : Machine) (a : Application) (w : What) → IssuedMeets base (state_in base m) a.truck (reply_in base m a w)
-apply_meets base m a w = apply_cases base (state_in base m) (version_of m) m.day (length m.permits + 1) a w (IssuedMeets base (state_in base m) a.truck) (record {
-  late = tt;
-  not_needed = tt;
+apply_meets base m a w = apply_cases base (state_in base m) (version_of m) m.day (length m.permits + 1) a w (IssuedMeets base (state_in base m) a.truck) tt tt (record {
+  not_needed = λ _. tt;
   no_road = λ _ _ _. tt;
   now_fails = λ _ _ _ _. tt;
   issued = λ route e meets. meets;

@@ -21,23 +21,28 @@ use Rattle.route_search.specs.declared.found.Found.TheVariants as found
 use Rattle.route_search.specs.Founds.{IsFound as IsSearched}
 use Rattle.trip_analysis.proofs.Found.{among_from_is_in, is_in_from_among}
 use Rattle.trip_analysis.proofs.Meanings.{asked_meet, routes_are_first}
-use Rattle.office_core.proofs.Replies.{first_or_none}
-
-walk_every : (segments : List Segment) (may : ℕ → Bool) (a b : ℕ) (path : List ℕ) → IsWalk segments may a b path → IsWalk segments every a b path
-walk_every segments may a b [] walk = walk
-walk_every segments may a b (i ∷ path) walk = let (s, at, may1, from, rest) = walk in (s, at, refl, from, walk_every segments may s.to b path rest)
-
--- a walk on which nothing fails is passable
-pub walk_now : (base : BaseLists) (state : InForce) (truck a b : ℕ) (path : List ℕ) → IsWalk base.roads.segments every a b path → first_on base state truck path ≡ None → IsWalk base.roads.segments (is_passable base state truck) a b path
-walk_now base state truck a b [] walk e = walk
-walk_now base state truck a b (i ∷ path) walk e =
-    let (s, at, may1, from, rest) = walk in
-    let both = first_or_none (limit_for base state truck i) i (first_on base state truck path) e in
-    (s, at, ap is_none both.0, from, walk_now base state truck s.to b path rest both.1)
+use Rattle.route_search.proofs.Outcomes.{to_every}
 
 -- what is found is not that nothing is needed
 found_by : (base : BaseLists) (state : InForce) (a : Application) (w : What) → (w ≡ what.NotNeeded → ⊥) → IsFinding base state a w → IsFoundBy base state a a.asked w
 found_by base state a w off h = elim (cases_Bool (needs_none base a.truck)) [ inl e ↦ absurd (off (h.legal e)) | inr e ↦ h.found e ]
+
+-- where a permit is needed, something is found
+pub is_needed : (base : BaseLists) (state : InForce) (a : Application) → needs_none base a.truck ≡ false → IsFinding base state a what.NotNeeded → ⊥
+is_needed base state a needed h = by a.asked (h.found needed)
+  where
+    searched : (f : Found) → what.NotNeeded ≡ what_of f → ⊥
+    searched (found.Route segments feet potential) same = cc
+    searched (found.Cut reached) same = cc
+    searched (found.NoRoad reached) same = cc
+
+    asked_by : (route : List ℕ) (f : Option Failing) → what.NotNeeded ≡ asked_finding f route → ⊥
+    asked_by route (Some f) is = cc
+    asked_by route None is = cc
+
+    by : (asked : Option (List ℕ)) → IsFoundBy base state a asked what.NotNeeded → ⊥
+    by (Some route) is = asked_by route (first_on base state a.truck route) is
+    by None is = let (f, is_found, same) = is in searched f same
 
 -- a route that is found is a walk of its trip
 pub route_walk : (base : BaseLists) (state : InForce) (a : Application) (route : List ℕ) → Sound base a → IsFinding base state a (what.Route route) → IsWalk base.roads.segments every a.from a.to route
@@ -45,7 +50,7 @@ route_walk base state a route sound h = by a.asked refl sound.asked
   where
     by : (asked : Option (List ℕ)) → a.asked ≡ asked → IsAskedWalk base.roads a.from a.to asked → IsWalk base.roads.segments every a.from a.to route
     by (Some list) is walk = subst (λ (l : List ℕ). IsWalk base.roads.segments every a.from a.to l) (sym (asked_meet base state a list route is h).0) walk
-    by None none walk = walk_every base.roads.segments (is_passable base state a.truck) a.from a.to route (routes_are_first base state a route none h).walk
+    by None none walk = to_every base.roads.segments (is_passable base state a.truck) a.from a.to route (routes_are_first base state a route none h).walk
 
 -- a segment that is found to fail is on the asked route
 pub record IsOnAsked (a : Application) (s : ℕ) : Type 0 where
@@ -60,13 +65,24 @@ later_or : (b c : Bool) → c ≡ true → (b || c) ≡ true
 later_or true c e = refl
 later_or false c e = e
 
-first_in : (base : BaseLists) (state : InForce) (truck : ℕ) (f : Failing) (route : List ℕ) → first_on base state truck route ≡ Some f → is_in f.segment route ≡ true
+pub first_in : (base : BaseLists) (state : InForce) (truck : ℕ) (f : Failing) (route : List ℕ) → first_on base state truck route ≡ Some f → is_in f.segment route ≡ true
 first_in base state truck f [] e = cc
 first_in base state truck f (s ∷ rest) e = by (limit_for base state truck s) e (first_in base state truck f rest)
   where
     by : (l : Option Limit) → first_or l s (first_on base state truck rest) ≡ Some f → (first_on base state truck rest ≡ Some f → is_in f.segment rest ≡ true) → is_in f.segment (s ∷ rest) ≡ true
     by (Some l) e again = let is : s ≡ f.segment = cc in here_or s f.segment (is_in f.segment rest) is
     by None e again = later_or (s == f.segment) (is_in f.segment rest) (again e)
+
+-- and the limit that is named is its first failing one
+pub first_limit : (base : BaseLists) (state : InForce) (truck : ℕ) (f : Failing) (route : List ℕ) → first_on base state truck route ≡ Some f → limit_for base state truck f.segment ≡ Some f.limit
+first_limit base state truck f [] e = cc
+first_limit base state truck f (s ∷ rest) e = by (limit_for base state truck s) refl e (first_limit base state truck f rest)
+  where
+    by : (l : Option Limit) → limit_for base state truck s ≡ l → first_or l s (first_on base state truck rest) ≡ Some f
+        → (first_on base state truck rest ≡ Some f → limit_for base state truck f.segment ≡ Some f.limit) → limit_for base state truck f.segment ≡ Some f.limit
+    by (Some l) is e again = let here : s ≡ f.segment = cc in let named : l ≡ f.limit = cc in
+        ap (limit_for base state truck) (sym here) ∙ (is ∙ ap (λ (x : Limit). Some x) named)
+    by None is e again = again e
 
 pub fails_asked : (base : BaseLists) (state : InForce) (a : Application) (s : ℕ) → IsFinding base state a (what.Fails s) → IsOnAsked a s
 fails_asked base state a s h = by a.asked refl (found_by base state a (what.Fails s) (λ e. cc) h)
@@ -118,6 +134,23 @@ cut_of base state a nodes h = by a.asked refl (found_by base state a (what.Cut n
     by (Some route) asked is = asked_by route (first_on base state a.truck route) is
     by None asked is = let (f, is_found, same) = is in searched asked f is_found same
 
+-- where a cut is found, some walk is there or none is
+pub road_or : (base : BaseLists) (state : InForce) (a : Application) (nodes : List ℕ) → IsFinding base state a (what.Cut nodes) → CanReach base.roads.segments every a.from a.to ⊎ (CanReach base.roads.segments every a.from a.to → ⊥)
+road_or base state a nodes h = by a.asked refl (found_by base state a (what.Cut nodes) (λ e. cc) h)
+  where
+    searched : (f : Found) → IsSearched base.roads (flags_of base state a.truck) a.from a.to f → what.Cut nodes ≡ what_of f → CanReach base.roads.segments every a.from a.to ⊎ (CanReach base.roads.segments every a.from a.to → ⊥)
+    searched (found.Route segments feet potential) is same = cc
+    searched (found.Cut reached) is same = inl is.walk
+    searched (found.NoRoad reached) is same = inr is.none
+
+    asked_by : (route : List ℕ) (f : Option Failing) → what.Cut nodes ≡ asked_finding f route → CanReach base.roads.segments every a.from a.to ⊎ (CanReach base.roads.segments every a.from a.to → ⊥)
+    asked_by route (Some f) is = cc
+    asked_by route None is = cc
+
+    by : (asked : Option (List ℕ)) → a.asked ≡ asked → IsFoundBy base state a asked (what.Cut nodes) → CanReach base.roads.segments every a.from a.to ⊎ (CanReach base.roads.segments every a.from a.to → ⊥)
+    by (Some route) asked is = asked_by route (first_on base state a.truck route) is
+    by None asked is = let (f, is_found, same) = is in searched f is_found same
+
 -- a walk out of nodes that no segment leaves stays in them
 stays_in : (segments : List Segment) (may : ℕ → Bool) (nodes : List ℕ) → ((i : ℕ) (s : Segment) → slice_get segments i ≡ Some s → may i ≡ true → is_in s.from nodes ≡ true → is_in s.to nodes ≡ true)
     → (a b : ℕ) (path : List ℕ) → IsWalk segments may a b path → is_in a nodes ≡ true → is_in b nodes ≡ true
@@ -140,7 +173,8 @@ meet_none : (b : Bool) (a : ℕ) (rest : Option ℕ) → (if b then Some a else 
 meet_none true a rest e = cc
 meet_none false a rest e = (refl, e)
 
-none_meets : (base : BaseLists) (state : InForce) (truck : ℕ) (f : ℕ → Bool) (a k : ℕ) → first_meeting base state truck (filter f (range_with_len a k)) ≡ None → (s : ℕ) → a ≤ s → s < a + k → f s ≡ true → is_passable base state truck s ≡ false
+-- where none of those that pass a test meets, each of them fails
+pub none_meets : (base : BaseLists) (state : InForce) (truck : ℕ) (f : ℕ → Bool) (a k : ℕ) → first_meeting base state truck (filter f (range_with_len a k)) ≡ None → (s : ℕ) → a ≤ s → s < a + k → f s ≡ true → is_passable base state truck s ≡ false
 none_meets base state truck f a zero e s low high on = absurd (omega (arith, low, high))
 none_meets base state truck f a (suc k) e s low high on = by (f a) refl e (cases_eq s a) (λ rest other. none_meets base state truck f (a + 1) k rest s (omega (arith, low, other)) (omega (arith, high)) on)
   where
@@ -150,6 +184,57 @@ none_meets base state truck f a (suc k) e s low high on = by (f a) refl e (cases
     by true fa e (inr other) again = again (meet_none (is_passable base state truck a) a (first_meeting base state truck (filter f (range_with_len (a + 1) k))) e).1 other
     by false fa e (inl same) again = absurd (false≢true (sym fa ∙ (ap f (sym same) ∙ on)))
     by false fa e (inr other) again = again e other
+
+-- the first of those that pass a test
+pub record IsFirst (f : ℕ → Bool) (a k s : ℕ) : Type 0 where
+  pub low : a ≤ s
+  pub high : s < a + k
+  pub passes : f s ≡ true
+  pub least : (j : ℕ) → a ≤ j → f j ≡ true → s ≤ j
+
+pub first_is : (f : ℕ → Bool) (a k s : ℕ) (rest : List ℕ) → filter f (range_with_len a k) ≡ s ∷ rest → IsFirst f a k s
+first_is f a zero s rest e = cc
+first_is f a (suc k) s rest e = by (f a) refl e (first_is f (a + 1) k s rest)
+  where
+    by : (b : Bool) → f a ≡ b → cond b (a ∷ filter f (range_with_len (a + 1) k)) (filter f (range_with_len (a + 1) k)) ≡ s ∷ rest
+        → (filter f (range_with_len (a + 1) k) ≡ s ∷ rest → IsFirst f (a + 1) k s) → IsFirst f a (suc k) s
+    by true fa e again = let is : a ≡ s = cc in record { low = omega (arith, is); high = omega (arith, is); passes = ap f (sym is) ∙ fa; least = λ j low on. omega (arith, is, low) }
+    by false fa e again = let later = again e in
+        record {
+          low = omega (arith, later.low);
+          high = omega (arith, later.high);
+          passes = later.passes;
+          least = λ j low on. elim (cases_eq j a) [
+            | inl same ↦ absurd (false≢true (sym fa ∙ (ap f (sym same) ∙ on)))
+            | inr other ↦ later.least j (omega (arith, low, other)) on
+          ];
+        }
+
+-- the first of them that meets
+pub record IsMeeting (base : BaseLists) (state : InForce) (truck : ℕ) (f : ℕ → Bool) (a k s : ℕ) : Type 0 where
+  pub low : a ≤ s
+  pub high : s < a + k
+  pub passes : f s ≡ true
+  pub meets : is_passable base state truck s ≡ true
+
+meet_some : (b : Bool) (a s : ℕ) (rest : Option ℕ) → (if b then Some a else rest) ≡ Some s → ((b ≡ true) × (a ≡ s)) ⊎ (rest ≡ Some s)
+meet_some true a s rest e = inl (refl, cc)
+meet_some false a s rest e = inr e
+
+pub meeting_is : (base : BaseLists) (state : InForce) (truck : ℕ) (f : ℕ → Bool) (a k s : ℕ) → first_meeting base state truck (filter f (range_with_len a k)) ≡ Some s → IsMeeting base state truck f a k s
+meeting_is base state truck f a zero s e = cc
+meeting_is base state truck f a (suc k) s e = by (f a) refl e (λ later. more (meeting_is base state truck f (a + 1) k s later))
+  where
+    more : IsMeeting base state truck f (a + 1) k s → IsMeeting base state truck f a (suc k) s
+    more h = record { low = omega (arith, h.low); high = omega (arith, h.high); passes = h.passes; meets = h.meets }
+
+    by : (b : Bool) → f a ≡ b → first_meeting base state truck (cond b (a ∷ filter f (range_with_len (a + 1) k)) (filter f (range_with_len (a + 1) k))) ≡ Some s
+        → (first_meeting base state truck (filter f (range_with_len (a + 1) k)) ≡ Some s → IsMeeting base state truck f a (suc k) s) → IsMeeting base state truck f a (suc k) s
+    by true fa e again = elim (meet_some (is_passable base state truck a) a s (first_meeting base state truck (filter f (range_with_len (a + 1) k))) e) [
+      | inl here ↦ record { low = omega (arith, here.1); high = omega (arith, here.1); passes = ap f (sym here.1) ∙ fa; meets = ap (is_passable base state truck) (sym here.1) ∙ here.0 }
+      | inr later ↦ again later
+    ]
+    by false fa e again = again e
 
 none_left : (f : ℕ → Bool) (a k : ℕ) → filter f (range_with_len a k) ≡ [] → (s : ℕ) → a ≤ s → s < a + k → f s ≡ true → ⊥
 none_left f a zero e s low high on = omega (arith, low, high)

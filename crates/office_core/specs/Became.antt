@@ -1,0 +1,61 @@
+-- What became of permits, in words of the entries.
+use Rattle.std.specs.Prelude.{◌≡◌, ℕ, true, false, Some}
+use Rattle.permit_days.specs.Days.{is_before}
+use Rattle.permit_book.specs.declared.permit.Mark.{Mark}
+use Rattle.permit_book.specs.declared.permit.Mark.TheVariants as mark
+use Rattle.trip_analysis.specs.declared.application.Application.{Application}
+use Rattle.trip_analysis.specs.Findings.{is_in}
+use Rattle.office_core.specs.declared.entry.Call.{Call}
+use Rattle.office_core.specs.declared.entry.Call.TheVariants as call
+use Rattle.office_core.specs.declared.entry.Reply.TheVariants as reply
+use Rattle.office_core.specs.Offices.{entry}
+use Rattle.office_core.specs.Happened.{Day, History, Numbers, Route, Stands, application_in, day_after}
+
+-- the entry behind these issues the permit of this number
+abbrev pub IssuesAt : History → ℕ → History → Type 0
+IssuesAt es n at =
+    (by : ℕ) × (c : Call) × (v : ℕ) × (route : Route) × Stands es at (entry by c (reply.Issued n v route))
+
+-- the permit of this number was issued to this caller
+abbrev pub WasIssuedTo : History → ℕ → ℕ → Type 0
+WasIssuedTo es n by = (at : History) × (c : Call) × (v : ℕ) × (route : Route)
+    × Stands es at (entry by c (reply.Issued n v route))
+
+-- the permit of this number was issued for this trip and this route
+abbrev pub WasIssuedFor : History → ℕ → Application → Route → Type 0
+WasIssuedFor es n trip route = (at : History) × (by : ℕ) × (c : Call) × (v : ℕ)
+    × (application_in c ≡ Some trip) × Stands es at (entry by c (reply.Issued n v route))
+
+-- the entry behind these is the posting of this version, and it recalls the permit
+abbrev pub RecallsAs : History → ℕ → History → ℕ → Type 0
+RecallsAs es n at v = (by : ℕ) × (c : Call) × (ns : Numbers) × (is_in n ns ≡ true)
+    × Stands es at (entry by c (reply.Posted v ns))
+
+-- the entry behind these is a posting that recalls it
+abbrev pub RecallsAt : History → ℕ → History → Type 0
+RecallsAt es n at = (v : ℕ) × RecallsAs es n at v
+
+-- by the entry behind these it is given back
+abbrev pub SurrendersAt : History → ℕ → History → Type 0
+SurrendersAt es n at = (by : ℕ) × Stands es at (entry by (call.Surrender n) reply.Surrendered)
+
+-- no entry recalls it, and by none it is given back
+pub record IsNotEnded (es : History) (n : ℕ) : Type 0 where
+  pub not_recalled : (at : History) → RecallsAt es n at → ⊥
+  pub not_surrendered : (at : History) → SurrendersAt es n at → ⊥
+
+-- a permit is in force: it was issued, it was neither recalled nor given back, and its last day is not before
+-- the day
+pub record IsInForce (day : Day) (es : History) (n : ℕ) : Type 0 where
+  pub trip : Application
+  pub route : Route
+  pub issued : WasIssuedFor es n trip route
+  pub stands : IsNotEnded es n
+  pub not_expired : is_before trip.last (day_after day es) ≡ false
+
+-- the mark of a permit says what became of it: nothing yet, or that the posting of a version recalled it, or
+-- that it was given back
+abbrev pub IsMarkOf : History → ℕ → Mark → Type 0
+IsMarkOf es n mark.Live = IsNotEnded es n
+IsMarkOf es n (mark.Recalled v) = (at : History) × RecallsAs es n at v
+IsMarkOf es n mark.Surrendered = (at : History) × SurrendersAt es n at

@@ -1,0 +1,132 @@
+-- What is so where an application is answered, in words of the entries before the answer.
+use Rattle.std.specs.Prelude.{◌≡◌, ℕ, ◌+◌, ◌<◌, ◌≤◌, true, false, ◌∷◌, ◌++◌, length, All}
+use Rattle.std.specs.Prelude.{Option, Some, None}
+use Rattle.restriction_log.specs.States.{InForce}
+use Rattle.clearance_rules.specs.Loads.{IsLegal}
+use Rattle.clearance_rules.specs.declared.limit.Limit.{Limit}
+use Rattle.clearance_rules.specs.Failing.{Fails, segment_of}
+use Rattle.permit_days.specs.Days.{is_before}
+use Rattle.trip_analysis.specs.Bases.{BaseLists, truck_of}
+use Rattle.trip_analysis.specs.declared.application.Application.{Application}
+use Rattle.trip_analysis.specs.declared.finding.Proposal.{Proposal}
+use Rattle.trip_analysis.specs.declared.finding.What.{What}
+use Rattle.trip_analysis.specs.declared.finding.What.TheVariants as what
+use Rattle.trip_analysis.specs.Findings.{is_in, limit_for}
+use Rattle.office_core.specs.declared.entry.Call.{Call}
+use Rattle.office_core.specs.declared.entry.Call.TheVariants as call
+use Rattle.office_core.specs.declared.entry.Cause.{Cause}
+use Rattle.office_core.specs.declared.entry.Cause.TheVariants as cause
+use Rattle.office_core.specs.Clearances.{MeetsTruck}
+use Rattle.office_core.specs.Passages.{IsPassableWalk, IsRoadWalk, IsShortest, LeadsOut}
+use Rattle.office_core.specs.Happened.{Day, History, Route, application_in, day_after, issued_in}
+use Rattle.office_core.specs.Happened.{seen_by, state_after, state_at_version, state_seen, version_after}
+
+-- a route was found for a trip: the asked one, each segment of which met the truck, or, where none was
+-- asked for, the first of the shortest passable walks
+abbrev pub WasFound : BaseLists → InForce → Application → Route → Option Route → Type 0
+WasFound base before a route (Some asked) = (route ≡ asked) × All (MeetsTruck base before a.truck) asked
+WasFound base before a route None = IsShortest base before a.truck a.from a.to route
+
+-- a permit has the next number and names the current version. Its route is a walk of the trip, each segment
+-- of which meets the truck in the state of that version. It was found in the state of the version seen. The
+-- truck is not legal without a permit, and the trip does not begin before the day
+pub record TruePermit (base : BaseLists) (day : Day) (front : History) (c : Call) (n v : ℕ) (route : Route)
+    : Type 0 where
+  pub trip : Application
+  pub asked : application_in c ≡ Some trip
+  pub number : n ≡ issued_in front + 1
+  pub version : v ≡ version_after front
+  pub walk : IsPassableWalk base (state_after base front) trip.truck trip.from trip.to route
+  pub found : WasFound base (state_seen base front c) trip route trip.asked
+  pub needed : IsLegal (truck_of base trip.truck).load → ⊥
+  pub on_time : is_before trip.first (day_after day front) ≡ false
+
+-- the limit is the first failing one of a segment that is there, in the order of closed, height, width,
+-- length, gross weight, groups of axles, and the spans by moment and shear; and its two sides are those
+-- that fail
+pub record IsFirstLimit (base : BaseLists) (state : InForce) (truck : ℕ) (l : Limit) : Type 0 where
+  pub there : segment_of l < length base.roads.segments
+  pub first : limit_for base state truck (segment_of l) ≡ Some l
+  pub fails : Fails base.roads state (truck_of base truck).load l
+
+-- the segment is the first on the route that failed the truck
+pub record FailedFirst (base : BaseLists) (state : InForce) (truck s : ℕ) (route : Route) : Type 0 where
+  pub front : Route
+  pub back : Route
+  pub parts : route ≡ front ++ s ∷ back
+  pub before : All (MeetsTruck base state truck) front
+  pub failed : MeetsTruck base state truck s → ⊥
+
+-- no passable walk of the trip is there, though some walk is. The segment has the least number of those that
+-- led out of all that the truck reached from its start before, and each of these fails the truck now
+pub record IsShutIn (base : BaseLists) (before now : InForce) (a : Application) (s : ℕ) : Type 0 where
+  pub road : (route : Route) × IsRoadWalk base a.from a.to route
+  pub none : (route : Route) → IsPassableWalk base now a.truck a.from a.to route → ⊥
+  pub out : LeadsOut base before a.truck a.from s
+  pub least : (k : ℕ) → LeadsOut base before a.truck a.from k → s ≤ k
+  pub all_fail : (k : ℕ) → LeadsOut base before a.truck a.from k → MeetsTruck base now a.truck k → ⊥
+
+-- a failing segment stands in the way of a trip: of an asked route it was the first that failed when the
+-- answer was found; where none is asked for, the truck is shut in
+abbrev pub StandsInTheWay : BaseLists → InForce → InForce → Application → ℕ → Option Route → Type 0
+StandsInTheWay base before now a s (Some route) = FailedFirst base before a.truck s route
+StandsInTheWay base before now a s None = IsShutIn base before now a s
+
+-- a refusal names the current version, and the first failing limit then of a segment that stands in the way
+pub record TrueRefusal (base : BaseLists) (front : History) (c : Call) (v : ℕ) (l : Limit) : Type 0 where
+  pub trip : Application
+  pub asked : application_in c ≡ Some trip
+  pub version : v ≡ version_after front
+  pub limit : IsFirstLimit base (state_after base front) trip.truck l
+  pub stands : StandsInTheWay base (state_seen base front c) (state_after base front) trip (segment_of l)
+      trip.asked
+
+-- where it is said that there is no road, no walk of the trip is there, whatever is posted
+pub record TrueNoRoad (base : BaseLists) (c : Call) : Type 0 where
+  pub trip : Application
+  pub asked : application_in c ≡ Some trip
+  pub none : (route : Route) → IsRoadWalk base trip.from trip.to route → ⊥
+
+-- a segment of the route that was proposed met the truck then, and now this is its first failing limit
+pub record FailsSince (base : BaseLists) (before now : InForce) (truck : ℕ) (w : What) (l : Limit) : Type 0
+  where
+    pub route : Route
+    pub proposed : w ≡ what.Route route
+    pub on : is_in (segment_of l) route ≡ true
+    pub met : MeetsTruck base before truck (segment_of l)
+    pub limit : IsFirstLimit base now truck l
+
+-- a segment failed the truck then, and meets it now
+pub record MeetsSince (base : BaseLists) (before now : InForce) (truck s : ℕ) : Type 0 where
+  pub there : s < length base.roads.segments
+  pub failed : MeetsTruck base before truck s → ⊥
+  pub meets : MeetsTruck base now truck s
+
+-- what was proposed does not hold any more
+abbrev pub HasChanged : BaseLists → InForce → InForce → ℕ → What → Cause → Type 0
+HasChanged base before now truck w (cause.NowFails l) = FailsSince base before now truck w l
+HasChanged base before now truck w (cause.NowMeets s) = MeetsSince base before now truck s
+
+-- only a proposal is out of date. It was found for an earlier version than the current one, which is named,
+-- and what made it false since is so
+pub record TrueOutdated (base : BaseLists) (front : History) (c : Call) (v : ℕ) (why : Cause) : Type 0 where
+  pub trip : Application
+  pub proposal : Proposal
+  pub asked : c ≡ call.Submit trip proposal
+  pub version : v ≡ version_after front
+  pub later : proposal.seen < v
+  pub changed : HasChanged base (state_at_version base front proposal.seen) (state_after base front)
+      trip.truck proposal.what why
+
+-- a trip is late where it begins before the day, which is named
+pub record TrueLate (day : Day) (front : History) (c : Call) (named : Day) : Type 0 where
+  pub trip : Application
+  pub asked : application_in c ≡ Some trip
+  pub today : named ≡ day_after day front
+  pub begins : is_before trip.first named ≡ true
+
+-- a truck needs no permit where it is legal
+pub record TrueNotNeeded (base : BaseLists) (c : Call) : Type 0 where
+  pub trip : Application
+  pub asked : application_in c ≡ Some trip
+  pub legal : IsLegal (truck_of base trip.truck).load
