@@ -1,10 +1,7 @@
 ghost use Rattle.std.specs.Prelude.{◌≡◌, ◌<◌, length, IfOk};
 ghost use Rattle.restriction_log.specs.States.{AreOf};
 
-use crate::{
-    Limit, Load, Range, Steps, first_failing, limits_are_of_their_segment,
-    states_are_of_their_network,
-};
+use crate::{Limit, Load, Range, Steps, first_failing, limits_are_of_their_segment};
 use axle_limits::WorstGroup;
 use axle_train::{Axle, Train};
 use hs20_truck::Live;
@@ -393,7 +390,6 @@ fn judges_spans_by_both_effects(rt: HostRuntime) -> Result<(), Fail> {
     };
     assert_eq!(rt; limit_after(&rt, rt.alloc(), &load, &[change])?, None);
     limits_are_of_their_segment();
-    states_are_of_their_network();
     Ok(())
 }
 

@@ -1,6 +1,6 @@
 ghost use Rattle.std.specs.Prelude.{◌≡◌, length, IfOk};
 
-use crate::{Change, Log, PostRefusal, State, takes, touched};
+use crate::{Change, Log, PostRefusal, State, states_are_of_their_network, takes, touched};
 use office_io::Name;
 use road_graph::{Network, Values};
 use std::alloc::Global;
@@ -288,6 +288,7 @@ fn replaces_one_value_at_each_posting(rt: HostRuntime) -> Result<(), Fail> {
     assert_eq!(rt; state.rating(0), 1_000);
     assert_eq!(rt; state.rating(1), 750);
     assert_eq!(rt; state.rating(2), 500);
+    states_are_of_their_network();
     Ok(())
 }
 
