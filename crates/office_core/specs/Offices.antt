@@ -13,6 +13,7 @@ use Rattle.office_core.specs.declared.entry.Entry.{Entry}
 use Rattle.office_core.specs.declared.office.Office.TheInside.{Inside}
 use Rattle.office_core.specs.Replies.{is_full}
 use Rattle.office_core.specs.Machine.{IsLegal, Machine, Step, machine_at, machine_of}
+use Rattle.office_core.specs.Clearances.{AreTrains}
 
 -- what the office is about, the day on which it opened, the most entries that its history may hold, and the history
 pub record Opened : Type 0 where
@@ -39,6 +40,7 @@ grown o e = record o { history = o.history ++ e ∷ [] }
 -- entries that are still to come
 pub record IsOffice (o : Inside) : Type 0 where
   pub roads : IsRoads (arc_value o.base).roads
+  pub trains : AreTrains (arc_value o.base)
   pub legal : IsLegal (arc_value o.base) o.opening o.history.items
   pub machine : machine_of (arc_value o.base) o.opening o.history.items ≡ machine_at o.log o.book o.day
   pub state : o.state ≡ state_of (arc_value o.base).roads o.log

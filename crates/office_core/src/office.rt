@@ -9,9 +9,11 @@ ghost use Rattle.trip_analysis.specs.Known.{AreKnown};
 ghost use Rattle.permit_book.specs.Permits.{is_issued, permit_of};
 ghost use Rattle.office_core.specs.Machine.{IsAnswer, IsGood, IsLegal, MayAsk, after, machine_at, state_in, version_of};
 ghost use Rattle.office_core.specs.Offices.{Stepped, machine_in};
+ghost use Rattle.office_core.specs.Promises.{KeepsPromises};
 
 use crate::applying::{answer_held, answer_submit};
 use crate::entry::{Call, Entry, Reply};
+use crate::laws::trains;
 use crate::permits::{answer_day, answer_show, answer_surrender};
 use crate::posting::answer_post;
 use clearance_rules::Steps;
@@ -67,8 +69,9 @@ impl Office {
         requires bounded { most ≤ 1000000 }
         ensures { IfOk result (λ o. o ≡ record { base = arc_value base; opening = day; most = most; history = [] }) }
     {
-        // the network tells that its lists are in order
+        // the network tells that its lists are in order, and the fleet that its axles are trains
         let _segments = base.network().segments();
+        trains(&base);
         let state = State::base(alloc, base.network())?;
         let analyst = Analyst::new(alloc, &base)?;
         let log = Log::start(alloc, base.network())?;
@@ -117,10 +120,11 @@ impl Office {
         told
     }
 
-    /// The entries so far. Takes no memory.
+    /// The entries so far, which keep all that every legal history promises. Takes no memory.
     pub fn history(&self) -> &[Entry]
         ensures entries { result.now ≡ self.now.history }
         ensures legal { IsLegal self.now.base self.now.opening self.now.history }
+        ensures promises { KeepsPromises self.now.base self.now.opening self.now.history }
         ensures callers { All (λ e. e.caller < 65536) self.now.history }
     {
         self.history.as_slice()

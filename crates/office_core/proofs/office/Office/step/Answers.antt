@@ -33,6 +33,7 @@ invariant_of-self g c = let i = c.self.inside in let inv = c.self.invariant in l
     let longer : length c.push_reserved.new.self.items ≡ length i.history.items + 1 = ap length c.push_reserved.ensures.items ∙ omega (arith, length-append i.history.items (e ∷ [])) in
     record {
       roads = inv.roads;
+      trains = inv.trains;
       legal = s.legal;
       machine = s.machine;
       state = search rules;
