@@ -5,6 +5,8 @@ use Rattle.influence_line.specs.Fractions.{Ratio}
 use Rattle.influence_line.specs.Placed.{Load}
 use Rattle.influence_line.specs.Peaks.{IsTrainPlaced, IsHs20Placed}
 use Rattle.influence_line.proofs.Unique.{moment_unique, shear_unique}
+use Rattle.moment_peak.proofs.PeakOfPlaces.{peak_moment_is}
+use Rattle.shear_peak.proofs.PeakOfPlaces.{peak_shear_is}
 use Rattle.span_rating.specs.declared.loading.Effects.{Effects}
 use Rattle.span_rating.specs.Loading.{AreEffects}
 use Rattle.hs20_truck.specs.Design.{design_axles}
@@ -12,16 +14,13 @@ use Rattle.hs20_truck.specs.Effects.{effects_of, design_of}
 use Rattle.hs20_truck.specs.Laws.{EffectsAreThePeaks, DesignIsThePeaks, EffectsAreOne, DesignIsOne}
 use Rattle.hs20_truck.proofs.Spacing.{moment_of_all}
 use Rattle.hs20_truck.proofs.Ends.{shear_of_all}
-use Rattle.hs20_truck.proofs.PeakOfRuns.{moment_is_peak, moment_is_small}
-use Rattle.hs20_truck.proofs.PeakOfEnds.{shear_is_peak, shear_is_small}
 
 pub effects_are_the_peaks : EffectsAreThePeaks
 unfolding effects_of
-effects_are_the_peaks axles span train some long = record {
-  moment = moment_is_peak axles span some long train;
-  shear = shear_is_peak axles span some long train;
-  small = record { moment = moment_is_small axles span some long train; shear = shear_is_small axles span some long train };
-}
+effects_are_the_peaks axles span train some long =
+    let moment = peak_moment_is axles span train some long in
+    let shear = peak_shear_is axles span train some long in
+    record { moment = moment.peak; shear = shear.peak; small = record { moment = moment.small; shear = shear.small } }
 
 -- the peaks of the truck with the smallest second spacing are those of all spacings
 pub of_all_spacings : (span : ℕ) (e : Effects) → AreEffects (IsTrainPlaced design_axles) span e → AreEffects IsHs20Placed span e

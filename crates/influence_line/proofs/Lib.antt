@@ -7,3 +7,8 @@ pub mod Products
 pub mod Unique
 pub mod Moves
 pub mod ReactionLines
+pub mod Greatest
+pub mod LowestTerms
+pub mod Members
+pub mod Leads
+pub mod Values

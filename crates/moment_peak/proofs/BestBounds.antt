@@ -1,6 +1,6 @@
 -- No placement exceeds the best run, and at its own vertex each run has at least its value.
 use Rattle.std.proofs.Common.{◌≡◌, ℕ, ◌+◌, ◌-◌, ◌*◌, ◌<◌, ◌≤◌, List, [], ◌∷◌, length, take, drop, arith, refl, ap, ◌∙◌, ℤ, pos, ◌+ℤ◌, ◌-ℤ◌, inl, inr, length-drop, length-take, get_or-drop, get_or-take}
-use Rattle.std.proofs.Math.Nat.{mul-le-mul_left, le_of_mul-le-mul_right, eq_of_mul-eq-mul_right, mul-sub, mul-pos, add-zero, sub-zero, mul_comm}
+use Rattle.std.proofs.Math.Nat.{mul-le-mul_left, le_of_mul-le-mul_right, mul-sub, mul-pos, add-zero, sub-zero, mul_comm}
 use Rattle.std.proofs.lemmas.Bool.{cases_lt}
 use Rattle.std.proofs.lemmas.Int.{ints}
 use Rattle.std.proofs.lemmas.List.Sums.{sum_by-take-le, sum_by-take-drop, get_or-le-sum_by}
@@ -110,10 +110,6 @@ vertex_reaches span axles k first last h =
     let part = under_run (under_of (2 * R) v u place) axles first (last + 1 - first) in
     let share_sums = rw (total_is weight_of middle, total_is (front_of place) middle, total_is (back_of place) middle) at share in
     (omega arith, lower_from R D E v u _ (omega (arith, share_sums, true_moment, part)))
-
--- a moment by another fraction of the same value
-pub cancel_den : (M n d num den Q : ℕ) → num * d ≡ n * den → 0 < d → M * d ≡ n * Q → M * den ≡ num * Q
-cancel_den M n d num den Q e p h = eq_of_mul-eq-mul_right d p (M * den) (num * Q) (omega (arith, ap (λ t. t * den) h, ap (λ t. t * Q) e))
 
 -- the run of the first axle alone
 pub first_weight : (axles : List Axle) → 0 < length axles → run_weight axles 0 0 ≡ (axle_at axles 0).weight

@@ -18,3 +18,4 @@ pub mod Small
 pub mod Finer
 pub mod Scale
 pub mod OnePeak
+pub mod PeakOfPlaces

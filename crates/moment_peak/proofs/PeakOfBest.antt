@@ -1,15 +1,15 @@
 -- The best run's value is the peak moment.
-use Rattle.std.proofs.Common.{◌≡◌, ℕ, ◌*◌, ◌<◌, ◌≤◌, List, arith, refl, ap}
-use Rattle.std.proofs.Math.Nat.{mul-le-mul_right, le_of_mul-le-mul_right, mul-pos}
+use Rattle.std.proofs.Common.{ℕ, ◌*◌, ◌<◌, List, arith, refl}
+use Rattle.std.proofs.Math.Nat.{mul-pos}
 use Rattle.axle_train.specs.declared.axle.Axle.{Axle}
 use Rattle.axle_train.specs.Bounds.{IsTrain}
 use Rattle.axle_train.specs.Trains.{axle_at}
-use Rattle.influence_line.specs.Placed.{placed, Load}
+use Rattle.influence_line.specs.Placed.{placed}
 use Rattle.influence_line.specs.Peaks.{IsPeakMoment, IsTrainPlaced}
 use Rattle.moment_peak.specs.declared.best.Candidate.{Candidate}
 use Rattle.moment_peak.specs.Runs.{run_weight}
 use Rattle.moment_peak.specs.Candidates.{IsAttained, IsBest}
-use Rattle.moment_peak.proofs.BestBounds.{cancel_den, greatest, lead_at, run_loaded}
+use Rattle.moment_peak.proofs.BestBounds.{greatest, lead_at, run_loaded}
 use Rattle.moment_peak.proofs.FirstSoFar.{best_peaks}
 use Rattle.moment_peak.proofs.SamePlace.{peak_place}
 
@@ -26,17 +26,4 @@ peak_of_best span axles best some train a is_best =
       some = mul-pos (mul-pos four a.loaded) some;
       reached = (2 * R, place.v, placed (2 * R) lead axles, omega arith, place.on, (lead, refl), place.reaches);
       greatest = λ q section loads h k is_placed. rw is_placed.1 (greatest span axles best train is_best q section is_placed.0 h k);
-    }
-
-cancel_den-le : (M n d num den Q : ℕ) → num * d ≡ n * den → 0 < d → M * d ≤ n * Q → M * den ≤ num * Q
-cancel_den-le M n d num den Q e p h = le_of_mul-le-mul_right {m = M * den} {n = num * Q} {k = d} (omega (arith, mul-le-mul_right den h, ap (λ t. t * Q) e)) p
-
--- a peak is one by every fraction of its value
-pub peak_reduced : (Allowed : ℕ → List Load → Type 0) (span n d num den : ℕ) → 1 ≤ den → num * d ≡ n * den → IsPeakMoment Allowed span n d → IsPeakMoment Allowed span num den
-peak_reduced Allowed span n d num den some e h =
-    let r = h.reached in
-    record {
-      some = some;
-      reached = (r.0, r.1, r.2, r.3, r.4, r.5, cancel_den _ n d num den _ e h.some r.6);
-      greatest = λ q section loads a b c. cancel_den-le _ n d num den _ e h.some (h.greatest q section loads a b c);
     }

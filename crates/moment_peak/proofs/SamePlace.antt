@@ -15,7 +15,8 @@ use Rattle.moment_peak.specs.Runs.{run, front_in, back_in, run_weight, run_momen
 use Rattle.moment_peak.specs.Candidates.{IsAttained, IsBest}
 use Rattle.moment_peak.specs.Vertices.{IsVertex, Reaches}
 use Rattle.moment_peak.specs.Firsts.{IsPeakRun, HaveOneCentre, IsAtPeak}
-use Rattle.moment_peak.proofs.BestBounds.{lead_at, vertex_reaches, greatest, cancel_den, inside_left, run_loaded}
+use Rattle.influence_line.proofs.Values.{cancel_den}
+use Rattle.moment_peak.proofs.BestBounds.{lead_at, vertex_reaches, greatest, inside_left, run_loaded}
 use Rattle.moment_peak.proofs.BySums.{balance_in}
 use Rattle.moment_peak.proofs.Finer.{moment_scaled}
 use Rattle.moment_peak.proofs.Small.{under_from}

@@ -1,8 +1,9 @@
 -- The search for the first vertex that reaches the peak: its run has the centre of weight of a run that can be on the span and makes the greatest moment.
-use Rattle.std.specs.Prelude.{◌≡◌, ℕ, ◌+◌, ◌*◌, ◌≤◌, List}
+use Rattle.std.specs.Prelude.{◌≡◌, ℕ, ◌+◌, ◌*◌, ◌<◌, ◌≤◌, List}
 use Rattle.axle_train.specs.declared.axle.Axle.{Axle}
 use Rattle.moment_peak.specs.declared.best.Candidate.{Candidate}
 use Rattle.moment_peak.specs.declared.first.Vertex.{Vertex}
+use Rattle.moment_peak.specs.declared.run.Run.{Run}
 use Rattle.moment_peak.specs.declared.run.Sums.{Sums}
 use Rattle.moment_peak.specs.Runs.{run_weight, run_moment, run_value, IsRun, CanBeOnSpan}
 use Rattle.moment_peak.specs.Sweeps.{AreSums}
@@ -43,6 +44,20 @@ pub record IsAtPeak (span : ℕ) (axles : List Axle) (best : Candidate) (found :
   pub is_run : IsRun axles found.axle found.first found.last
   pub sums : AreSums axles found.first (found.last + 1) found.sums
   pub centre : HaveOneCentre axles found.first found.last first last
+
+-- found comes before each vertex with the centre of this run, or is it, where the run makes the greatest moment
+abbrev pub IsFirstOfRun : ℕ → List Axle → Candidate → Run → Vertex → Type 0
+IsFirstOfRun span axles best run found =
+    (k first last : ℕ) → IsPeakRun span axles best k run.first run.last → IsRun axles k first last
+    → HaveOneCentre axles first last run.first run.last → IsNoLater k first last found
+
+-- no run from first with axle k has the centre of these sums; and none that ends before some axle has
+abbrev pub NoneHasCentre : List Axle → ℕ → ℕ → Sums → Type 0
+NoneHasCentre axles k first centre = (last : ℕ) → IsRun axles k first last → HasCentre axles first last centre → ⊥
+
+abbrev pub NoneBeforeHasCentre : List Axle → ℕ → ℕ → ℕ → Sums → Type 0
+NoneBeforeHasCentre axles k first end centre =
+    (last : ℕ) → k ≤ last → last < end → HasCentre axles first last centre → ⊥
 
 -- found comes before each vertex with the centre of such a run, or is it, where the sum of the run's first and last is below end
 abbrev pub IsFirstBefore : ℕ → List Axle → Candidate → ℕ → Vertex → Type 0

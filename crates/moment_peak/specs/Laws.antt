@@ -7,11 +7,15 @@ use Rattle.influence_line.specs.Peaks.{IsPeakMoment, IsTrainPlaced}
 use Rattle.moment_peak.specs.Vertices.{IsFirstPlace}
 use Rattle.moment_peak.specs.declared.MomentPeak.{MomentPeak}
 
+-- the place, the axle and the run of a peak moment are those of the first vertex that reaches it
+abbrev pub IsAtFirstVertex : List Axle → ℕ → MomentPeak → Type 0
+IsAtFirstVertex axles span m = IsFirstPlace axles span m.value.num m.value.den m.axle m.first m.last m.place
+
 -- a peak moment: reached and exceeded by no placement, in lowest terms, with the first vertex that reaches it
 pub record IsMomentPeak (axles : List Axle) (span : ℕ) (m : MomentPeak) : Type 0 where
   pub peak : IsPeakMoment (IsTrainPlaced axles) span m.value.num m.value.den
   pub lowest : IsLowest m.value
-  pub first : IsFirstPlace axles span m.value.num m.value.den m.axle m.first m.last m.place
+  pub first : IsAtFirstVertex axles span m
 
 -- a train has one peak moment on a span
 abbrev pub MomentPeakIsOne : Type 0

@@ -1,6 +1,7 @@
 -- The runs that can be the axles on the span, one after another, with the sums of each.
-use Rattle.std.specs.Prelude.{◌≡◌, ℕ, ◌+◌, ◌-◌, ◌≤◌, List, take, drop}
+use Rattle.std.specs.Prelude.{◌≡◌, ℕ, ◌+◌, ◌-◌, ◌<◌, ◌≤◌, List, length, take, drop}
 use Rattle.axle_train.specs.declared.axle.Axle.{Axle}
+use Rattle.axle_train.specs.Trains.{spread}
 use Rattle.moment_peak.specs.declared.run.Sums.{Sums}
 use Rattle.moment_peak.specs.declared.run.Run.{Run}
 use Rattle.moment_peak.specs.Runs.{weight_in, moment_in, CanBeOnSpan}
@@ -24,3 +25,7 @@ IsNext span axles run next = (first last : ℕ) → CanBeOnSpan span axles first
 -- run is the last of these runs
 abbrev pub IsLast : ℕ → List Axle → Run → Type 0
 IsLast span axles run = (first last : ℕ) → CanBeOnSpan span axles first last → first + last ≤ run.first + run.last
+
+-- the axle behind the run, if there is one, does not fit on the span with it
+abbrev pub IsFull : ℕ → List Axle → Run → Type 0
+IsFull span axles run = run.last + 1 < length axles → span < spread axles run.first (run.last + 1)

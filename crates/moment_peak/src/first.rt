@@ -3,7 +3,7 @@
 ghost use Rattle.std.specs.Prelude.{◌≡◌, ℕ, ◌+◌, ◌*◌, ◌<◌, ◌≤◌, ◌^◌, ◌⊎◌, length, IfNone, IfSome};
 ghost use Rattle.axle_train.specs.Bounds.{IsTrain};
 ghost use Rattle.moment_peak.specs.Candidates.{IsAttained, IsBest};
-ghost use Rattle.moment_peak.specs.Firsts.{HasCentre, HaveOneCentre, IsAtPeak, IsFirstCentre, IsFirstOfAll, IsPeakRun, IsNoLater};
+ghost use Rattle.moment_peak.specs.Firsts.{HasCentre, IsAtPeak, IsFirstCentre, IsFirstOfAll, IsFirstOfRun, IsNoLater, NoneBeforeHasCentre, NoneHasCentre};
 ghost use Rattle.moment_peak.specs.Runs.{IsRun};
 ghost use Rattle.moment_peak.specs.Sweeps.{AreSums, IsOnSpan};
 
@@ -50,8 +50,7 @@ fn with_run(train: &Train, span: u32, best: Candidate, run: Run, found: Vertex) 
     requires found { IsAtPeak span train.now best found }
     ensures found { IsAtPeak span train.now best result }
     ensures kept { (k first last : ℕ) → IsNoLater k first last found → IsNoLater k first last result }
-    ensures met { (k first last : ℕ) → IsPeakRun span train.now best k run.first run.last → IsRun train.now k first last
-        → HaveOneCentre train.now first last run.first run.last → IsNoLater k first last result }
+    ensures met { IsFirstOfRun span train.now best run result }
 {
     if found.axle < run.first {
         return found;
@@ -110,8 +109,8 @@ fn first_last(train: &Train, k: usize, first: usize, centre: Sums) -> Option<Ver
     ensures is_run { IfSome result (λ found. IsRun train.now k first found.last) }
     ensures sums { IfSome result (λ found. AreSums train.now first (found.last + 1) found.sums) }
     ensures centre { IfSome result (λ found. HasCentre train.now first found.last centre) }
-    ensures first { IfSome result (λ found. (last : ℕ) → k ≤ last → last < found.last → HasCentre train.now first last centre → ⊥) }
-    ensures none { IfNone result ((last : ℕ) → IsRun train.now k first last → HasCentre train.now first last centre → ⊥) }
+    ensures first { IfSome result (λ found. NoneBeforeHasCentre train.now k first found.last centre) }
+    ensures none { IfNone result (NoneHasCentre train.now k first centre) }
 {
     let len = train.len();
     let mut sums = Sums::none();

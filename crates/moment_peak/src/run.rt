@@ -3,7 +3,7 @@
 ghost use Rattle.std.specs.Prelude.{◌≡◌, ℕ, ◌+◌, ◌*◌, ◌-◌, ◌<◌, ◌≤◌, length, IfNone, IfSome};
 ghost use Rattle.axle_train.specs.Bounds.{IsTrain};
 ghost use Rattle.axle_train.specs.Trains.{axle_at, spread};
-ghost use Rattle.moment_peak.specs.Sweeps.{AreSums, IsLast, IsNext, IsOnSpan};
+ghost use Rattle.moment_peak.specs.Sweeps.{AreSums, IsFull, IsLast, IsNext, IsOnSpan};
 
 use axle_train::{Axle, Train};
 
@@ -131,7 +131,7 @@ impl Run {
     fn without_first(self, train: &Train, span: u32) -> Run
         requires on { IsOnSpan span train.now self }
         requires longer { self.first < self.last }
-        requires full { self.last + 1 < length train.now → span < spread train.now self.first (self.last + 1) }
+        requires full { IsFull span train.now self }
         ensures on { IsOnSpan span train.now result }
         ensures first { result.first ≡ self.first + 1 }
         ensures last { result.last ≡ self.last }

@@ -1,5 +1,5 @@
 -- The places with one axle of a train exactly at a support, among which the peak end shear is found.
-use Rattle.std.specs.Prelude.{◌≡◌, ℕ, ◌*◌, ◌<◌, ◌≤◌, List, length, ℤ, pos, neg_ℤ, ◌-ℤ◌}
+use Rattle.std.specs.Prelude.{◌≡◌, ℕ, ◌*◌, ◌<◌, ◌≤◌, List, length, slice_index, ℤ, pos, neg_ℤ, ◌-ℤ◌}
 use Rattle.axle_train.specs.declared.axle.Axle.{Axle}
 use Rattle.axle_train.specs.Trains.{axle_at}
 use Rattle.influence_line.specs.Placed.{placed}
@@ -15,6 +15,11 @@ lead_to span Right place = pos span -ℤ pos place
 -- the reaction at an end with axle k at the support there, in pounds times the span
 abbrev pub reaction_to : List Axle → ℕ → End → ℕ → ℕ
 reaction_to axles span end k = reaction_sum (1 * span) end (placed 1 (lead_to span end (axle_at axles k).place) axles)
+
+-- these are the reactions with each axle in turn at the support there
+abbrev pub AreReactionsTo : List Axle → ℕ → End → List ℕ → Type 0
+AreReactionsTo axles span end reactions =
+    (k : ℕ) → k < length axles → slice_index reactions k ≡ reaction_to axles span end k
 
 -- axle k is the first whose reaction at this end, with itself at the support, is the greatest
 pub record IsFirstBest (axles : List Axle) (span : ℕ) (end : End) (k value : ℕ) : Type 0 where

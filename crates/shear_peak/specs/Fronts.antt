@@ -1,6 +1,7 @@
 -- Running sums over the first axles of a train.
-use Rattle.std.specs.Prelude.{◌≡◌, ◌*◌, ◌≤◌, List, length, sum_by, take}
+use Rattle.std.specs.Prelude.{◌≡◌, ℕ, ◌+◌, ◌*◌, ◌<◌, ◌≤◌, List, length, sum_by, take}
 use Rattle.axle_train.specs.declared.axle.Axle.{Axle}
+use Rattle.axle_train.specs.Trains.{axle_at}
 use Rattle.shear_peak.specs.declared.reactions.Front.{Front}
 
 -- the sums are those of so many first axles, and are bounded by that number of the heaviest and furthest ones
@@ -10,3 +11,17 @@ pub record IsFront (axles : List Axle) (front : Front) : Type 0 where
   pub moment : front.moment ≡ sum_by (λ a. a.weight * a.place) (take front.axles axles)
   pub light : front.weight ≤ 200000 * front.axles
   pub small : front.moment ≤ 600000000 * front.axles
+
+-- the first n axles stand before a place; all others stand there or behind it
+abbrev pub StandBefore : List Axle → ℕ → ℕ → Type 0
+StandBefore axles n place = (i : ℕ) → i < n → (axle_at axles i).place < place
+
+abbrev pub StandFrom : List Axle → ℕ → ℕ → Type 0
+StandFrom axles n place = (i : ℕ) → n ≤ i → i < length axles → place ≤ (axle_at axles i).place
+
+-- with axle k at the right support, the first n axles stand at the left one or left of it; all others stand right of it
+abbrev pub AreOff : List Axle → ℕ → ℕ → ℕ → Type 0
+AreOff axles span k n = (i : ℕ) → i < n → (axle_at axles i).place + span ≤ (axle_at axles k).place
+
+abbrev pub AreOn : List Axle → ℕ → ℕ → ℕ → Type 0
+AreOn axles span k n = (i : ℕ) → n ≤ i → i < length axles → (axle_at axles k).place < (axle_at axles i).place + span

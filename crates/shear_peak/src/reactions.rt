@@ -5,8 +5,8 @@ ghost use Rattle.std.specs.Prelude.{◌≡◌, ℕ, ◌+◌, ◌*◌, ◌<◌, �
 ghost use Rattle.axle_train.specs.Bounds.{IsTrain};
 ghost use Rattle.axle_train.specs.Trains.{axle_at};
 ghost use Rattle.influence_line.specs.declared.placing.End.TheVariants.{Left, Right};
-ghost use Rattle.shear_peak.specs.Ends.{reaction_to};
-ghost use Rattle.shear_peak.specs.Fronts.{IsFront};
+ghost use Rattle.shear_peak.specs.Ends.{AreReactionsTo, reaction_to};
+ghost use Rattle.shear_peak.specs.Fronts.{AreOff, AreOn, IsFront, StandBefore, StandFrom};
 
 use axle_train::Train;
 use influence_line::End;
@@ -30,7 +30,7 @@ const NONE: Front = Front {
 pub(crate) fn reactions_at(train: &Train, span: u32, end: End) -> [u64; 32]
     requires some { 1 ≤ span }
     requires long { span ≤ 6000 }
-    ensures { (k : ℕ) → k < length train.now → slice_index result k ≡ reaction_to train.now span end k }
+    ensures { AreReactionsTo train.now span end result }
 {
     match end {
         End::Left => left_reactions(train, span),
@@ -43,7 +43,7 @@ pub(crate) fn reactions_at(train: &Train, span: u32, end: End) -> [u64; 32]
 fn left_reactions(train: &Train, span: u32) -> [u64; 32]
     requires some { 1 ≤ span }
     requires long { span ≤ 6000 }
-    ensures { (k : ℕ) → k < length train.now → slice_index result k ≡ reaction_to train.now span Left k }
+    ensures { AreReactionsTo train.now span Left result }
 {
     let mut reactions = [0; 32];
     let mut before = NONE;
@@ -62,7 +62,7 @@ fn left_reactions(train: &Train, span: u32) -> [u64; 32]
 fn right_reactions(train: &Train, span: u32) -> [u64; 32]
     requires some { 1 ≤ span }
     requires long { span ≤ 6000 }
-    ensures { (k : ℕ) → k < length train.now → slice_index result k ≡ reaction_to train.now span Right k }
+    ensures { AreReactionsTo train.now span Right result }
 {
     let mut reactions = [0; 32];
     let mut before = NONE;
@@ -86,8 +86,8 @@ fn left_reaction(train: &Train, span: u32, k: usize, before: Front, through: Fro
     requires before { IsFront train.now before }
     requires through { IsFront train.now through }
     requires first { before.axles ≡ k }
-    requires on { (i : ℕ) → i < through.axles → (axle_at train.now i).place < (axle_at train.now k).place + span }
-    requires past { (i : ℕ) → through.axles ≤ i → i < length train.now → (axle_at train.now k).place + span ≤ (axle_at train.now i).place }
+    requires on { StandBefore train.now through.axles ((axle_at train.now k).place + span) }
+    requires past { StandFrom train.now through.axles ((axle_at train.now k).place + span) }
     ensures { result ≡ reaction_to train.now span Left k }
 {
     let reach = u64::from(train.axle(k).place + span);
@@ -103,8 +103,8 @@ fn right_reaction(train: &Train, span: u32, k: usize, before: Front, through: Fr
     requires before { IsFront train.now before }
     requires through { IsFront train.now through }
     requires last { through.axles ≡ k + 1 }
-    requires off { (i : ℕ) → i < before.axles → (axle_at train.now i).place + span ≤ (axle_at train.now k).place }
-    requires on { (i : ℕ) → before.axles ≤ i → i < length train.now → (axle_at train.now k).place < (axle_at train.now i).place + span }
+    requires off { AreOff train.now span k before.axles }
+    requires on { AreOn train.now span k before.axles }
     ensures { result ≡ reaction_to train.now span Right k }
 {
     let place = u64::from(train.axle(k).place);
@@ -116,10 +116,10 @@ fn right_reaction(train: &Train, span: u32, k: usize, before: Front, through: Fr
 /// The axles in front of the first one whose place is at least `reach`, which are `front` and more.
 fn front_of(train: &Train, reach: u32, front: Front) -> Front
     requires front { IsFront train.now front }
-    requires near { (i : ℕ) → i < front.axles → (axle_at train.now i).place < reach }
+    requires near { StandBefore train.now front.axles reach }
     ensures front { IsFront train.now result }
-    ensures near { (i : ℕ) → i < result.axles → (axle_at train.now i).place < reach }
-    ensures past { (i : ℕ) → result.axles ≤ i → i < length train.now → reach ≤ (axle_at train.now i).place }
+    ensures near { StandBefore train.now result.axles reach }
+    ensures past { StandFrom train.now result.axles reach }
 {
     let mut found = front;
     for i in front.axles..train.len() {

@@ -9,6 +9,19 @@ use Rattle.span_rating.specs.declared.judgement.Fit.TheVariants.{Fits, Moment, S
 abbrev pub IsWithin : ℕ → Ratio → Ratio → Type 0
 IsWithin rating effect design = 1000 * effect.num * design.den ≤ rating * design.num * effect.den
 
+-- both effects are within the rating
+abbrev pub AreWithin : ℕ → Effects → Effects → Type 0
+AreWithin rating truck design = IsWithin rating truck.moment design.moment × IsWithin rating truck.shear design.shear
+
+-- the moment is over the rating
+abbrev pub IsMomentOver : ℕ → Effects → Effects → Type 0
+IsMomentOver rating truck design = IsWithin rating truck.moment design.moment → ⊥
+
+-- the moment is within the rating, and the shear is over it
+abbrev pub IsShearAloneOver : ℕ → Effects → Effects → Type 0
+IsShearAloneOver rating truck design =
+    IsWithin rating truck.moment design.moment × (IsWithin rating truck.shear design.shear → ⊥)
+
 -- the judgement: the moment is over its rating, or else the shear is, or else the span carries the truck
 abbrev pub fit_of : Effects → Effects → ℕ → Fit
 fit_of truck design rating =

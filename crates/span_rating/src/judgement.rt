@@ -3,7 +3,7 @@
 ghost use Rattle.std.specs.Prelude.{◌≡◌, ◌≤◌, ◌↔◌, IsTrue};
 ghost use Rattle.influence_line.specs.Fractions.{IsSmall};
 ghost use Rattle.span_rating.specs.Loading.{AreSmall};
-ghost use Rattle.span_rating.specs.Judgement.{IsWithin, fit_of};
+ghost use Rattle.span_rating.specs.Judgement.{AreWithin, IsMomentOver, IsShearAloneOver, IsWithin, fit_of};
 ghost use Rattle.span_rating.specs.Laws.{FitIsOfThePeaks};
 
 use crate::loading::Effects;
@@ -24,9 +24,9 @@ pub fn fits(truck: &Effects, design: &Effects, rating: u32) -> Fit
     requires design { AreSmall design.now }
     requires rating { rating ≤ 100000 }
     ensures computed { result ≡ fit_of truck.now design.now rating }
-    ensures fits { (result ≡ Fit.Fits) ↔ (IsWithin rating truck.now.moment design.now.moment × IsWithin rating truck.now.shear design.now.shear) }
-    ensures moment { (result ≡ Fit.Moment) ↔ (IsWithin rating truck.now.moment design.now.moment → ⊥) }
-    ensures shear { (result ≡ Fit.Shear) ↔ (IsWithin rating truck.now.moment design.now.moment × (IsWithin rating truck.now.shear design.now.shear → ⊥)) }
+    ensures fits { (result ≡ Fit.Fits) ↔ AreWithin rating truck.now design.now }
+    ensures moment { (result ≡ Fit.Moment) ↔ IsMomentOver rating truck.now design.now }
+    ensures shear { (result ≡ Fit.Shear) ↔ IsShearAloneOver rating truck.now design.now }
 {
     if !is_within(&truck.moment, &design.moment, rating) {
         return Fit::Moment;

@@ -1,12 +1,11 @@
--- A fraction over its greatest common divisor is in lowest terms, and has the same value.
-use Rattle.std.proofs.Common.{◌≡◌, ℕ, zero, suc, ◌%◌, ◌<◌, ◌≤◌, ◌^◌, ◌&&◌, eqb, arith, ◌∙◌, inl, inr}
+-- A fraction over its greatest common divisor is in lowest terms, and has the same value; no fraction of that value has lesser terms.
+use Rattle.std.proofs.Common.{◌≡◌, ℕ, zero, suc, ◌%◌, ◌≤◌, ◌&&◌, eqb, arith, ◌∙◌, inl, inr}
 use Rattle.std.specs.Int.{IsGcd}
-use Rattle.std.proofs.Math.Nat.{div-le_self}
 use Rattle.std.proofs.lemmas.Bool.{cases_Bool, cases_lt, and_parts, and_from, both_ways, eqb-true, eq-eqb, cond-true, cond-false}
 use Rattle.std.proofs.lemmas.Nat.Gcd.{dvd_of_mod-eq-zero, mod-eq-zero_of_dvd, le_from_IsGcd, le_of_dvd}
-use Rattle.influence_line.specs.Fractions.{Ratio, IsRatio, IsSmall}
+use Rattle.influence_line.specs.Fractions.{Ratio, IsLowest, IsRatio}
 use Rattle.influence_line.proofs.Lowest.{gcd_pos, gcd_quotients, has_gcd, quotient_some, same_ratio}
-use Rattle.hs20_truck.specs.Effects.{greatest_divisor, lowest_of}
+use Rattle.influence_line.specs.Greatest.{greatest_divisor, lowest_of}
 
 -- the greatest number that divides both is found from any number up that is no less
 found : (a b n g : ℕ) → IsGcd a b g → 1 ≤ g → g ≤ n → greatest_divisor a b n ≡ g
@@ -43,18 +42,9 @@ pub lowest_same : (f : Ratio) → 1 ≤ f.den → IsRatio (lowest_of f) f.num f.
 unfolding lowest_of
 lowest_same f some = same_ratio f.num f.den (greatest_divisor f.num f.den f.den) (is_gcd f.num f.den some)
 
-pub lowest_some : (f : Ratio) → 1 ≤ f.den → 1 ≤ (lowest_of f).den
+pub lowest_is : (f : Ratio) → 1 ≤ f.den → IsLowest (lowest_of f)
 unfolding lowest_of
-lowest_some f some = quotient_some f.num f.den (greatest_divisor f.num f.den f.den) (is_gcd f.num f.den some) some
-
--- it has the size of a peak where the fraction has
-pub lowest_small : (f : Ratio) → 1 ≤ f.den → f.num < 2 ^ 68 → f.den < 2 ^ 36 → IsSmall (lowest_of f)
-unfolding lowest_of
-lowest_small f some num den =
+lowest_is f some =
     let divisor = greatest_divisor f.num f.den f.den in
     let gcd = is_gcd f.num f.den some in
-    record {
-      lowest = record { some = lowest_some f some; coprime = gcd_quotients f.num f.den divisor gcd some };
-      num = omega (arith, num, div-le_self f.num divisor);
-      den = omega (arith, den, div-le_self f.den divisor);
-    }
+    record { some = quotient_some f.num f.den divisor gcd some; coprime = gcd_quotients f.num f.den divisor gcd some }

@@ -5,7 +5,7 @@ use Rattle.std.proofs.Math.Nat.{mul-le-mul_left, le_of_mul-le-mul_right}
 use Rattle.std.proofs.lemmas.Bool.{cases_Bool, cases_lt, and_parts, and_from, leb-true, le-leb, cond-true, cond-false}
 use Rattle.std.proofs.lemmas.List.Elements.{All-contains, All-from_recursion, Contains-append_right}
 use Rattle.influence_line.specs.Fractions.{Ratio}
-use Rattle.hs20_truck.specs.Effects.{greatest, ratio_le}
+use Rattle.influence_line.specs.Greatest.{greatest, ratio_le}
 
 -- a fraction is no more than another
 abbrev pub IsNoMore : Ratio → Ratio → Type 0
