@@ -1,29 +1,29 @@
 // A study that keeps the effects that it has once computed.
 
 ghost use Rattle.std.specs.Prelude.{◌≡◌, ◌≤◌};
-ghost use Rattle.hs20_truck.specs.Kept.{IsStudyOf};
 
+use crate::live::study_of;
 use axle_train::Train;
 use span_rating::{SpanStudy, Study};
 use std::alloc::{AllocError, Global};
 use std::marker::Model;
 
-// The effects on spans of one length.
-#[derive(Clone, Copy, Debug, Drop)]
-struct KeptStudy {
-    inches: u32,
-    study: Study,
-}
-
-/// The study of one train that keeps the effects on spans of the lengths that it was told, and computes those on any other.
-///
-/// Contracts see the axles of its train alone: what it keeps is what it would compute.
+/// The study of one train that keeps the effects on spans of the lengths that it was told to keep, and computes those on
+/// any other. What it answers does not depend on what it keeps, and contracts see the axles of its train alone.
 #[derive(Drop)]
 pub struct Kept {
     train: Train,
-    // for each length the place where its effects may stand
-    places: Vec<u16>,
-    studies: Vec<KeptStudy>,
+    // For each length in inches, where its effects may stand among those kept. A length that is not kept has 0, the number
+    // of another one, so this is a hint, and the length that stands there decides.
+    numbers: Vec<u16>,
+    studies: Vec<LengthStudy>,
+}
+
+// The effects on spans of one length.
+#[derive(Clone, Copy, Debug, Drop)]
+struct LengthStudy {
+    inches: u32,
+    study: Study,
 }
 
 impl Model for Kept {
@@ -46,34 +46,31 @@ impl Kept {
     {
         Kept {
             train,
-            places: Vec::new(alloc),
+            numbers: Vec::new(alloc),
             studies: Vec::new(alloc),
         }
     }
 
-    /// Whether it keeps nothing. Takes no memory.
-    pub fn is_empty(&self) -> bool {
-        self.studies.is_empty()
-    }
-
-    /// Keeps the effects on spans of `inches` from now on.
+    /// Keeps the effects on spans of `inches` from now on, which it computes unless it keeps them already. Where no memory
+    /// is found it keeps what it kept.
     pub fn keep(&mut self, inches: u32) -> Result<(), AllocError>
         requires some { 1 ≤ inches }
         requires long { inches ≤ 6000 }
         ensures { self.new ≡ self.old }
     {
-        let place = place_of(&self.places, inches);
-        if place < self.studies.len() && self.studies[place].inches == inches {
+        let number = number_of(&self.numbers, inches);
+        if number < self.studies.len() && self.studies[number].inches == inches {
             return Ok(());
         }
-        let place = self.studies.len();
-        if place > 60000 {
+        // Each of the 6,000 lengths is kept once, so there is always room for one more.
+        let next = self.studies.len();
+        if next > 6000 {
             return Ok(());
         }
-        let study = computed(&self.train, inches);
-        self.places.resize(6001, 0)?;
-        self.studies.push(KeptStudy { inches, study })?;
-        self.places[inches as usize] = place as u16;
+        let study = study_of(&self.train, inches);
+        self.numbers.resize(6001, 0)?;
+        self.studies.push(LengthStudy { inches, study })?;
+        self.numbers[inches as usize] = next as u16;
         Ok(())
     }
 }
@@ -82,31 +79,19 @@ impl SpanStudy for Kept {
     ghost axles = { λ k. k };
 
     fn of(&self, inches: u32) -> Study {
-        let place = place_of(&self.places, inches);
+        let number = number_of(&self.numbers, inches);
         let studies = &self.studies;
-        if place < studies.len() && studies[place].inches == inches {
-            return studies[place].study;
+        if number < studies.len() && studies[number].inches == inches {
+            return studies[number].study;
         }
-        computed(&self.train, inches)
+        study_of(&self.train, inches)
     }
 }
 
-// What a study has where it keeps nothing.
-fn computed(train: &Train, inches: u32) -> Study
-    requires some { 1 ≤ inches }
-    requires long { inches ≤ 6000 }
-    ensures { IsStudyOf train.now inches result }
-{
-    Study {
-        truck: crate::effects_of(train, inches),
-        design: crate::effects(inches),
-    }
-}
-
-// The place where the effects on spans of this length stand, if they are kept.
-fn place_of(places: &[u16], inches: u32) -> usize {
-    match places.get(inches as usize) {
-        Some(place) => *place as usize,
+// The number of the study on spans of this length, if it is kept.
+fn number_of(numbers: &[u16], inches: u32) -> usize {
+    match numbers.get(inches as usize) {
+        Some(number) => *number as usize,
         None => 0,
     }
 }

@@ -139,6 +139,42 @@ mod tests {
     }
 
     #[test]
+    fn a_kept_study_answers_as_the_tables_do(rt: HostRuntime) -> Result<(), Fail> {
+        let mut study = Kept::new(rt.alloc(), truck());
+        // Each length is asked before it is kept, when its number is still that of another one, and again once it is
+        // kept; then it is kept a second time.
+        let cases = [
+            (240, 1920000, 41600),
+            (360, 3385600, 49600),
+            (480, 5397600, 55200),
+            (1200, 18287040, 65280),
+        ];
+        for (inches, moment, shear) in cases {
+            assert!(rt; 1 <= inches && inches <= 6000);
+            for _ in 0..2 {
+                let found = study.of(inches);
+                let (truck, design) = (found.truck, found.design);
+                assert_eq!(rt;
+                    (truck.moment.num(), truck.moment.den()),
+                    (moment, 1),
+                    "on {inches}"
+                );
+                assert_eq!(rt;
+                    (truck.shear.num(), truck.shear.den()),
+                    (shear, 1),
+                    "on {inches}"
+                );
+                assert_eq!(rt; truck, design, "on {inches}");
+                study.keep(inches)?;
+            }
+        }
+        // What was kept first is still there, and a length that was never kept is computed.
+        assert_eq!(rt; study.of(240).truck.moment.num(), 1920000);
+        assert_eq!(rt; study.of(6000).truck.moment.num(), 104649408);
+        Ok(())
+    }
+
+    #[test]
     fn a_study_has_the_truck_and_the_design(rt: HostRuntime) -> Result<(), Fail> {
         // 32 axles of 62,500 lb, 96 inches apart but for the last one, which stands at 3,000.
         let mut axles = [Axle {
@@ -152,14 +188,18 @@ mod tests {
             };
         }
         let train = Train::new(&axles)?;
-        let study = Live { train: &train }.of(6000);
-        let (truck, design) = (study.truck, study.design);
+        let live = Live { train: &train }.of(6000);
+        let mut kept = Kept::new(rt.alloc(), train.clone()?);
+        kept.keep(6000)?;
+        let kept = kept.of(6000);
+        let (truck, design) = (live.truck, live.design);
         assert_eq!(rt; (truck.moment.num(), truck.moment.den()), (17851584375, 8));
         assert_eq!(rt; (truck.shear.num(), truck.shear.den()), (1503750, 1));
         assert_eq!(rt; (design.moment.num(), design.moment.den()), (104649408, 1));
         assert_eq!(rt; (design.shear.num(), design.shear.den()), (70656, 1));
-        assert_eq!(rt; fits(&truck, &design, 21323), Fit::Moment);
-        assert_eq!(rt; fits(&truck, &design, 21324), Fit::Fits);
+        assert_eq!(rt; (kept.truck, kept.design), (truck, design));
+        assert_eq!(rt; fits(&kept.truck, &kept.design, 21323), Fit::Moment);
+        assert_eq!(rt; fits(&kept.truck, &kept.design, 21324), Fit::Fits);
         Ok(())
     }
 }

@@ -29,6 +29,7 @@ use std::sync::ledger::{Blank, Ledger};
 #[derive(Drop)]
 pub struct Known {
     study: Kept,
+    is_studied: bool,
     is_flagged: bool,
     flags: Vec<bool>,
     is_settled: bool,
@@ -132,7 +133,7 @@ fn find_known<L: Ledger>(
     if base.fleet()[truck as usize].load.legal() {
         return Ok(What::NotNeeded);
     }
-    learn(base.network(), &mut known.study)?;
+    learn(base.network(), &mut known.study, &mut known.is_studied)?;
     match application.asked() {
         Some(route) => find_asked(alloc, base, state, truck, &known.study, route, &mut steps),
         None => {
@@ -237,16 +238,17 @@ fn write_flag(network: &Network, known: &mut Known, segment: u32, passable: bool
     }
 }
 
-// Keeps the effects on each span, where none are kept yet.
-fn learn(network: &Network, study: &mut Kept) -> Result<(), NoMemory>
+// Keeps the effects on each span, where that was not done yet.
+fn learn(network: &Network, study: &mut Kept, is_studied: &mut bool) -> Result<(), NoMemory>
     ensures { study.new ≡ study.old }
 {
-    if !study.is_empty() {
+    if *is_studied {
         return Ok(());
     }
     for span in 0..network.spans() {
         study.keep(network.span(span).inches)?;
     }
+    *is_studied = true;
     Ok(())
 }
 
@@ -258,6 +260,7 @@ fn unknown(alloc: Global, base: &Base, truck: u32) -> Result<Known, NoMemory>
     let train = train_of(base, truck).clone()?;
     Ok(Known {
         study: Kept::new(alloc, train),
+        is_studied: false,
         is_flagged: false,
         flags: Vec::new(alloc),
         is_settled: false,
