@@ -17,7 +17,7 @@ use Rattle.std.specs.Prelude.{All, Any}
 use Rattle.std.proofs.lemmas.List.{get_or_default}
 use Rattle.atomic_table.specs.declared.shared.Seat.{Seat}
 use Rattle.atomic_table.proofs.Lists.{at_index}
-use Rattle.office_turn.specs.Told.{Rooted, rooted}
+use Rattle.office_turn.specs.Told.{HasReceipt, Rooted, rooted}
 use Rattle.office_turn.proofs.Places.{read_at}
 
 -- the item at a place within the list
@@ -37,7 +37,7 @@ pub record Accounts {V E T : Type 0} (caller : E → ℕ) (story : V → List E)
   pub own : All (λ r. entries_of caller r.number (story x) ≡ r.own) root.receipts
   pub room : length (story x) ≤ root.lock.most
   pub callers : All (λ e. caller e < root.admitted) (story x)
-  pub others : All (λ e. Any (λ r. caller e ≡ r.number) root.receipts) (story x)
+  pub others : All (λ e. HasReceipt root.receipts (caller e)) (story x)
   pub worn : All (λ r. r.worn ≡ true → length (story x) ≡ root.lock.most) root.receipts
 
 pub accounts_of : {V E T : Type 0} (caller : E → ℕ) (story : V → List E) (terms : V → T) (root root₂ : Rooted E T) (x y : V) → root ≡ root₂ → x ≡ y → Accounts caller story terms root x → Accounts caller story terms root₂ y
@@ -77,7 +77,7 @@ module _ {V E T : Type 0} (caller : E → ℕ) (story : V → List E) (terms : V
           own = all_of (λ y. entries_of caller y.number (story x) ≡ y.own) v.receipts (λ i y there. ap (entries_of caller y.number) t.3 ∙ sym (r.receipts i y (same_receipts i y there)).own);
           room = omega (arith, ap {B = ℕ} length t.3, r.count, r.tickets.ordered, r.bounded, f.most, r.most_is);
           callers = all_of (λ e. caller e < v.admitted) (story x) (λ k e there. omega (arith, low k e there, is_root.2));
-          others = all_of (λ e. Any (λ y. caller e ≡ y.number) v.receipts) (story x) (λ k e there.
+          others = all_of (λ e. HasReceipt v.receipts (caller e)) (story x) (λ k e there.
               let u = some_at s.views (caller e + 1) (omega (arith, r.numbers.places, low k e there)) in
               let gone : u.0.is_spent ≡ true = bool_cases u.0.is_spent (λ e. e) (λ alive. absurd (alone (caller e + 1) u.0 u.1 (λ same. absurd (omega (arith, is_root.0))) alive)) in
               let h = r.numbers.heard (caller e + 1) u.0 u.1 gone in any_of (λ y. caller e ≡ y.number) v.receipts h.0 h.1 (ap (λ l. get_elem? l h.0) is_root.3 ∙ h.2) (omega (arith, h.3)));

@@ -1,5 +1,5 @@
 -- What contracts see of a lock, its root, its passes and the value that is held.
-use Rattle.std.specs.Prelude.{◌≡◌, ℕ, ◌+◌, ◌<◌, ◌≤◌, Bool, true, false, List, [], ◌∷◌, ◌++◌, Option, Some, None, length, drop}
+use Rattle.std.specs.Prelude.{◌≡◌, ℕ, ◌+◌, ◌<◌, ◌≤◌, Bool, true, false, List, [], ◌∷◌, ◌++◌, Option, Some, None, length, drop, Any}
 use Rattle.atomic_table.specs.Seated.{TableId}
 use Rattle.atomic_table.specs.declared.shared.Seat.{Seat}
 use Rattle.office_turn.specs.Story.{longer_of}
@@ -40,6 +40,10 @@ lock_of table terms most = record { table = table; terms = Some terms; most = mo
 -- the lock that a seat's view names
 abbrev pub lock_at : {E T : Type 0} → TableId → View E T → Lock T
 lock_at table v = record { table = table; terms = v.terms; most = v.most }
+
+-- one of the receipts has this number
+abbrev pub HasReceipt : {E : Type 0} → List (Receipt E) → ℕ → Type 0
+HasReceipt receipts number = Any (λ r. number ≡ r.number) receipts
 
 module _ {V E T : Type 0} where
   abbrev pub passing : Seat (Option V) (View E T) → Passing E T
@@ -91,6 +95,10 @@ module _ {E T : Type 0} where
   -- the pass was answered `Worn`: it is marked, and all else stands
   abbrev pub after_worn : Passing E T → Passing E T
   after_worn p = record p { worn = true }
+
+  -- a pass is answered `Worn` with so many turns: they are the most of its lock, and it is marked
+  abbrev pub IsToldWorn : Lock T → Passing E T → Passing E T → ℕ → Type 0
+  IsToldWorn lock old new turns = (turns ≡ lock.most) × (new ≡ after_worn old)
 
   -- the pass holds no turn and has seen the whole story, and what is new in the story is its own
   abbrev pub after_pass_on : Passing E T → List E → Passing E T

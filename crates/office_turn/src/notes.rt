@@ -1,6 +1,6 @@
 //! A value under a turn, and a caller that takes turns with it, as the crates above write theirs. The tests run both.
 ghost use Rattle.std.specs.Prelude.{◌≡◌, ◌<◌, ◌≤◌, false, [], ◌∷◌, ◌++◌, Some, length, vec_capacity, IfOk, IfErr, OnOk};
-ghost use Rattle.office_turn.specs.Told.{after_worn};
+ghost use Rattle.office_turn.specs.Told.{IsToldWorn};
 
 use crate::pass::Pass;
 use crate::story::Storied;
@@ -56,7 +56,7 @@ pub fn note_once<R: Wait>(
     requires tied { turn.now.terms ≡ Some turn.now.most }
     requires idle { pass.old.holds ≡ false }
     ensures own { OnOk result (pass.new.own ≡ pass.old.own ++ (pass.old.number, number) ∷ []) }
-    ensures worn { IfErr result (λ worn. (pass.new ≡ after_worn pass.old) × (worn.turns ≡ turn.now.most)) }
+    ensures worn { IfErr result (λ worn. IsToldWorn turn.now pass.old pass.new worn.turns) }
     ensures same { (pass.new.lock ≡ pass.old.lock)
         × (pass.new.number ≡ pass.old.number) × (pass.new.holds ≡ false) }
 {

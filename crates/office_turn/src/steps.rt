@@ -1,6 +1,6 @@
 //! The steps of a turn, on the table. A seat is plain here: a view, and the slots that it holds.
 ghost use Rattle.std.specs.Prelude.{◌≡◌, ◌+◌, ◌^◌, ◌<◌, ◌≤◌, true, false, [], ◌∷◌, ◌++◌, None, Some, length, IfOk, IfErr, OnOk};
-ghost use Rattle.office_turn.specs.Story.{StartsWith, entries_of};
+ghost use Rattle.office_turn.specs.Story.{HasOneMore, StartsWith, StartsWithBoth, entries_of};
 ghost use Rattle.office_turn.specs.Steps.{with_ticket, with_worn, with_story, after_passing, after_receiving};
 
 use crate::law::{Law, Opening};
@@ -86,8 +86,7 @@ pub fn put_back<V: Storied>(
         × (shared.now.table_id.words ≡ 2) × (seat.old.me.0.most < 2 ^ 32) }
     requires view { (seat.old.me.0.looked ≡ true) × (seat.old.me.0.is_spent ≡ false)
         × (seat.old.me.0.is_root ≡ false) × (seat.old.me.1 ≡ (0, None) ∷ []) }
-    requires story { (e : V.Entry)
-        × (V.story value ≡ seat.old.me.0.seen ++ e ∷ []) × (V.caller e ≡ seat.old.me.0.number) }
+    requires story { HasOneMore V.caller seat.old.me.0.number seat.old.me.0.seen (V.story value) }
     requires terms { Some (V.terms value) ≡ seat.old.me.0.terms }
     ensures view { seat.new.me ≡ (after_passing seat.old.me.0 (V.story value), []) }
     ensures own { entries_of V.caller seat.old.me.0.number (V.story value) ≡ seat.new.me.0.own }
@@ -113,7 +112,7 @@ pub fn take_in<V: Storied>(
     requires pass { (pass.me.0.is_root ≡ false) × (pass.me.0.is_spent ≡ false)
         × (pass.me.0.looked ≡ false) × (pass.me.0.ticket ≡ None) × (pass.me.1 ≡ []) }
     ensures view { root.new.me ≡ (after_receiving root.old.me.0 pass.me.0, root.old.me.1) }
-    ensures seen { StartsWith root.new.me.0.seen root.old.me.0.seen × StartsWith root.new.me.0.seen pass.me.0.seen }
+    ensures seen { StartsWithBoth root.new.me.0.seen root.old.me.0.seen pass.me.0.seen }
     ensures tally { length root.new.me.0.receipts ≤ root.new.me.0.admitted }
     ensures same { (root.new.table_id ≡ root.old.table_id) × (root.new.id ≡ root.old.id) }
 {

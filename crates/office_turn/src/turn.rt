@@ -1,7 +1,7 @@
 //! The lock, and the calls on it.
-ghost use Rattle.std.specs.Prelude.{◌≡◌, ◌+◌, ◌<◌, ◌≤◌, ℕ, true, false, [], ◌∷◌, ◌++◌, Some, length, All, Any, IfOk, IfErr, OnOk};
-ghost use Rattle.office_turn.specs.Story.{StartsWith, entries_of};
-ghost use Rattle.office_turn.specs.Told.{Lock, lock_of, opening_root, after_admit, admitted_by, after_hold, after_worn, after_pass_on, after_join};
+ghost use Rattle.std.specs.Prelude.{◌≡◌, ◌+◌, ◌<◌, ◌≤◌, ℕ, true, false, [], ◌∷◌, ◌++◌, Some, length, All, IfOk, IfErr, OnOk};
+ghost use Rattle.office_turn.specs.Story.{HasOneMore, StartsWith, StartsWithBoth, entries_of};
+ghost use Rattle.office_turn.specs.Told.{HasReceipt, IsToldWorn, Lock, lock_of, opening_root, after_admit, admitted_by, after_hold, after_pass_on, after_join};
 
 use crate::held::Held;
 use crate::law::{Law, Opening};
@@ -110,7 +110,7 @@ impl<V: Storied> Turn<V> {
         ensures terms { IfOk result (λ held. Some (V.terms held.value) ≡ self.now.terms) }
 
         // No turn is left: the pass is marked for good.
-        ensures worn { IfErr result (λ worn. (worn.turns ≡ self.now.most) × (pass.new ≡ after_worn pass.old)) }
+        ensures worn { IfErr result (λ worn. IsToldWorn self.now pass.old pass.new worn.turns) }
         ensures not_worn { OnOk result (pass.old.worn ≡ false) }
     {
         let shared = &self.table.shared;
@@ -129,8 +129,7 @@ impl<V: Storied> Turn<V> {
     pub fn pass_on(&self, pass: &mut Pass<V>, held: Held<V>)
         requires lock { pass.old.lock ≡ self.now }
         requires held { (held.by ≡ pass.old) × (pass.old.holds ≡ true) }
-        requires story { (e : V.Entry)
-            × (V.story held.value ≡ pass.old.seen ++ e ∷ []) × (V.caller e ≡ pass.old.number) }
+        requires story { HasOneMore V.caller pass.old.number pass.old.seen (V.story held.value) }
         requires terms { Some (V.terms held.value) ≡ self.now.terms }
         ensures pass { pass.new ≡ after_pass_on pass.old (V.story held.value) }
         ensures own { (e : V.Entry) → V.story held.value ≡ pass.old.seen ++ e ∷ []
@@ -146,7 +145,7 @@ impl<V: Storied> Turn<V> {
         requires lock { (root.old.lock ≡ self.now) × (pass.lock ≡ self.now) }
         requires idle { pass.holds ≡ false }
         ensures root { root.new ≡ after_join root.old pass }
-        ensures seen { StartsWith root.new.seen root.old.seen × StartsWith root.new.seen pass.seen }
+        ensures seen { StartsWithBoth root.new.seen root.old.seen pass.seen }
     {
         let Pass { seat, number: _ } = pass;
         steps::take_in(&self.table.shared, &mut root.seat, seat);
@@ -163,7 +162,7 @@ impl<V: Storied> Turn<V> {
             (λ receipt. entries_of V.caller receipt.number (V.story result) ≡ receipt.own) root.receipts }
         ensures room { length (V.story result) ≤ root.lock.most }
         ensures callers { All (λ e. V.caller e < root.admitted) (V.story result) }
-        ensures others { All (λ e. Any (λ receipt. V.caller e ≡ receipt.number) root.receipts) (V.story result) }
+        ensures others { All (λ e. HasReceipt root.receipts (V.caller e)) (V.story result) }
         ensures worn { All
             (λ receipt. receipt.worn ≡ true → length (V.story result) ≡ root.lock.most) root.receipts }
     {
