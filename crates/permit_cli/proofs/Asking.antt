@@ -11,6 +11,7 @@ use Rattle.office_core.specs.declared.entry.Command.{Command}
 use Rattle.office_core.specs.declared.entry.Command.TheVariants.{Apply, Day, Post, Show, Surrender}
 use Rattle.office_core.specs.declared.entry.Entry.{Entry}
 use Rattle.office_core.specs.Machine.{IsLegal, Machine, MayAsk}
+use Rattle.office_core.specs.Promises.{KeepsPromises}
 use Rattle.office_core.specs.Offices.{Opened, entry, grown}
 use Rattle.permit_cli.specs.Days.{IsServed, asked_by, asked_in, call_of, is_lack}
 use Rattle.permit_cli.specs.Serving.{HasAsked, IsOpenFor}
@@ -49,9 +50,10 @@ sound_for base there orders told is are h =
     subst (λ (b : BaseLists). All (λ o. IsSoundFor b o.command) orders) (sym is) (subst (λ (l : List Order). All (λ o. IsSoundFor there o.command) l) (sym are) h)
 
 -- an office of the file that was asked all its commands has served it
-pub served : (file : DayParts) (o now : Opened) (orders : List Order) → o.base ≡ file.base → o.opening ≡ file.day → orders ≡ file.commands → HasAsked o now orders → IsLegal now.base now.opening now.history → IsServed file now.history
-served file o now orders base day are h legal = record {
+pub served : (file : DayParts) (o now : Opened) (orders : List Order) → o.base ≡ file.base → o.opening ≡ file.day → orders ≡ file.commands → HasAsked o now orders → IsLegal now.base now.opening now.history → KeepsPromises now.base now.opening now.history → IsServed file now.history
+served file o now orders base day are h legal promises = record {
   legal = subst (λ (b : BaseLists). IsLegal b file.day now.history) (h.base ∙ base) (subst (λ (d : List ℕ). IsLegal now.base d now.history) (h.opening ∙ day) legal);
+  promises = subst (λ (b : BaseLists). KeepsPromises b file.day now.history) (h.base ∙ base) (subst (λ (d : List ℕ). KeepsPromises now.base d now.history) (h.opening ∙ day) promises);
   asked = h.asked ∙ ap (map asked_by) are;
   whole = h.whole;
 }

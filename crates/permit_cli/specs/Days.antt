@@ -10,6 +10,7 @@ use Rattle.office_core.specs.declared.entry.Entry.{Entry}
 use Rattle.office_core.specs.declared.entry.Reply.{Reply}
 use Rattle.office_core.specs.declared.entry.Reply.TheVariants as reply
 use Rattle.office_core.specs.Machine.{IsLegal}
+use Rattle.office_core.specs.Promises.{KeepsPromises}
 
 -- the one call by which a command is asked: the office itself looks for what an application needs
 abbrev pub call_of : Command → Call
@@ -51,9 +52,10 @@ is_lack (reply.Shown number caller truck first last version seen status) = false
 is_lack (reply.Full entries) = false
 is_lack reply.NoMemory = true
 
--- the history is one of an office of the file's roads and trucks that opened on its day; it holds each command once, in the
--- order of the file, asked by its actor in one call; and no reply is want of memory
+-- the history is one of an office of the file's roads and trucks that opened on its day, and keeps every promise of such an
+-- office; it holds each command once, in the order of the file, asked by its actor in one call; and no reply is want of memory
 pub record IsServed (file : DayParts) (history : List Entry) : Type 0 where
   pub legal : IsLegal file.base file.day history
+  pub promises : KeepsPromises file.base file.day history
   pub asked : map asked_in history ≡ map asked_by file.commands
   pub whole : All (λ e. is_lack e.reply ≡ false) history

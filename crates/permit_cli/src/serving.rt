@@ -38,7 +38,7 @@ fn serve_counted<L: Ledger>(alloc: Global, file: DayFile, blank: Blank) -> Resul
     let base = Arc::new(alloc, base)?;
     let mut office = Office::start(alloc, base, day, most)?;
     ask_all(&mut office, orders, &mut steps)?;
-    // an office tells that its history is legal
+    // an office tells that its history is legal and keeps its promises
     let _history = office.history();
     Ok(office)
 }

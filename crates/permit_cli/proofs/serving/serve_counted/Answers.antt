@@ -13,4 +13,4 @@ pub returns : goal.returns
 returns g c =
     let parts = c.into_parts-base in
     served c.args.file c.in_ok-office.office c.ask_all.new.office parts.result.3.items
-    (ap (λ (o : Opened). o.base) c.in_ok-office.ensures ∙ (c.in_ok-base.ensures.ok ∙ parts.ensures.base)) (ap (λ (o : Opened). o.opening) c.in_ok-office.ensures ∙ parts.ensures.day) parts.ensures.commands c.in_ok-ask_all.ensures.asked c.history-history.ensures.legal
+    (ap (λ (o : Opened). o.base) c.in_ok-office.ensures ∙ (c.in_ok-base.ensures.ok ∙ parts.ensures.base)) (ap (λ (o : Opened). o.opening) c.in_ok-office.ensures ∙ parts.ensures.day) parts.ensures.commands c.in_ok-ask_all.ensures.asked c.history-history.ensures.legal c.history-history.ensures.promises
