@@ -6,6 +6,7 @@ use Rattle.clearance_rules.specs.Loads.{IsLegal}
 use Rattle.clearance_rules.specs.declared.limit.Limit.{Limit}
 use Rattle.clearance_rules.specs.Failing.{Fails, segment_of}
 use Rattle.permit_days.specs.Days.{is_before}
+use Rattle.trip_analysis.specs.Applications.{Sound}
 use Rattle.trip_analysis.specs.Bases.{BaseLists, truck_of}
 use Rattle.trip_analysis.specs.declared.application.Application.{Application}
 use Rattle.trip_analysis.specs.declared.finding.Proposal.{Proposal}
@@ -21,6 +22,12 @@ use Rattle.office_core.specs.Passages.{IsPassableWalk, IsRoadWalk, IsShortest, L
 use Rattle.office_core.specs.Happened.{Day, History, Route, application_in, day_after, issued_in}
 use Rattle.office_core.specs.Happened.{seen_by, state_after, state_at_version, state_seen, version_after}
 
+-- a call asks for a trip that can be asked for: its truck and its nodes are there, an asked route is a walk
+-- of it, and its days are in order
+pub record AsksFor (base : BaseLists) (c : Call) (trip : Application) : Type 0 where
+  pub is : application_in c ≡ Some trip
+  pub sound : Sound base trip
+
 -- a route was found for a trip: the asked one, each segment of which met the truck, or, where none was
 -- asked for, the first of the shortest passable walks
 abbrev pub WasFound : BaseLists → InForce → Application → Route → Option Route → Type 0
@@ -33,7 +40,7 @@ WasFound base before a route None = IsShortest base before a.truck a.from a.to r
 pub record TruePermit (base : BaseLists) (day : Day) (front : History) (c : Call) (n v : ℕ) (route : Route)
     : Type 0 where
   pub trip : Application
-  pub asked : application_in c ≡ Some trip
+  pub asked : AsksFor base c trip
   pub number : n ≡ issued_in front + 1
   pub version : v ≡ version_after front
   pub walk : IsPassableWalk base (state_after base front) trip.truck trip.from trip.to route
@@ -75,7 +82,7 @@ StandsInTheWay base before now a s None = IsShutIn base before now a s
 -- a refusal names the current version, and the first failing limit then of a segment that stands in the way
 pub record TrueRefusal (base : BaseLists) (front : History) (c : Call) (v : ℕ) (l : Limit) : Type 0 where
   pub trip : Application
-  pub asked : application_in c ≡ Some trip
+  pub asked : AsksFor base c trip
   pub version : v ≡ version_after front
   pub limit : IsFirstLimit base (state_after base front) trip.truck l
   pub stands : StandsInTheWay base (state_seen base front c) (state_after base front) trip (segment_of l)
@@ -84,7 +91,7 @@ pub record TrueRefusal (base : BaseLists) (front : History) (c : Call) (v : ℕ)
 -- where it is said that there is no road, no walk of the trip is there, whatever is posted
 pub record TrueNoRoad (base : BaseLists) (c : Call) : Type 0 where
   pub trip : Application
-  pub asked : application_in c ≡ Some trip
+  pub asked : AsksFor base c trip
   pub none : (route : Route) → IsRoadWalk base trip.from trip.to route → ⊥
 
 -- a segment of the route that was proposed met the truck then, and now this is its first failing limit
@@ -113,20 +120,21 @@ pub record TrueOutdated (base : BaseLists) (front : History) (c : Call) (v : ℕ
   pub trip : Application
   pub proposal : Proposal
   pub asked : c ≡ call.Submit trip proposal
+  pub sound : Sound base trip
   pub version : v ≡ version_after front
   pub later : proposal.seen < v
   pub changed : HasChanged base (state_at_version base front proposal.seen) (state_after base front)
       trip.truck proposal.what why
 
 -- a trip is late where it begins before the day, which is named
-pub record TrueLate (day : Day) (front : History) (c : Call) (named : Day) : Type 0 where
+pub record TrueLate (base : BaseLists) (day : Day) (front : History) (c : Call) (named : Day) : Type 0 where
   pub trip : Application
-  pub asked : application_in c ≡ Some trip
+  pub asked : AsksFor base c trip
   pub today : named ≡ day_after day front
   pub begins : is_before trip.first named ≡ true
 
 -- a truck needs no permit where it is legal
 pub record TrueNotNeeded (base : BaseLists) (c : Call) : Type 0 where
   pub trip : Application
-  pub asked : application_in c ≡ Some trip
+  pub asked : AsksFor base c trip
   pub legal : IsLegal (truck_of base trip.truck).load
