@@ -1,8 +1,8 @@
 // The groups over their limits.
 
-ghost use Rattle.std.specs.Prelude.{◌≡◌, ◌<◌, ◌≤◌, ◌++◌, ◌↔◌, ◌∷◌, [], length, IfOk};
+ghost use Rattle.std.specs.Prelude.{◌≡◌, ◌<◌, ◌≤◌, ◌++◌, ◌↔◌, ◌∷◌, [], length, IfOk, OnOk};
 ghost use Rattle.axle_limits.specs.Groups.{group_at, groups_from};
-ghost use Rattle.axle_limits.specs.Findings.{findings_of, over_limit, gross_finding, AreFindings, IsLegalByWeight};
+ghost use Rattle.axle_limits.specs.Findings.{findings_of, Adds, gross_finding, AreFindings, IsLegalByWeight};
 
 use crate::group::{Rule, group_limit};
 use crate::legal::GROSS_LIMIT;
@@ -39,7 +39,7 @@ pub fn findings(alloc: Global, train: &Train) -> Result<Vec<Finding>, NoMemory>
 /// Adds the groups over their limits that begin with axle `i`.
 fn add_row(train: &Train, i: usize, list: &mut Vec<Finding>) -> Result<(), NoMemory>
     requires within { i < length train.now }
-    ensures { IfOk result (λ _. list.new.items ≡ list.old.items ++ over_limit train.now (groups_from train.now i)) }
+    ensures { OnOk result (Adds train.now (groups_from train.now i) list.old.items list.new.items) }
 {
     for j in i..train.len() {
         add_group(train, i, j, list)?;
@@ -51,8 +51,7 @@ fn add_row(train: &Train, i: usize, list: &mut Vec<Finding>) -> Result<(), NoMem
 fn add_group(train: &Train, i: usize, j: usize, list: &mut Vec<Finding>) -> Result<(), NoMemory>
     requires ordered { i ≤ j }
     requires within { j < length train.now }
-    ensures { IfOk result (λ _. list.new.items
-        ≡ list.old.items ++ over_limit train.now (group_at train.now i j ∷ [])) }
+    ensures { OnOk result (Adds train.now (group_at train.now i j ∷ []) list.old.items list.new.items) }
 {
     let weight = train.group_weight(i, j);
     let limit = group_limit(train, i, j);
@@ -70,7 +69,7 @@ fn add_group(train: &Train, i: usize, j: usize, list: &mut Vec<Finding>) -> Resu
 
 /// Adds the gross weight, where it is over its limit.
 fn add_gross(train: &Train, list: &mut Vec<Finding>) -> Result<(), NoMemory>
-    ensures { IfOk result (λ _. list.new.items ≡ list.old.items ++ gross_finding train.now) }
+    ensures { OnOk result (list.new.items ≡ list.old.items ++ gross_finding train.now) }
 {
     let len = train.len();
     let gross = train.gross();

@@ -4,7 +4,7 @@ ghost use Rattle.std.specs.Prelude.{◌≡◌, ◌+◌, ◌*◌, ◌<◌, ◌≤
 ghost use Rattle.axle_limits.specs.Groups.{group_at};
 ghost use Rattle.axle_limits.specs.Worst.{IsWorst, IsWorstSoFar, worst_of, IsAtLeastAsBad, IsWorseThan};
 
-use crate::group::group_limit;
+use crate::group::{bounds, group_limit};
 use axle_train::Train;
 
 /// The group from axle `i` to axle `j`, its weight and its limit in pounds.
@@ -24,10 +24,9 @@ pub fn worst(train: &Train) -> WorstGroup
     ensures meaning { IsWorst train.now result }
     ensures value { result ≡ worst_of train.now }
 {
-    let len = train.len();
-    prove!(0 < len);
+    bounds(train);
     let mut best = group_at(train, 0, 0);
-    for i in 0..len {
+    for i in 0..train.len() {
         best = worst_in_row(train, i, best);
     }
     best
