@@ -1,5 +1,5 @@
 -- What a finding says of the walks of its trip.
-use Rattle.std.proofs.Common.{◌≡◌, ◌≢◌, ◌⊎◌, inl, inr, ◌+◌, ◌-◌, ◌<◌, ◌≤◌, ◌∷◌, [], ◌&&◌, ◌||◌, ◌==◌, not, ℕ, zero, suc, List, Bool, cond, true, false, length, filter, refl, ap, sym, ◌∙◌, subst, arith, Option, Some, None, is_none, if◌then◌else◌, eq-eqb}
+use Rattle.std.proofs.Common.{◌≡◌, ◌≢◌, ◌⊎◌, inl, inr, ◌+◌, ◌-◌, ◌<◌, ◌≤◌, ◌∷◌, [], ◌&&◌, ◌||◌, ◌==◌, not, ℕ, zero, suc, List, Bool, cond, true, false, length, filter, refl, ap, sym, ◌∙◌, subst, arith, Option, Some, None, if◌then◌else◌, eq-eqb}
 use Rattle.std.specs.Prelude.{slice_get}
 use Rattle.std.specs.List.{range_with_len}
 use Rattle.std.proofs.lemmas.Bool.{cases_Bool, cases_eq, false≢true}

@@ -20,7 +20,7 @@ use Rattle.office_core.specs.declared.entry.Cause.TheVariants as cause
 use Rattle.office_core.specs.Clearances.{MeetsTruck}
 use Rattle.office_core.specs.Passages.{IsPassableWalk, IsRoadWalk, IsShortest, LeadsOut}
 use Rattle.office_core.specs.Happened.{Day, History, Route, application_in, day_after, issued_in}
-use Rattle.office_core.specs.Happened.{seen_by, state_after, state_at_version, state_seen, version_after}
+use Rattle.office_core.specs.Happened.{state_after, state_at_version, state_seen, version_after}
 
 -- a call asks for a trip that can be asked for: its truck and its nodes are there, an asked route is a walk
 -- of it, and its days are in order
