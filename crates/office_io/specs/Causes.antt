@@ -1,6 +1,9 @@
 -- When a count of faults rose in a call.
-use Rattle.std.specs.Prelude.{◌≡◌, ℕ, ◌+◌, ◌-◌, ◌^◌, ◌≤◌, min, List, length, Option, Result, OnOk, OnErr}
-use Rattle.std.specs.Io.KnownBytes.{Consumes}
+use Rattle.std.specs.Prelude.{◌≡◌, ℕ, ◌+◌, ◌-◌, ◌^◌, ◌≤◌, min, List, length, take, Option, Result, OnOk, OnErr, IsErrOf}
+use Rattle.std.specs.Io.KnownBytes.{Appends, Consumes}
+use Rattle.office_io.specs.declared.sink.WriteFault.{WriteFault}
+use Rattle.office_io.specs.declared.source.ReadRefusal.{ReadRefusal}
+use Rattle.office_io.specs.declared.source.ReadRefusal.TheVariants.{ReadFault, TooLong}
 
 -- One more, up to the last value of a count, where it stands still.
 abbrev pub counted : ℕ → ℕ
@@ -23,3 +26,18 @@ TookAtMost most old new = (taken : List ℕ) × Consumes old new taken × (lengt
 -- As many bytes were taken.
 abbrev pub TookExactly : ℕ → Option (List ℕ) → Option (List ℕ) → Type 0
 TookExactly count old new = (taken : List ℕ) × Consumes old new taken × (length taken ≡ count)
+
+-- What holds where a reader answers that the source failed, where it answers anything else, and where it answers that there
+-- were too many bytes.
+abbrev pub OnReadFault : {T : Type 0} → Result T ReadRefusal → Type 0 → Type 0
+OnReadFault result P = IsErrOf result ReadFault → P
+
+abbrev pub UnlessReadFault : {T : Type 0} → Result T ReadRefusal → Type 0 → Type 0
+UnlessReadFault result P = (IsErrOf result ReadFault → ⊥) → P
+
+abbrev pub OnTooLong : {T : Type 0} → Result T ReadRefusal → Type 0 → Type 0
+OnTooLong result P = IsErrOf result TooLong → P
+
+-- As many of the bytes were appended as the fault says were written.
+abbrev pub AppendedPart : Option (List ℕ) → Option (List ℕ) → List ℕ → WriteFault → Type 0
+AppendedPart old new bytes fault = Appends old new (take fault.written bytes)

@@ -1,5 +1,5 @@
 -- What sources and sinks in memory are, and when their calls fail.
-use Rattle.std.specs.Prelude.{ℕ, ◌-◌, Bool, ◌||◌, ◌&&◌, ◌==◌, nat_lt, List, length}
+use Rattle.std.specs.Prelude.{ℕ, ◌-◌, Bool, ◌||◌, ◌&&◌, ◌==◌, nat_lt, List, [], length}
 use Rattle.std.specs.List.{list_any}
 use Rattle.office_io.specs.Causes.{counted}
 
@@ -17,6 +17,13 @@ pub record SinkState : Type 0 where
   pub failing : List ℕ
   pub calls : ℕ
   pub faults : ℕ
+
+-- a source of these bytes, of which no call was made yet, and a sink with this room that holds nothing yet
+abbrev pub new_source : List ℕ → List ℕ → SourceState
+new_source bytes failing = record { left = bytes; failing = failing; calls = 0; faults = 0 }
+
+abbrev pub new_sink : ℕ → List ℕ → SinkState
+new_sink room failing = record { held = []; room = room; failing = failing; calls = 0; faults = 0 }
 
 -- whether a call of this number, counted from 1, is one that fails
 abbrev pub is_failing : List ℕ → ℕ → Bool

@@ -3,7 +3,7 @@
 ghost use Rattle.std.specs.Prelude.{◌≡◌, ◌≤◌, ◌-◌, ◌+◌, ◌<◌, ◌++◌, ◌↔◌, [], Some, IfOk, IsErr, IsTrue, length, min, take, vec_len, vec_capacity};
 ghost use Rattle.std.specs.Io.KnownBytes.{ReadConsumes, WriteAppends};
 ghost use Rattle.office_io.specs.Causes.{HasCause, counted};
-ghost use Rattle.office_io.specs.Memory.{is_failing, read_fails, write_fails};
+ghost use Rattle.office_io.specs.Memory.{is_failing, new_sink, new_source, read_fails, write_fails};
 
 use crate::refusal::{Failed, NoMemory};
 use crate::sink::Sink;
@@ -35,7 +35,7 @@ impl Model for MemorySource {
 impl MemorySource {
     /// A source of these bytes. The reads of these numbers, counted from 1, fail. Takes no memory.
     pub fn new(bytes: Vec<u8>, failing: Vec<u32>) -> MemorySource
-        ensures { result ≡ record { left = bytes.items; failing = failing.items; calls = 0; faults = 0 } }
+        ensures { result ≡ new_source bytes.items failing.items }
     {
         MemorySource {
             bytes,
@@ -97,7 +97,7 @@ impl MemorySink {
     /// An empty sink with room for so many bytes, which is taken here. The writes of these numbers, counted from 1,
     /// fail, and so does one that finds no room left.
     pub fn new(alloc: Global, room: usize, failing: Vec<u32>) -> Result<MemorySink, NoMemory>
-        ensures { IfOk result (λ sink. sink ≡ record { held = []; room = room; failing = failing.items; calls = 0; faults = 0 }) }
+        ensures { IfOk result (λ sink. sink ≡ new_sink room failing.items) }
     {
         let Ok(bytes) = Vec::with_capacity(alloc, room) else {
             return Err(NoMemory);

@@ -2,7 +2,7 @@
 
 ghost use Rattle.std.specs.Prelude.{◌≡◌, ℕ, ◌<◌, ◌≤◌, List, length, take, Option, IfOk, IfErr, OnOk, OnErr};
 ghost use Rattle.std.specs.Io.KnownBytes.{Appends, WriteAppends};
-ghost use Rattle.office_io.specs.Causes.{HasCause, Rose};
+ghost use Rattle.office_io.specs.Causes.{AppendedPart, HasCause, Rose};
 
 use crate::refusal::Failed;
 use thiserror::Error;
@@ -35,7 +35,7 @@ pub struct WriteFault {
 pub fn write_all<K: Sink>(sink: &mut K, bytes: &[u8]) -> Result<(), WriteFault>
     ensures all { OnOk result (Appends (K.held sink.old) (K.held sink.new) bytes.now) }
     ensures within { IfErr result (λ fault. fault.written ≤ length bytes.now) }
-    ensures part { IfErr result (λ fault. Appends (K.held sink.old) (K.held sink.new) (take fault.written bytes.now)) }
+    ensures part { IfErr result (AppendedPart (K.held sink.old) (K.held sink.new) bytes.now) }
     ensures fault { OnErr result (Rose (K.faults sink.old) (K.faults sink.new)) }
     ensures stands { OnOk result (K.faults sink.new ≡ K.faults sink.old) }
     ensures later { K.faults sink.old ≤ K.faults sink.new }

@@ -1,8 +1,8 @@
 // Where bytes come from.
 
-ghost use Rattle.std.specs.Prelude.{◌≡◌, ℕ, ◌+◌, ◌≤◌, List, length, Option, IfOk, OnOk, IsErrOf};
+ghost use Rattle.std.specs.Prelude.{◌≡◌, ℕ, ◌+◌, ◌≤◌, List, length, Option, IfOk, OnOk};
 ghost use Rattle.std.specs.Io.KnownBytes.{Consumes, IsAtEnd, ReadConsumes};
-ghost use Rattle.office_io.specs.Causes.{HasCause, Rose, TookAtMost, TookExactly};
+ghost use Rattle.office_io.specs.Causes.{HasCause, OnReadFault, OnTooLong, Rose, TookAtMost, TookExactly, UnlessReadFault};
 
 use crate::refusal::Failed;
 use std::alloc::Global;
@@ -48,11 +48,11 @@ pub fn read_all<S: Source>(
     ensures all { IfOk result (λ bytes. Consumes (S.left source.old) (S.left source.new) bytes.items) }
     ensures end { OnOk result (IsAtEnd (S.left source.new)) }
     ensures short { IfOk result (λ bytes. length bytes.items ≤ limit) }
-    ensures long { IsErrOf result ReadRefusal.TooLong → TookExactly (limit + 1) (S.left source.old) (S.left source.new) }
-    ensures fault { IsErrOf result ReadRefusal.ReadFault → Rose (S.faults source.old) (S.faults source.new) }
-    ensures fault_short { IsErrOf result ReadRefusal.ReadFault → TookAtMost limit (S.left source.old) (S.left source.new) }
+    ensures long { OnTooLong result (TookExactly (limit + 1) (S.left source.old) (S.left source.new)) }
+    ensures fault { OnReadFault result (Rose (S.faults source.old) (S.faults source.new)) }
+    ensures fault_short { OnReadFault result (TookAtMost limit (S.left source.old) (S.left source.new)) }
     ensures most { TookAtMost (limit + 1) (S.left source.old) (S.left source.new) }
-    ensures stands { (IsErrOf result ReadRefusal.ReadFault → ⊥) → S.faults source.new ≡ S.faults source.old }
+    ensures stands { UnlessReadFault result (S.faults source.new ≡ S.faults source.old) }
     ensures later { S.faults source.old ≤ S.faults source.new }
 {
     let mut bytes = Vec::new(alloc);
