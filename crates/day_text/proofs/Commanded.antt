@@ -68,9 +68,7 @@ in_order None first last e = (refl, by (is_before last first) e)
 
 taken : (a application : Application) (o : Option ApplicationRefusal) → unless_refused a o ≡ Ok application → (application ≡ a) × (o ≡ None)
 taken a application None e = (cc, refl)
-taken a application (Some SamePlace) e = absurd (cc e)
-taken a application (Some (BrokenRoute at)) e = absurd (cc e)
-taken a application (Some DayOrder) e = absurd (cc e)
+taken a application (Some refusal) e = absurd (cc e)
 
 -- the roads and the trucks so far
 abbrev pub base_of : Draft → BaseLists

@@ -26,6 +26,7 @@ use Rattle.day_text.specs.declared.kind.CommandKind.TheVariants.{Apply, Post, Se
 use Rattle.day_text.specs.declared.orders.Order.{Order}
 use Rattle.record_text.specs.declared.refusal.Cause.{Cause}
 use Rattle.record_text.specs.declared.refusal.Cause.TheVariants as why
+use Rattle.record_text.specs.declared.refusal.RecordCause.{RecordCause}
 use Rattle.record_text.specs.declared.refusal.RecordCause.TheVariants as bad
 use Rattle.record_text.specs.declared.refusal.Kind.TheVariants as kind
 
@@ -50,12 +51,16 @@ all_numbers known (name ∷ names) = option_and_then (λ i. option_map (λ numbe
 abbrev pub asked_of : List ℕ → Option (List ℕ)
 asked_of route = if length route == 0 then None else Some route
 
+-- the cause of a record whose application is refused
+abbrev pub cause_of : ApplicationRefusal → RecordCause
+cause_of SamePlace = bad.SamePlace
+cause_of (BrokenRoute at) = bad.BrokenRoute
+cause_of DayOrder = bad.DayOrder
+
 -- an application that is not refused
 abbrev pub unless_refused : Application → Option ApplicationRefusal → Result Application Cause
 unless_refused application None = Ok application
-unless_refused application (Some SamePlace) = Err (why.Bad bad.SamePlace)
-unless_refused application (Some (BrokenRoute at)) = Err (why.Bad bad.BrokenRoute)
-unless_refused application (Some DayOrder) = Err (why.Bad bad.DayOrder)
+unless_refused application (Some refusal) = Err (why.Bad (cause_of refusal))
 
 abbrev pub applied : Roads → ℕ → ℕ → ℕ → Option (List ℕ) → List ℕ → List ℕ → Result Application Cause
 applied roads truck from to asked first last =

@@ -1,11 +1,11 @@
 // The records of commands.
 
-ghost use Rattle.std.specs.Prelude.{◌≡◌, ◌<◌, All, IfOk, IfSome, length};
+ghost use Rattle.std.specs.Prelude.{◌≡◌, ◌<◌, All, IfOk, length};
 ghost use Rattle.csv.specs.Records.{fields_of};
 ghost use Rattle.road_graph.specs.Roads.{segment_names};
-ghost use Rattle.trip_analysis.specs.Applications.{AreAskedThere, AreThere};
+ghost use Rattle.trip_analysis.specs.Applications.{AreAskedThere};
 ghost use Rattle.record_text.specs.Causes.{Judges};
-ghost use Rattle.day_text.specs.Commands.{all_numbers, applied, apply_fields_of, apply_of, asked_of, change_of, order_of, permit_of, post_of, posting_of, set_day_of, show_of, surrender_of};
+ghost use Rattle.day_text.specs.Commands.{all_numbers, apply_fields_of, apply_of, asked_of, cause_of, change_of, order_of, permit_of, post_of, posting_of, set_day_of, show_of, surrender_of};
 
 use crate::draft::Draft;
 use crate::kind::CommandKind;
@@ -81,7 +81,10 @@ fn parse_apply(alloc: Global, draft: &Draft, row: &StringRecord) -> Result<Order
         return Err(RecordRefusal::bad(RecordCause::Range(8)));
     };
     let asked = asked_of(&draft.network, route);
-    let application = apply(&draft.network, truck, from, to, asked, first, last)?;
+    let application = match Application::on(&draft.network, truck, from, to, asked, first, last) {
+        Ok(application) => application,
+        Err(refusal) => return Err(RecordRefusal::bad(cause_of(refusal))),
+    };
     Ok(Order {
         actor,
         command: Command::Apply(application),
@@ -210,7 +213,7 @@ fn numbers_of(
     route: &[Name],
 ) -> Result<Option<Numbers>, RecordRefusal>
     ensures numbers { Judges result (Ok (all_numbers (segment_names network.now.segments) route.now)) }
-    ensures there { IfOk result (λ found. IfSome found (λ numbers. All (λ s. s < length network.now.segments) numbers)) }
+    ensures there { IfOk result (AreAskedThere network.now) }
 {
     let mut list = Vec::new(alloc);
     'route: for name in route {
@@ -235,26 +238,14 @@ fn asked_of(network: &Network, route: Numbers) -> Option<Numbers>
     }
 }
 
-// The application, where it is sound.
-fn apply(
-    network: &Network,
-    truck: u32,
-    from: u32,
-    to: u32,
-    asked: Option<Numbers>,
-    first: Day,
-    last: Day,
-) -> Result<Application, RecordRefusal>
-    requires { AreThere network.now from to asked }
-    ensures { Judges result (applied network.now truck from to asked first last) }
+// The cause of a record whose application is refused.
+fn cause_of(refusal: ApplicationRefusal) -> RecordCause
+    ensures { result ≡ cause_of refusal }
 {
-    match Application::on(network, truck, from, to, asked, first, last) {
-        Ok(application) => Ok(application),
-        Err(ApplicationRefusal::SamePlace) => Err(RecordRefusal::bad(RecordCause::SamePlace)),
-        Err(ApplicationRefusal::BrokenRoute { .. }) => Err(RecordRefusal::bad(
-            RecordCause::BrokenRoute,
-        )),
-        Err(ApplicationRefusal::DayOrder) => Err(RecordRefusal::bad(RecordCause::DayOrder)),
+    match refusal {
+        ApplicationRefusal::SamePlace => RecordCause::SamePlace,
+        ApplicationRefusal::BrokenRoute { .. } => RecordCause::BrokenRoute,
+        ApplicationRefusal::DayOrder => RecordCause::DayOrder,
     }
 }
 
