@@ -1,7 +1,7 @@
 -- The words of an entry of a journal. Each function puts its words in front of those that follow.
 use Rattle.std.specs.Prelude.{ℕ, Bool, true, false, List, ◌∷◌, codes, Option, Some, None}
 use Rattle.std.specs.Fmt.{decimal}
-use Rattle.influence_line.specs.Fractions.{ratio_text}
+use Rattle.influence_line.specs.Fractions.{Ratio, ratio_text}
 use Rattle.restriction_log.specs.declared.change.Change.{Change}
 use Rattle.restriction_log.specs.declared.change.Change.TheVariants as change
 use Rattle.clearance_rules.specs.declared.limit.Limit.{Limit}
@@ -19,7 +19,7 @@ use Rattle.office_core.specs.declared.entry.Cause.TheVariants as cause
 use Rattle.office_core.specs.declared.entry.Reply.{Reply}
 use Rattle.office_core.specs.declared.entry.Reply.TheVariants as reply
 use Rattle.office_core.specs.declared.entry.Entry.{Entry}
-use Rattle.journal_text.specs.Words.{Words, group, index, list_text}
+use Rattle.journal_text.specs.Words.{Words, group, index, numbers_words, places_words}
 
 -- a flag is 0 or 1
 abbrev pub flag_words : Bool → Words → Words
@@ -43,6 +43,16 @@ change_words (change.Rating span permille) ws = codes "span" ∷ index span ∷ 
 abbrev pub over_words : ℕ → List ℕ → ℕ → ℕ → Words → Words
 over_words segment named has allowed ws = posted_words segment named has (codes "over" ∷ decimal allowed ∷ ws)
 
+-- what a group of axles weighs, its limit, and the allowance on it
+abbrev pub weighed_words : ℕ → ℕ → ℕ → Words → Words
+weighed_words weight most allowance ws =
+    codes "weight" ∷ decimal weight ∷ codes "limit" ∷ decimal most ∷ codes "allowance" ∷ decimal allowance ∷ ws
+
+-- an effect that is over a span's rating: the truck's, that of HS20-44, and the rating
+abbrev pub effect_words : List ℕ → Ratio → Ratio → ℕ → Words → Words
+effect_words named has design rating ws =
+    named ∷ ratio_text has ∷ codes "hs20" ∷ ratio_text design ∷ codes "rating" ∷ decimal rating ∷ ws
+
 abbrev pub limit_words : Limit → Words → Words
 limit_words (limit.Closed segment) ws = codes "segment" ∷ index segment ∷ codes "closed" ∷ ws
 limit_words (limit.Height segment has allowed) ws = over_words segment (codes "height") has allowed ws
@@ -50,30 +60,36 @@ limit_words (limit.Width segment has allowed) ws = over_words segment (codes "wi
 limit_words (limit.Length segment has allowed) ws = over_words segment (codes "length") has allowed ws
 limit_words (limit.Gross segment has allowed) ws = over_words segment (codes "gross") has allowed ws
 limit_words (limit.Group segment i j weight most allowance) ws =
-    codes "segment" ∷ index segment ∷ codes "group" ∷ group i j ∷ codes "weight" ∷ decimal weight ∷ codes "limit" ∷ decimal most ∷ codes "allowance" ∷ decimal allowance ∷ ws
+    codes "segment" ∷ index segment ∷ codes "group" ∷ group i j ∷ weighed_words weight most allowance ws
 limit_words (limit.Moment segment span has design rating) ws =
-    codes "segment" ∷ index segment ∷ codes "span" ∷ index span ∷ codes "moment" ∷ ratio_text has ∷ codes "hs20" ∷ ratio_text design ∷ codes "rating" ∷ decimal rating ∷ ws
+    codes "segment" ∷ index segment ∷ codes "span" ∷ index span ∷ effect_words (codes "moment") has design rating ws
 limit_words (limit.Shear segment span has design rating) ws =
-    codes "segment" ∷ index segment ∷ codes "span" ∷ index span ∷ codes "shear" ∷ ratio_text has ∷ codes "hs20" ∷ ratio_text design ∷ codes "rating" ∷ decimal rating ∷ ws
+    codes "segment" ∷ index segment ∷ codes "span" ∷ index span ∷ effect_words (codes "shear") has design rating ws
+
+-- a limit of a span
+abbrev pub IsOfSpan : Limit → Type 0
+IsOfSpan (limit.Moment segment span has design rating) = Unit {0}
+IsOfSpan (limit.Shear segment span has design rating) = Unit {0}
+IsOfSpan _ = ⊥
 
 -- the asked route, if one is asked for
 abbrev pub asked_words : Option (List ℕ) → Words → Words
-asked_words None ws = codes "none" ∷ ws
-asked_words (Some route) ws = list_text index route ∷ ws
+asked_words None ws = codes "asked" ∷ codes "none" ∷ ws
+asked_words (Some route) ws = places_words (codes "asked") route ws
 
 abbrev pub days_words : List ℕ → List ℕ → Words → Words
 days_words first last ws = codes "days" ∷ first ∷ last ∷ ws
 
 abbrev pub application_words : Application → Words → Words
 application_words a ws =
-    codes "truck" ∷ index a.truck ∷ codes "from" ∷ index a.from ∷ codes "to" ∷ index a.to ∷ codes "asked" ∷ asked_words a.asked (days_words a.first a.last ws)
+    codes "truck" ∷ index a.truck ∷ codes "from" ∷ index a.from ∷ codes "to" ∷ index a.to ∷ asked_words a.asked (days_words a.first a.last ws)
 
 -- what was found
 abbrev pub what_words : What → Words → Words
 what_words what.NotNeeded ws = codes "none" ∷ ws
-what_words (what.Route route) ws = codes "route" ∷ list_text index route ∷ ws
+what_words (what.Route route) ws = places_words (codes "route") route ws
 what_words (what.Fails segment) ws = codes "fails" ∷ index segment ∷ ws
-what_words (what.Cut nodes) ws = codes "cut" ∷ list_text index nodes ∷ ws
+what_words (what.Cut nodes) ws = places_words (codes "cut") nodes ws
 
 abbrev pub call_words : Call → Words → Words
 call_words call.Snapshot ws = codes "snapshot" ∷ ws
@@ -95,17 +111,25 @@ abbrev pub cause_words : Cause → Words → Words
 cause_words (cause.NowFails why) ws = codes "fails" ∷ limit_words why ws
 cause_words (cause.NowMeets segment) ws = codes "meets" ∷ codes "segment" ∷ index segment ∷ ws
 
+-- whose permit is shown, and how it stands
+abbrev pub shown_words : ℕ → ℕ → ℕ → Words → Words
+shown_words number caller truck ws =
+    codes "shown" ∷ decimal number ∷ codes "caller" ∷ index caller ∷ codes "truck" ∷ index truck ∷ ws
+
+abbrev pub standing_words : ℕ → ℕ → Status → Words → Words
+standing_words version seen now ws = codes "at" ∷ decimal version ∷ codes "seen" ∷ decimal seen ∷ status_words now ws
+
 -- that an office is full is the reply of no entry, and has no words
 abbrev pub reply_words : Reply → Words → Words
 reply_words (reply.SnapshotAt version) ws = codes "at" ∷ decimal version ∷ ws
 reply_words (reply.Issued number version route) ws =
-    codes "issued" ∷ decimal number ∷ codes "at" ∷ decimal version ∷ codes "route" ∷ list_text index route ∷ ws
+    codes "issued" ∷ decimal number ∷ codes "at" ∷ decimal version ∷ places_words (codes "route") route ws
 reply_words (reply.Refused version why) ws = codes "refused" ∷ decimal version ∷ limit_words why ws
 reply_words (reply.Outdated version why) ws = codes "outdated" ∷ decimal version ∷ cause_words why ws
 reply_words reply.NotNeeded ws = codes "notneeded" ∷ ws
 reply_words reply.NoRoad ws = codes "noroad" ∷ ws
 reply_words (reply.Late day) ws = codes "late" ∷ day ∷ ws
-reply_words (reply.Posted version recalled) ws = codes "posted" ∷ decimal version ∷ codes "recalled" ∷ list_text decimal recalled ∷ ws
+reply_words (reply.Posted version recalled) ws = codes "posted" ∷ decimal version ∷ numbers_words (codes "recalled") recalled ws
 reply_words reply.OutOfRange ws = codes "range" ∷ ws
 reply_words (reply.DayIs day) ws = codes "day" ∷ day ∷ ws
 reply_words (reply.DayBack day) ws = codes "dayback" ∷ day ∷ ws
@@ -114,7 +138,6 @@ reply_words reply.NotYours ws = codes "notyours" ∷ ws
 reply_words reply.Unknown ws = codes "unknown" ∷ ws
 reply_words (reply.NotInForce now) ws = codes "notinforce" ∷ status_words now ws
 reply_words (reply.Shown number caller truck first last version seen now) ws =
-    codes "shown" ∷ decimal number ∷ codes "caller" ∷ index caller ∷ codes "truck" ∷ index truck ∷ days_words first last
-    (codes "at" ∷ decimal version ∷ codes "seen" ∷ decimal seen ∷ status_words now ws)
+    shown_words number caller truck (days_words first last (standing_words version seen now ws))
 reply_words (reply.Full entries) ws = ws
 reply_words reply.NoMemory ws = codes "nomemory" ∷ ws

@@ -32,3 +32,10 @@ list_text text (x ∷ xs) = joined 44 text (x ∷ xs)
 -- a group of axles, by its first and last
 abbrev pub group : ℕ → ℕ → List ℕ
 group i j = index i ++ (codes "-" ++ index j)
+
+-- a word, and a list of numbers or of indices behind it
+abbrev pub numbers_words : List ℕ → List ℕ → Words → Words
+numbers_words named numbers ws = named ∷ list_text decimal numbers ∷ ws
+
+abbrev pub places_words : List ℕ → List ℕ → Words → Words
+places_words named places ws = named ∷ list_text index places ∷ ws

@@ -81,7 +81,7 @@ fn application(out: &mut Vec<u8>, application: &Application) -> Result<(), Alloc
 
 // The asked route, if one is asked for.
 fn asked(out: &mut Vec<u8>, application: &Application) -> Result<(), AllocError>
-    ensures { OnOk result (Adds out.old.items out.new.items (λ ws. codes "asked" ∷ asked_words application.now.asked ws)) }
+    ensures { OnOk result (Adds out.old.items out.new.items (asked_words application.now.asked)) }
 {
     match application.asked() {
         None => {

@@ -13,3 +13,6 @@ mod replies;
 mod words;
 
 pub use printing::print;
+
+#[cfg(test)]
+mod tests;

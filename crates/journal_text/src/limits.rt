@@ -4,7 +4,7 @@ ghost use Rattle.std.specs.Prelude.{◌≡◌, ◌∷◌, OnOk, codes};
 ghost use Rattle.std.specs.Fmt.{decimal};
 ghost use Rattle.influence_line.specs.Fractions.{ratio_text};
 ghost use Rattle.journal_text.specs.Words.{Adds, index};
-ghost use Rattle.journal_text.specs.Entries.{cause_words, change_words, flag_words, limit_words, over_words, posted_words};
+ghost use Rattle.journal_text.specs.Entries.{IsOfSpan, cause_words, change_words, effect_words, flag_words, limit_words, over_words, posted_words, weighed_words};
 
 use crate::words::{named, named_fraction, named_group, named_place, word};
 use clearance_rules::Limit;
@@ -57,43 +57,27 @@ pub fn limit(out: &mut Vec<u8>, limit: &Limit) -> Result<(), AllocError>
     ensures { OnOk result (Adds out.old.items out.new.items (limit_words limit.now)) }
 {
     match limit {
-        Limit::Closed { segment } => {
-            named_place(out, "segment", *segment)?;
-            word(out, "closed")?;
-            Ok(())
-        }
+        Limit::Closed { segment } => closed(out, *segment),
         Limit::Height {
             segment,
             has,
             allowed,
-        } => {
-            over(out, *segment, "height", *has, *allowed)?;
-            Ok(())
-        }
+        } => over(out, *segment, "height", *has, *allowed),
         Limit::Width {
             segment,
             has,
             allowed,
-        } => {
-            over(out, *segment, "width", *has, *allowed)?;
-            Ok(())
-        }
+        } => over(out, *segment, "width", *has, *allowed),
         Limit::Length {
             segment,
             has,
             allowed,
-        } => {
-            over(out, *segment, "length", *has, *allowed)?;
-            Ok(())
-        }
+        } => over(out, *segment, "length", *has, *allowed),
         Limit::Gross {
             segment,
             has,
             allowed,
-        } => {
-            over(out, *segment, "gross", *has, *allowed)?;
-            Ok(())
-        }
+        } => over(out, *segment, "gross", *has, *allowed),
         Limit::Group {
             segment,
             i,
@@ -104,11 +88,36 @@ pub fn limit(out: &mut Vec<u8>, limit: &Limit) -> Result<(), AllocError>
         } => {
             named_place(out, "segment", *segment)?;
             named_group(out, "group", *i, *j)?;
-            named(out, "weight", *weight)?;
-            named(out, "limit", *limit)?;
-            named(out, "allowance", *allowance)?;
+            weighed(out, *weight, *limit, *allowance)
+        }
+        Limit::Moment { .. } | Limit::Shear { .. } => span_limit(out, limit),
+    }
+}
+
+/// Why a proposal is outdated.
+pub fn cause(out: &mut Vec<u8>, cause: &Cause) -> Result<(), AllocError>
+    ensures { OnOk result (Adds out.old.items out.new.items (cause_words cause.now)) }
+{
+    match cause {
+        Cause::NowFails { limit: why } => {
+            word(out, "fails")?;
+            limit(out, why)?;
             Ok(())
         }
+        Cause::NowMeets { segment } => {
+            word(out, "meets")?;
+            named_place(out, "segment", *segment)?;
+            Ok(())
+        }
+    }
+}
+
+// A limit of a span, by the effect that fails it.
+fn span_limit(out: &mut Vec<u8>, limit: &Limit) -> Result<(), AllocError>
+    requires { IsOfSpan limit.now }
+    ensures { OnOk result (Adds out.old.items out.new.items (limit_words limit.now)) }
+{
+    match limit {
         Limit::Moment {
             segment,
             span,
@@ -133,25 +142,17 @@ pub fn limit(out: &mut Vec<u8>, limit: &Limit) -> Result<(), AllocError>
             effect(out, "shear", *has, *design, *rating)?;
             Ok(())
         }
+        _ => unreachable!(),
     }
 }
 
-/// Why a proposal is outdated.
-pub fn cause(out: &mut Vec<u8>, cause: &Cause) -> Result<(), AllocError>
-    ensures { OnOk result (Adds out.old.items out.new.items (cause_words cause.now)) }
+// A closed segment.
+fn closed(out: &mut Vec<u8>, segment: u32) -> Result<(), AllocError>
+    ensures { OnOk result (Adds out.old.items out.new.items (limit_words (Limit.Closed segment))) }
 {
-    match cause {
-        Cause::NowFails { limit: why } => {
-            word(out, "fails")?;
-            limit(out, why)?;
-            Ok(())
-        }
-        Cause::NowMeets { segment } => {
-            word(out, "meets")?;
-            named_place(out, "segment", *segment)?;
-            Ok(())
-        }
-    }
+    named_place(out, "segment", segment)?;
+    word(out, "closed")?;
+    Ok(())
 }
 
 // A flag, 0 or 1.
@@ -185,6 +186,16 @@ fn over(
     Ok(())
 }
 
+// What a group weighs, its limit, and the allowance on it.
+fn weighed(out: &mut Vec<u8>, weight: u32, limit: u32, allowance: u32) -> Result<(), AllocError>
+    ensures { OnOk result (Adds out.old.items out.new.items (weighed_words weight limit allowance)) }
+{
+    named(out, "weight", weight)?;
+    named(out, "limit", limit)?;
+    named(out, "allowance", allowance)?;
+    Ok(())
+}
+
 // An effect that is over its rating.
 fn effect(
     out: &mut Vec<u8>,
@@ -193,7 +204,7 @@ fn effect(
     design: Frac,
     rating: u32,
 ) -> Result<(), AllocError>
-    ensures { OnOk result (Adds out.old.items out.new.items (λ ws. name.now ∷ ratio_text has ∷ codes "hs20" ∷ ratio_text design ∷ codes "rating" ∷ decimal rating ∷ ws)) }
+    ensures { OnOk result (Adds out.old.items out.new.items (effect_words name.now has design rating)) }
 {
     named_fraction(out, name, has)?;
     named_fraction(out, "hs20", design)?;

@@ -3,12 +3,13 @@
 ghost use Rattle.std.specs.Prelude.{◌≡◌, ◌∷◌, OnOk, codes};
 ghost use Rattle.std.specs.Fmt.{decimal};
 ghost use Rattle.journal_text.specs.Words.{Adds, index, list_text};
-ghost use Rattle.journal_text.specs.Entries.{reply_words, status_words};
+ghost use Rattle.journal_text.specs.Entries.{reply_words, shown_words, standing_words, status_words};
 
 use crate::calls::days;
 use crate::limits::{cause, limit};
-use crate::words::{day, named, named_numbers, named_place, named_places, word};
-use office_core::Reply;
+use crate::words::{named, named_day, named_numbers, named_place, named_places, word};
+use clearance_rules::Limit;
+use office_core::{Cause, Reply};
 use permit_book::Status;
 use std::alloc::AllocError;
 
@@ -17,85 +18,31 @@ pub fn reply(out: &mut Vec<u8>, reply: &Reply) -> Result<(), AllocError>
     ensures { OnOk result (Adds out.old.items out.new.items (reply_words reply.now)) }
 {
     match reply {
-        Reply::SnapshotAt { version } => {
-            named(out, "at", *version)?;
-            Ok(())
-        }
+        Reply::SnapshotAt { version } => named(out, "at", *version),
         Reply::Issued {
             number,
             version,
             route,
-        } => {
-            named(out, "issued", *number)?;
-            named(out, "at", *version)?;
-            named_places(out, "route", route.as_slice())?;
-            Ok(())
-        }
+        } => issued(out, *number, *version, route.as_slice()),
         Reply::Refused {
             version,
             limit: why,
-        } => {
-            named(out, "refused", *version)?;
-            limit(out, why)?;
-            Ok(())
-        }
+        } => refused(out, *version, why),
         Reply::Outdated {
             version,
             cause: why,
-        } => {
-            named(out, "outdated", *version)?;
-            cause(out, why)?;
-            Ok(())
-        }
-        Reply::NotNeeded => {
-            word(out, "notneeded")?;
-            Ok(())
-        }
-        Reply::NoRoad => {
-            word(out, "noroad")?;
-            Ok(())
-        }
-        Reply::Late { day: kept } => {
-            word(out, "late")?;
-            day(out, *kept)?;
-            Ok(())
-        }
-        Reply::Posted { version, recalled } => {
-            named(out, "posted", *version)?;
-            named_numbers(out, "recalled", recalled.as_slice())?;
-            Ok(())
-        }
-        Reply::OutOfRange => {
-            word(out, "range")?;
-            Ok(())
-        }
-        Reply::DayIs { day: new } => {
-            word(out, "day")?;
-            day(out, *new)?;
-            Ok(())
-        }
-        Reply::DayBack { day: kept } => {
-            word(out, "dayback")?;
-            day(out, *kept)?;
-            Ok(())
-        }
-        Reply::Surrendered => {
-            word(out, "surrendered")?;
-            Ok(())
-        }
-        Reply::NotYours => {
-            word(out, "notyours")?;
-            Ok(())
-        }
-        Reply::Unknown => {
-            word(out, "unknown")?;
-            Ok(())
-        }
-        Reply::NotInForce { status: now } => {
-            word(out, "notinforce")?;
-            status(out, *now)?;
-            Ok(())
-        }
+        } => outdated(out, *version, why),
+        Reply::NotNeeded => word(out, "notneeded"),
+        Reply::NoRoad => word(out, "noroad"),
+        Reply::Late { day: kept } => named_day(out, "late", *kept),
+        Reply::Posted { version, recalled } => posted(out, *version, recalled.as_slice()),
+        Reply::OutOfRange => word(out, "range"),
+        Reply::DayIs { day: new } => named_day(out, "day", *new),
+        Reply::DayBack { day: kept } => named_day(out, "dayback", *kept),
+        Reply::Surrendered => word(out, "surrendered"),
+        Reply::NotYours => word(out, "notyours"),
+        Reply::Unknown => word(out, "unknown"),
+        Reply::NotInForce { status: now } => not_in_force(out, *now),
         Reply::Shown {
             number,
             caller,
@@ -106,21 +53,80 @@ pub fn reply(out: &mut Vec<u8>, reply: &Reply) -> Result<(), AllocError>
             seen,
             status: now,
         } => {
-            named(out, "shown", *number)?;
-            named_place(out, "caller", *caller)?;
-            named_place(out, "truck", *truck)?;
+            shown(out, *number, *caller, *truck)?;
             days(out, *first, *last)?;
-            named(out, "at", *version)?;
-            named(out, "seen", *seen)?;
-            status(out, *now)?;
+            standing(out, *version, *seen, *now)?;
             Ok(())
         }
         Reply::Full { .. } => Ok(()),
-        Reply::NoMemory => {
-            word(out, "nomemory")?;
-            Ok(())
-        }
+        Reply::NoMemory => word(out, "nomemory"),
     }
+}
+
+// That a permit is issued.
+fn issued(out: &mut Vec<u8>, number: u32, version: u32, route: &[u32]) -> Result<(), AllocError>
+    ensures { OnOk result (Adds out.old.items out.new.items (reply_words (Reply.Issued number version route.now))) }
+{
+    named(out, "issued", number)?;
+    named(out, "at", version)?;
+    named_places(out, "route", route)?;
+    Ok(())
+}
+
+// That a limit fails.
+fn refused(out: &mut Vec<u8>, version: u32, why: &Limit) -> Result<(), AllocError>
+    ensures { OnOk result (Adds out.old.items out.new.items (reply_words (Reply.Refused version why.now))) }
+{
+    named(out, "refused", version)?;
+    limit(out, why)?;
+    Ok(())
+}
+
+// That a proposal is outdated.
+fn outdated(out: &mut Vec<u8>, version: u32, why: &Cause) -> Result<(), AllocError>
+    ensures { OnOk result (Adds out.old.items out.new.items (reply_words (Reply.Outdated version why.now))) }
+{
+    named(out, "outdated", version)?;
+    cause(out, why)?;
+    Ok(())
+}
+
+// That a change is posted.
+fn posted(out: &mut Vec<u8>, version: u32, recalled: &[u32]) -> Result<(), AllocError>
+    ensures { OnOk result (Adds out.old.items out.new.items (reply_words (Reply.Posted version recalled.now))) }
+{
+    named(out, "posted", version)?;
+    named_numbers(out, "recalled", recalled)?;
+    Ok(())
+}
+
+// That a permit is not in force.
+fn not_in_force(out: &mut Vec<u8>, now: Status) -> Result<(), AllocError>
+    ensures { OnOk result (Adds out.old.items out.new.items (reply_words (Reply.NotInForce now))) }
+{
+    word(out, "notinforce")?;
+    status(out, now)?;
+    Ok(())
+}
+
+// Whose permit is shown.
+fn shown(out: &mut Vec<u8>, number: u32, caller: u32, truck: u32) -> Result<(), AllocError>
+    ensures { OnOk result (Adds out.old.items out.new.items (shown_words number caller truck)) }
+{
+    named(out, "shown", number)?;
+    named_place(out, "caller", caller)?;
+    named_place(out, "truck", truck)?;
+    Ok(())
+}
+
+// The versions that a permit was issued at and found at, and how it stands.
+fn standing(out: &mut Vec<u8>, version: u32, seen: u32, now: Status) -> Result<(), AllocError>
+    ensures { OnOk result (Adds out.old.items out.new.items (standing_words version seen now)) }
+{
+    named(out, "at", version)?;
+    named(out, "seen", seen)?;
+    status(out, now)?;
+    Ok(())
 }
 
 // How a permit stands.

@@ -3,7 +3,7 @@
 ghost use Rattle.std.specs.Prelude.{◌≡◌, ◌+◌, ◌∷◌, ◌++◌, OnOk, codes, flat_map};
 ghost use Rattle.std.specs.Fmt.{decimal};
 ghost use Rattle.influence_line.specs.Fractions.{ratio_text};
-ghost use Rattle.journal_text.specs.Words.{Adds, group, index, list_text};
+ghost use Rattle.journal_text.specs.Words.{Adds, group, index, list_text, numbers_words, places_words};
 
 use influence_line::Frac;
 use itoa::Buffer;
@@ -70,6 +70,14 @@ pub fn named(out: &mut Vec<u8>, text: &str, n: u32) -> Result<(), AllocError>
     number(out, n)
 }
 
+/// A word and a day.
+pub fn named_day(out: &mut Vec<u8>, text: &str, kept: Day) -> Result<(), AllocError>
+    ensures { OnOk result (Adds out.old.items out.new.items (λ ws. text.now ∷ kept ∷ ws)) }
+{
+    word(out, text)?;
+    day(out, kept)
+}
+
 /// A word and an index.
 pub fn named_place(out: &mut Vec<u8>, text: &str, i: u32) -> Result<(), AllocError>
     ensures { OnOk result (Adds out.old.items out.new.items (λ ws. text.now ∷ index i ∷ ws)) }
@@ -100,7 +108,7 @@ pub fn named_group(out: &mut Vec<u8>, text: &str, i: u32, j: u32) -> Result<(), 
 
 /// A word and a list of numbers.
 pub fn named_numbers(out: &mut Vec<u8>, text: &str, numbers: &[u32]) -> Result<(), AllocError>
-    ensures { OnOk result (Adds out.old.items out.new.items (λ ws. text.now ∷ list_text decimal numbers.now ∷ ws)) }
+    ensures { OnOk result (Adds out.old.items out.new.items (numbers_words text.now numbers.now)) }
 {
     word(out, text)?;
     out.push(b' ')?;
@@ -110,7 +118,7 @@ pub fn named_numbers(out: &mut Vec<u8>, text: &str, numbers: &[u32]) -> Result<(
 
 /// A word and a list of indices, counted from 1.
 pub fn named_places(out: &mut Vec<u8>, text: &str, places: &[u32]) -> Result<(), AllocError>
-    ensures { OnOk result (Adds out.old.items out.new.items (λ ws. text.now ∷ list_text index places.now ∷ ws)) }
+    ensures { OnOk result (Adds out.old.items out.new.items (places_words text.now places.now)) }
 {
     word(out, text)?;
     out.push(b' ')?;
