@@ -26,7 +26,7 @@ one_text axles (probe ∷ probes) a b train spans h k =
     e ∙ (ap (λ x. x ++ rest) (one_probe axles probe first first' train spans.0 is is') ∙ (ap (λ x. first' ++ x) (one_text axles probes rest rest' train spans.1 are are') ∙ sym e'))
 
 pub one_report : ReportIsOne
-one_report file a b train spans h k =
+one_report file train spans a b h k =
     let (probes, are, text) = h in
     let (probes', are', text') = k in
     text ∙ (ap (λ x. truck_text file.truck ++ x) (one_text file.truck.load.train file.probes probes probes' train (recursion_from_All IsSpan file.probes spans) are are') ∙ sym text')

@@ -2,6 +2,8 @@
 use Rattle.std.specs.Prelude.{◌≡◌, ℕ, ◌+◌, nat_lt, Bool, if◌then◌else◌, List, [], ◌∷◌, ◌++◌, codes, length, sum_by}
 use Rattle.std.specs.List.{flat_map}
 use Rattle.std.specs.Fmt.{decimal, signed_decimal}
+use Rattle.std.specs.String.{string_bytes}
+use Rattle.std.specs.declared.string.String.{String}
 use Rattle.axle_train.specs.declared.axle.Axle.{Axle}
 use Rattle.axle_train.specs.Bounds.{IsTrain}
 use Rattle.axle_limits.specs.declared.finding.Finding.{Finding}
@@ -25,6 +27,10 @@ use Rattle.day_text.specs.Spans.{AreSpans}
 use Rattle.trip_analysis.specs.declared.base.Truck.{Truck}
 use Rattle.day_text.specs.declared.check_file.CheckFile.{CheckFile}
 use Rattle.day_text.specs.declared.check_file.Probe.{Probe}
+
+-- a text grew by this
+abbrev pub Grew : {Z : Type 0} → String Z → String Z → List ℕ → Type 0
+Grew old new more = string_bytes new ≡ string_bytes old ++ more
 
 -- truck NAME axles N gross G
 abbrev pub truck_line : Truck → List ℕ
@@ -109,6 +115,10 @@ abbrev pub IsProbeText : List Axle → Probe → List ℕ → Type 0
 IsProbeText axles probe text =
     (m : MomentPeak) × (s : ShearPeak) × IsMomentPeak axles probe.inches m × IsShearPeak axles probe.inches s × (text ≡ probe_text probe m s)
 
+-- a text grew by what is written of a truck on one probe
+abbrev pub AddsProbe : List Axle → Probe → List ℕ → List ℕ → Type 0
+AddsProbe axles probe old new = (one : List ℕ) × IsProbeText axles probe one × (new ≡ old ++ one)
+
 -- the same of all probes, one after another
 abbrev pub AreProbeTexts : List Axle → List Probe → List ℕ → Type 0
 AreProbeTexts axles [] text = text ≡ []
@@ -124,7 +134,14 @@ abbrev pub IsReport : CheckFile → List ℕ → Type 0
 IsReport file text =
     (probes : List ℕ) × AreProbeTexts file.truck.load.train file.probes probes × (text ≡ truck_text file.truck ++ probes)
 
+-- no other text is the report on this file
+abbrev pub IsOnlyReport : CheckFile → List ℕ → Type 0
+IsOnlyReport file text = (other : List ℕ) → IsReport file other → other ≡ text
+
+-- all reports on this file are one
+abbrev pub HasOneReport : CheckFile → Type 0
+HasOneReport file = (a b : List ℕ) → IsReport file a → IsReport file b → a ≡ b
+
 -- a check file has one report
 abbrev pub ReportIsOne : Type 0
-ReportIsOne =
-    (file : CheckFile) (a b : List ℕ) → IsTrain file.truck.load.train → AreSpans file.probes → IsReport file a → IsReport file b → a ≡ b
+ReportIsOne = (file : CheckFile) → IsTrain file.truck.load.train → AreSpans file.probes → HasOneReport file

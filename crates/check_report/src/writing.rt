@@ -1,11 +1,11 @@
 // The text that `check` writes.
 
-ghost use Rattle.std.specs.Prelude.{◌≡◌, ◌++◌, ℕ, List, IfOk, OnOk};
+ghost use Rattle.std.specs.Prelude.{◌≡◌, IfOk, OnOk};
 ghost use Rattle.std.specs.List.{flat_map};
 ghost use Rattle.std.specs.String.{string_bytes};
 ghost use Rattle.span_rating.specs.Loading.{AreSmall};
 ghost use Rattle.day_text.specs.Spans.{AreSpans, IsSpan};
-ghost use Rattle.check_report.specs.Reports.{AddsProbes, IsProbeText, IsReport, ReportIsOne, design_line, end_name, fit_name, high_line, judgement_text, legal_line, moment_line, over_line, peaks_text, rating_line, rule_name, shear_line, truck_line, truck_text, wide_line};
+ghost use Rattle.check_report.specs.Reports.{AddsProbe, AddsProbes, Grew, HasOneReport, IsOnlyReport, IsReport, ReportIsOne, design_line, end_name, fit_name, high_line, judgement_text, legal_line, moment_line, over_line, peaks_text, rating_line, rule_name, shear_line, truck_line, truck_text, wide_line};
 
 use axle_limits::{Finding, Rule, findings};
 use axle_train::Train;
@@ -20,12 +20,13 @@ use span_rating::{Effects, Fit, fits};
 use std::alloc::{AllocError, Global};
 use trip_analysis::Truck;
 
-/// The report on a check file: its truck, and then its truck on each of its probes.
+/// The report on a check file: its truck, and then its truck on each of its probes. There is no other.
 pub fn report(alloc: Global, file: &CheckFile) -> Result<String, NoMemory>
-    ensures { IfOk result (λ text. IsReport file.now (string_bytes text)) }
+    ensures report { IfOk result (λ text. IsReport file.now (string_bytes text)) }
+    ensures only { IfOk result (λ text. IsOnlyReport file.now (string_bytes text)) }
 {
-    let mut text = truck_report(alloc, &file.truck)?;
-    add_probes(&mut text, file.truck.load.train(), file.probes.as_slice())?;
+    one_report(file);
+    let text = whole_report(alloc, file)?;
     Ok(text)
 }
 
@@ -33,6 +34,24 @@ pub fn report(alloc: Global, file: &CheckFile) -> Result<String, NoMemory>
 pub fn report_is_one()
     ensures { ReportIsOne }
 {}
+
+// The law for this file, whose truck and probes tell that they are within their bounds.
+fn one_report(file: &CheckFile)
+    ensures { HasOneReport file.now }
+{
+    let _train = file.truck.load.train();
+    let _probes = file.probes.as_slice();
+    report_is_one();
+}
+
+// The report, as its definition has it.
+fn whole_report(alloc: Global, file: &CheckFile) -> Result<String, NoMemory>
+    ensures { IfOk result (λ text. IsReport file.now (string_bytes text)) }
+{
+    let mut text = truck_report(alloc, &file.truck)?;
+    add_probes(&mut text, file.truck.load.train(), file.probes.as_slice())?;
+    Ok(text)
+}
 
 // The report on a truck alone.
 fn truck_report(alloc: Global, truck: &Truck) -> Result<String, NoMemory>
@@ -51,7 +70,7 @@ fn truck_report(alloc: Global, truck: &Truck) -> Result<String, NoMemory>
 
 // What the truck is.
 fn add_truck(text: &mut String, truck: &Truck) -> Result<(), AllocError>
-    ensures { OnOk result (string_bytes text.new ≡ string_bytes text.old ++ truck_line truck.now) }
+    ensures { OnOk result (Grew text.old text.new (truck_line truck.now)) }
 {
     let name = truck.name;
     let train = truck.load.train();
@@ -62,7 +81,7 @@ fn add_truck(text: &mut String, truck: &Truck) -> Result<(), AllocError>
 
 // Each group over its limit, and the gross weight where it is over its own.
 fn add_findings(text: &mut String, found: &[Finding]) -> Result<(), AllocError>
-    ensures { OnOk result (string_bytes text.new ≡ string_bytes text.old ++ flat_map over_line found.now) }
+    ensures { OnOk result (Grew text.old text.new (flat_map over_line found.now)) }
 {
     for finding in found {
         add_finding(text, finding)?;
@@ -72,7 +91,7 @@ fn add_findings(text: &mut String, found: &[Finding]) -> Result<(), AllocError>
 
 // One finding, with axles counted from 1.
 fn add_finding(text: &mut String, finding: &Finding) -> Result<(), AllocError>
-    ensures { OnOk result (string_bytes text.new ≡ string_bytes text.old ++ over_line finding.now) }
+    ensures { OnOk result (Grew text.old text.new (over_line finding.now)) }
 {
     let first = finding.i as u128 + 1;
     let last = finding.j as u128 + 1;
@@ -97,7 +116,7 @@ fn rule_name(rule: Rule) -> &'static str
 
 // The height, where it is over its limit.
 fn add_height(text: &mut String, load: &Load) -> Result<(), AllocError>
-    ensures { OnOk result (string_bytes text.new ≡ string_bytes text.old ++ high_line load.now) }
+    ensures { OnOk result (Grew text.old text.new (high_line load.now)) }
 {
     let height = load.height();
     if height > 162 {
@@ -108,7 +127,7 @@ fn add_height(text: &mut String, load: &Load) -> Result<(), AllocError>
 
 // The width, where it is over its limit.
 fn add_width(text: &mut String, load: &Load) -> Result<(), AllocError>
-    ensures { OnOk result (string_bytes text.new ≡ string_bytes text.old ++ wide_line load.now) }
+    ensures { OnOk result (Grew text.old text.new (wide_line load.now)) }
 {
     let width = load.width();
     if width > 102 {
@@ -119,7 +138,7 @@ fn add_width(text: &mut String, load: &Load) -> Result<(), AllocError>
 
 // Whether the load is legal.
 fn add_legality(text: &mut String, load: &Load) -> Result<(), AllocError>
-    ensures { OnOk result (string_bytes text.new ≡ string_bytes text.old ++ legal_line load.now) }
+    ensures { OnOk result (Grew text.old text.new (legal_line load.now)) }
 {
     if load.legal() {
         text.push_str("legal yes\n")
@@ -142,7 +161,7 @@ fn add_probes(text: &mut String, train: &Train, probes: &[Probe]) -> Result<(), 
 // The truck on one probe.
 fn add_probe(text: &mut String, train: &Train, probe: &Probe) -> Result<(), AllocError>
     requires { IsSpan probe.now }
-    ensures { OnOk result ((one : List ℕ) × IsProbeText train.now probe.now one × (string_bytes text.new ≡ string_bytes text.old ++ one)) }
+    ensures { OnOk result (AddsProbe train.now probe.now (string_bytes text.old) (string_bytes text.new)) }
 {
     let moment = moment_peak::peak(train, probe.inches);
     let shear = shear_peak::peak(train, probe.inches);
@@ -161,7 +180,7 @@ fn add_peaks(
     moment: &MomentPeak,
     shear: &ShearPeak,
 ) -> Result<(), AllocError>
-    ensures { OnOk result (string_bytes text.new ≡ string_bytes text.old ++ peaks_text probe.now moment.now shear.now) }
+    ensures { OnOk result (Grew text.old text.new (peaks_text probe.now moment.now shear.now)) }
 {
     let inches = probe.inches;
     write!(text, "span {inches}\n")?;
@@ -173,7 +192,7 @@ fn add_peaks(
 fn add_judgement(text: &mut String, probe: &Probe, truck: &Effects) -> Result<(), AllocError>
     requires span { IsSpan probe.now }
     requires truck { AreSmall truck.now }
-    ensures { OnOk result (string_bytes text.new ≡ string_bytes text.old ++ judgement_text probe.now truck.now) }
+    ensures { OnOk result (Grew text.old text.new (judgement_text probe.now truck.now)) }
 {
     let design = effects(probe.inches);
     add_design(text, &design)?;
@@ -182,7 +201,7 @@ fn add_judgement(text: &mut String, probe: &Probe, truck: &Effects) -> Result<()
 
 // A peak moment, with axles counted from 1.
 fn add_moment(text: &mut String, peak: &MomentPeak) -> Result<(), AllocError>
-    ensures { OnOk result (string_bytes text.new ≡ string_bytes text.old ++ moment_line peak.now) }
+    ensures { OnOk result (Grew text.old text.new (moment_line peak.now)) }
 {
     let value = peak.value;
     let Place { q, lead, section } = peak.place;
@@ -197,7 +216,7 @@ fn add_moment(text: &mut String, peak: &MomentPeak) -> Result<(), AllocError>
 
 // A peak end shear.
 fn add_shear(text: &mut String, peak: &ShearPeak) -> Result<(), AllocError>
-    ensures { OnOk result (string_bytes text.new ≡ string_bytes text.old ++ shear_line peak.now) }
+    ensures { OnOk result (Grew text.old text.new (shear_line peak.now)) }
 {
     let value = peak.value;
     let lead = peak.lead;
@@ -207,7 +226,7 @@ fn add_shear(text: &mut String, peak: &ShearPeak) -> Result<(), AllocError>
 
 // The peaks of the HS20-44 truck.
 fn add_design(text: &mut String, design: &Effects) -> Result<(), AllocError>
-    ensures { OnOk result (string_bytes text.new ≡ string_bytes text.old ++ design_line design.now) }
+    ensures { OnOk result (Grew text.old text.new (design_line design.now)) }
 {
     let moment = design.moment;
     let shear = design.shear;
@@ -216,7 +235,7 @@ fn add_design(text: &mut String, design: &Effects) -> Result<(), AllocError>
 
 // A rating, and the judgement by it.
 fn add_rating(text: &mut String, rating: u32, fit: Fit) -> Result<(), AllocError>
-    ensures { OnOk result (string_bytes text.new ≡ string_bytes text.old ++ rating_line rating fit) }
+    ensures { OnOk result (Grew text.old text.new (rating_line rating fit)) }
 {
     let name = fit_name(fit);
     write!(text, "rating {rating} {name}\n")
