@@ -1,4 +1,5 @@
 pub mod Tasks
 pub mod Days
 pub mod Serving
+pub mod Outputs
 pub mod Runs

@@ -1,14 +1,10 @@
 -- What one run of the program does: its status, what it read and what it wrote.
-use Rattle.std.specs.Prelude.{◌≡◌, ◌⊎◌, ℕ, ◌<◌, ◌≤◌, Bool, false, if◌then◌else◌, nat_lt, List, [], ◌∷◌, ◌++◌, codes, length, take, Option, Some, IfSome, Ok, is_ok}
+use Rattle.std.specs.Prelude.{◌≡◌, ◌≢◌, ◌↔◌, ◌⊎◌, ℕ, ◌+◌, ◌<◌, ◌≤◌, false, if◌then◌else◌, nat_lt, List, [], ◌∷◌, ◌++◌, codes, length, take, Option, Some, None, IfSome, IsSomeAnd}
 use Rattle.std.specs.Io.KnownBytes.{Appends}
-use Rattle.office_io.specs.Causes.{Rose}
-use Rattle.day_text.specs.declared.check_file.CheckFile.{CheckFile}
-use Rattle.day_text.specs.Checks.{check_of}
-use Rattle.day_text.specs.Days.{DayParts, day_of}
-use Rattle.check_report.specs.Reports.{IsReport}
-use Rattle.journal_text.specs.Journals.{journal_of}
-use Rattle.office_core.specs.declared.entry.Entry.{Entry}
-use Rattle.permit_cli.specs.Days.{IsServed}
+use Rattle.office_io.specs.Causes.{Rose, TookAtMost}
+use Rattle.permit_cli.specs.Outputs.{IsOutputOf, takes}
+use Rattle.permit_cli.specs.declared.run.Alone.{Alone}
+use Rattle.permit_cli.specs.declared.run.Alone.TheVariants as alone
 use Rattle.permit_cli.specs.declared.task.Task.{Task}
 use Rattle.permit_cli.specs.declared.task.Task.TheVariants.{Check, Day}
 
@@ -27,41 +23,67 @@ bytes_line = codes "refused: bytes" ++ (10 ∷ [])
 abbrev pub input_line : List ℕ
 input_line = codes "refused: input" ++ (10 ∷ [])
 
--- the text is the report on the check file that the bytes are
-abbrev pub Reports : List ℕ → List ℕ → Type 0
-Reports bytes text = (file : CheckFile) × (check_of bytes ≡ Ok file) × IsReport file text
+-- a source at some time: itself, the bytes that it has left, where it tells them, and how often it has failed
+pub record SourceAt (S : Type 0) : Type 0 where
+  pub itself : S
+  pub left : Option (List ℕ)
+  pub faults : ℕ
 
--- the text is the journal of a legal history that holds each command of the day file that the bytes are once, in its order
-abbrev pub Journals : List ℕ → List ℕ → Type 0
-Journals bytes text =
-    (file : DayParts) × (history : List Entry) × (day_of bytes ≡ Ok file) × IsServed file history × (text ≡ journal_of history)
+-- a sink at some time: itself, the bytes that it holds, where it tells them, and how often it has failed
+pub record SinkAt (K : Type 0) : Type 0 where
+  pub itself : K
+  pub held : Option (List ℕ)
+  pub faults : ℕ
 
--- the text is what the task writes for the bytes
-abbrev pub Tells : Task → List ℕ → List ℕ → Type 0
-Tells Check bytes text = Reports bytes text
-Tells Day bytes text = Journals bytes text
+-- what a run meets outside: where bytes come from, and where they go
+pub record Outside (S K : Type 0) : Type 0 where
+  pub source : SourceAt S
+  pub sink : SinkAt K
 
--- whether the task takes the bytes
-abbrev pub takes : Task → List ℕ → Bool
-takes Check bytes = is_ok (check_of bytes)
-takes Day bytes = is_ok (day_of bytes)
+abbrev pub sink_at : {K : Type 0} → (K → Option (List ℕ)) → (K → ℕ) → K → SinkAt K
+sink_at held faults sink = record { itself = sink; held = held sink; faults = faults sink }
 
--- Status 0: the task took the bytes that were left, nothing is left, and what it writes for them was appended.
-abbrev pub WroteAll : Task → Option (List ℕ) → Option (List ℕ) → Option (List ℕ) → Option (List ℕ) → Type 0
-WroteAll task left left' held held' =
-    IfSome left (λ bytes. (text : List ℕ) × Tells task bytes text × (left' ≡ Some []) × Appends held held' text)
+abbrev pub outside_of : {S K : Type 0} → (S → Option (List ℕ)) → (S → ℕ)
+    → (K → Option (List ℕ)) → (K → ℕ) → S → K → Outside S K
+outside_of left source_faults held sink_faults source sink = record {
+  source = record { itself = source; left = left source; faults = source_faults source };
+  sink = sink_at held sink_faults sink;
+}
 
--- Status 4: what was appended is the front of what the task writes.
-abbrev pub WroteFront : Task → Option (List ℕ) → Option (List ℕ) → Option (List ℕ) → Type 0
-WroteFront task left held held' =
-    IfSome left (λ bytes. (text : List ℕ) × (count : ℕ) × Tells task bytes text × Appends held held' (take count text))
+-- the source failed meanwhile, and the sink did
+abbrev pub SourceFailed : {S K : Type 0} → Outside S K → Outside S K → Type 0
+SourceFailed before after = Rose before.source.faults after.source.faults
 
--- A line was appended, whole where the sink's count of faults did not rise, and else a front of it.
-pub record WroteLine (line : List ℕ) (held held' : Option (List ℕ)) (faults faults' : ℕ) : Type 0 where
-  pub front : (count : ℕ) × Appends held held' (take count line)
-  pub whole : (Rose faults faults' → ⊥) → Appends held held' line
+abbrev pub SinkFailed : {K : Type 0} → SinkAt K → SinkAt K → Type 0
+SinkFailed before after = Rose before.faults after.faults
 
--- The status that a task and bytes call for, where no count of faults rises.
+-- these are all the bytes that the source had left, where it tells them, and it has none left
+abbrev pub TookAll : {S : Type 0} → SourceAt S → SourceAt S → List ℕ → Type 0
+TookAll before after bytes = IfSome before.left (λ left. (bytes ≡ left) × (after.left ≡ Some []))
+
+-- Status 0: some bytes were taken, all that were left, and what the task writes for them was appended.
+pub record WroteAll {S K : Type 0} (task : Task) (before after : Outside S K) : Type 0 where
+  pub bytes : List ℕ
+  pub text : List ℕ
+  pub took : TookAll before.source after.source bytes
+  pub output : IsOutputOf task bytes text
+  pub wrote : Appends before.sink.held after.sink.held text
+
+-- Status 4: the same, but of what the task writes only the front was appended.
+pub record WroteFront {S K : Type 0} (task : Task) (before after : Outside S K) : Type 0 where
+  pub bytes : List ℕ
+  pub text : List ℕ
+  pub count : ℕ
+  pub took : TookAll before.source after.source bytes
+  pub output : IsOutputOf task bytes text
+  pub wrote : Appends before.sink.held after.sink.held (take count text)
+
+-- A line was appended, whole where the sink did not fail, and else a front of it.
+pub record WroteLine {K : Type 0} (line : List ℕ) (before after : SinkAt K) : Type 0 where
+  pub front : (count : ℕ) × Appends before.held after.held (take count line)
+  pub whole : (SinkFailed before after → ⊥) → Appends before.held after.held line
+
+-- The status that a task and bytes call for, where neither the source nor the sink fails.
 abbrev pub status_for : Task → List ℕ → ℕ
 status_for task bytes = if nat_lt most_bytes (length bytes) then 6 else (if takes task bytes then 0 else 5)
 
@@ -82,3 +104,35 @@ IsSettled task left status =
 -- Every status that comes.
 abbrev pub IsStatus : ℕ → Type 0
 IsStatus status = (status ≡ 0) ⊎ (status ≡ 2) ⊎ (status ≡ 3) ⊎ (status ≡ 4) ⊎ (status ≡ 5) ⊎ (status ≡ 6) ⊎ (status ≡ 7)
+
+-- What a run does: the task that was asked for, what stood outside before it and after it, and its status.
+pub record IsRun {S K : Type 0} (asked : Option Task) (before after : Outside S K) (status : ℕ) : Type 0 where
+  -- 0: the task was done
+  pub done : status ≡ 0 → IsSomeAnd asked (λ task. WroteAll task before after)
+  -- the cause of each other status: 2 comes exactly where no task was asked for
+  pub usage : status ≡ 2 ↔ (asked ≡ None)
+  pub read : status ≡ 3 → SourceFailed before after
+  pub written : status ≡ 4 → SinkFailed before.sink after.sink
+  pub bad : status ≡ 5 → IsSomeAnd asked (λ task. IsRefused task before.source.left)
+  pub long : status ≡ 6 → IsTooLong before.source.left
+  -- where the source does not fail, the task and the bytes decide, unless the sink fails or no memory is left
+  pub settled : (SourceFailed before after → ⊥) → IfSome asked (λ task. IsSettled task before.source.left status)
+  pub statuses : IsStatus status
+  -- what was written with each other status
+  pub usage_told : status ≡ 2 → WroteLine usage_line before.sink after.sink
+  pub nothing_read : status ≡ 3 → after.sink ≡ before.sink
+  pub front : status ≡ 4 → IsSomeAnd asked (λ task. WroteFront task before after)
+  pub input_told : status ≡ 5 → WroteLine input_line before.sink after.sink
+  pub bytes_told : status ≡ 6 → WroteLine bytes_line before.sink after.sink
+  pub nothing_kept : status ≡ 7 → after.sink ≡ before.sink
+  -- what stays: without a task nothing is read, and no status but 3 comes with a fault of the source
+  pub untouched : status ≡ 2 → after.source ≡ before.source
+  pub calm : status ≢ 3 → after.source.faults ≡ before.source.faults
+  pub calm_sink : status ≡ 0 → after.sink.faults ≡ before.sink.faults
+  pub most : TookAtMost (most_bytes + 1) before.source.left after.source.left
+
+-- What a run does that needs no threads: it is a run for `check` or for no task, or a day is asked for and nothing was
+-- read or written.
+abbrev pub IsAlone : {S K : Type 0} → Option Task → Outside S K → Outside S K → Alone → Type 0
+IsAlone asked before after (alone.Status status) = (status ≢ 2 → asked ≡ Some Check) × IsRun asked before after status
+IsAlone asked before after alone.Day = (asked ≡ Some Day) × (after ≡ before)

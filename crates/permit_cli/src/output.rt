@@ -1,7 +1,7 @@
 // What a task writes for the bytes that it reads.
 
 ghost use Rattle.std.specs.Prelude.{◌≡◌, IfOk, IsErrOf, OnOk, true, false};
-ghost use Rattle.permit_cli.specs.Runs.{Journals, Reports, Tells, takes};
+ghost use Rattle.permit_cli.specs.Outputs.{IsJournalOn, IsOnlyOutputOf, IsOutputOf, IsReportOn, takes};
 ghost use Rattle.permit_cli.specs.declared.task.Task.TheVariants as task;
 
 use crate::serving::serve;
@@ -9,13 +9,53 @@ use crate::task::Task;
 use check_report::report;
 use day_text::{DayFileRefusal, read_check, read_day};
 use journal_text::print;
+use office_core::answers_are_one;
+use office_io::NoMemory;
 use std::alloc::Global;
+use thiserror::Error;
 
-/// What the task writes for the bytes. `Refused` comes exactly where it does not take them.
-pub fn output(alloc: Global, task: Task, bytes: &[u8]) -> Result<Vec<u8>, DayFileRefusal>
-    ensures told { IfOk result (λ text. Tells task bytes.now text.items) }
+/// Why a task writes nothing for some bytes.
+#[derive(Clone, Copy, Debug, Drop, PartialEq, Eq, Error)]
+pub enum OutputRefusal {
+    /// The bytes are no file of the task.
+    #[error("the file is refused")]
+    Refused,
+    /// No memory was left.
+    #[error("out of memory")]
+    NoMemory,
+}
+
+impl From<DayFileRefusal> for OutputRefusal {
+    ghost use Rattle.permit_cli.specs.Outputs.{output_refusal};
+
+    ghost from_gives = { λ refused refusal. refusal ≡ output_refusal refused };
+
+    fn from(refused: DayFileRefusal) -> OutputRefusal {
+        match refused {
+            DayFileRefusal::Refused => OutputRefusal::Refused,
+            DayFileRefusal::NoMemory => OutputRefusal::NoMemory,
+        }
+    }
+}
+
+impl From<NoMemory> for OutputRefusal {
+    ghost use Rattle.permit_cli.specs.declared.output.OutputRefusal.TheVariants as output;
+
+    ghost from_gives = { λ _ refusal. refusal ≡ output.NoMemory };
+
+    fn from(_e: NoMemory) -> OutputRefusal {
+        OutputRefusal::NoMemory
+    }
+}
+
+/// What the task writes for the bytes, whatever they are: for `check` the report on the check file that they are, and for
+/// `day` the journal of one legal history that holds each command of the day file that they are once, in its order.
+/// `Refused` comes exactly where they are no such file.
+pub fn output(alloc: Global, task: Task, bytes: &[u8]) -> Result<Vec<u8>, OutputRefusal>
+    ensures promise { IfOk result (λ text. IsOutputOf task bytes.now text.items) }
+    ensures only { IfOk result (λ text. IsOnlyOutputOf task bytes.now text.items) }
     ensures taken { OnOk result (takes task bytes.now ≡ true) }
-    ensures refused { IsErrOf result DayFileRefusal.Refused → takes task bytes.now ≡ false }
+    ensures refused { IsErrOf result OutputRefusal.Refused → takes task bytes.now ≡ false }
 {
     match task {
         Task::Check => check(alloc, bytes),
@@ -24,30 +64,28 @@ pub fn output(alloc: Global, task: Task, bytes: &[u8]) -> Result<Vec<u8>, DayFil
 }
 
 // The report on a check file.
-fn check(alloc: Global, bytes: &[u8]) -> Result<Vec<u8>, DayFileRefusal>
-    ensures told { IfOk result (λ text. Reports bytes.now text.items) }
+fn check(alloc: Global, bytes: &[u8]) -> Result<Vec<u8>, OutputRefusal>
+    ensures promise { IfOk result (λ text. IsReportOn bytes.now text.items) }
+    ensures only { IfOk result (λ text. IsOnlyOutputOf task.Check bytes.now text.items) }
     ensures taken { OnOk result (takes task.Check bytes.now ≡ true) }
-    ensures refused { IsErrOf result DayFileRefusal.Refused → takes task.Check bytes.now ≡ false }
+    ensures refused { IsErrOf result OutputRefusal.Refused → takes task.Check bytes.now ≡ false }
 {
     let file = read_check(alloc, bytes)?;
-    match report(alloc, &file) {
-        Ok(text) => Ok(text.into_bytes()),
-        Err(_) => Err(DayFileRefusal::NoMemory),
-    }
+    let text = report(alloc, &file)?;
+    Ok(text.into_bytes())
 }
 
 // The journal of a day.
-fn day(alloc: Global, bytes: &[u8]) -> Result<Vec<u8>, DayFileRefusal>
-    ensures told { IfOk result (λ text. Journals bytes.now text.items) }
+fn day(alloc: Global, bytes: &[u8]) -> Result<Vec<u8>, OutputRefusal>
+    ensures promise { IfOk result (λ text. IsJournalOn bytes.now text.items) }
+    ensures only { IfOk result (λ text. IsOnlyOutputOf task.Day bytes.now text.items) }
     ensures taken { OnOk result (takes task.Day bytes.now ≡ true) }
-    ensures refused { IsErrOf result DayFileRefusal.Refused → takes task.Day bytes.now ≡ false }
+    ensures refused { IsErrOf result OutputRefusal.Refused → takes task.Day bytes.now ≡ false }
 {
     let file = read_day(alloc, bytes)?;
-    let Ok(office) = serve(alloc, file) else {
-        return Err(DayFileRefusal::NoMemory);
-    };
-    match print(alloc, office.history()) {
-        Ok(text) => Ok(text),
-        Err(_) => Err(DayFileRefusal::NoMemory),
-    }
+    let office = serve(alloc, file)?;
+    // the law by which no other history serves the day
+    answers_are_one();
+    let text = print(alloc, office.history())?;
+    Ok(text)
 }
