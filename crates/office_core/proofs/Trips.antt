@@ -21,6 +21,8 @@ use Rattle.route_search.specs.declared.found.Found.TheVariants as found
 use Rattle.route_search.specs.Founds.{IsFound as IsSearched}
 use Rattle.trip_analysis.proofs.Found.{among_from_is_in, is_in_from_among}
 use Rattle.trip_analysis.proofs.Meanings.{asked_meet, routes_are_first}
+use Rattle.route_search.specs.Laws.{Leaves}
+use Rattle.route_search.proofs.Cuts.{stays_in}
 use Rattle.route_search.proofs.Outcomes.{to_every}
 
 -- what is found is not that nothing is needed
@@ -151,20 +153,9 @@ road_or base state a nodes h = by a.asked refl (found_by base state a (what.Cut 
     by (Some route) asked is = asked_by route (first_on base state a.truck route) is
     by None asked is = let (f, is_found, same) = is in searched f is_found same
 
--- a walk out of nodes that no segment leaves stays in them
-stays_in : (segments : List Segment) (may : ℕ → Bool) (nodes : List ℕ) → ((i : ℕ) (s : Segment) → slice_get segments i ≡ Some s → may i ≡ true → is_in s.from nodes ≡ true → is_in s.to nodes ≡ true)
-    → (a b : ℕ) (path : List ℕ) → IsWalk segments may a b path → is_in a nodes ≡ true → is_in b nodes ≡ true
-stays_in segments may nodes closed a b [] walk inside = subst (λ (n : ℕ). is_in n nodes ≡ true) walk inside
-stays_in segments may nodes closed a b (i ∷ path) walk inside =
-    let (s, at, may1, from, rest) = walk in
-    stays_in segments may nodes closed s.to b path rest (closed i s at may1 (subst (λ (n : ℕ). is_in n nodes ≡ true) (sym from) inside))
-
--- a segment that does not leave nodes in which it begins ends in them
-ends_in : (roads : Roads) (nodes : List ℕ) (i : ℕ) (s : Segment) → slice_get roads.segments i ≡ Some s → (leaves roads nodes i ≡ true → ⊥) → is_in s.from nodes ≡ true → is_in s.to nodes ≡ true
-ends_in roads nodes i s at off begins = elim (cases_Bool (is_in s.to nodes)) [
-  | inl e ↦ e
-  | inr e ↦ absurd (off (ap (λ (t : Segment). is_in t.from nodes && not (is_in t.to nodes)) (get_or_from_slice_get roads.segments i s no_segment at) ∙ both begins e))
-]
+-- a segment that begins in a set of nodes and does not end in it leaves it
+leaves_of : (roads : Roads) (nodes : List ℕ) (i : ℕ) (s : Segment) → slice_get roads.segments i ≡ Some s → Leaves (λ n. is_in n nodes) s → leaves roads nodes i ≡ true
+leaves_of roads nodes i s at h = ap (λ (t : Segment). is_in t.from nodes && not (is_in t.to nodes)) (get_or_from_slice_get roads.segments i s no_segment at) ∙ both h.0 h.1
   where
     both : {b c : Bool} → b ≡ true → c ≡ false → (b && not c) ≡ true
     both e f = rw (e, f) refl
@@ -249,17 +240,17 @@ none_left f a (suc k) e s low high on = by (f a) refl e (cases_eq s a) (λ rest 
 -- where no segment that leaves the nodes may be passed, no passable walk leads from the one to the other
 pub none_passable : (base : BaseLists) (state : InForce) (truck a b : ℕ) (nodes path : List ℕ) → Separates nodes a b → first_meeting base state truck (leaving base.roads nodes) ≡ None → IsWalk base.roads.segments (is_passable base state truck) a b path → ⊥
 none_passable base state truck a b nodes path apart none walk =
-    false≢true (sym apart.outside ∙ stays_in base.roads.segments (is_passable base state truck) nodes closed a b path walk apart.inside)
+    false≢true (sym apart.outside ∙ stays_in base.roads.segments (is_passable base state truck) (λ n. is_in n nodes) closed a b path apart.inside walk)
   where
-    closed : (i : ℕ) (s : Segment) → slice_get base.roads.segments i ≡ Some s → is_passable base state truck i ≡ true → is_in s.from nodes ≡ true → is_in s.to nodes ≡ true
-    closed i s at may = let within : i < length base.roads.segments = slice_get_within base.roads.segments i s at in
-        ends_in base.roads nodes i s at (λ out. false≢true (sym (none_meets base state truck (leaves base.roads nodes) 0 (length base.roads.segments - 0) none i (omega arith) (omega (arith, within)) out) ∙ may))
+    closed : (i : ℕ) (s : Segment) → slice_get base.roads.segments i ≡ Some s → is_passable base state truck i ≡ true → Leaves (λ n. is_in n nodes) s → ⊥
+    closed i s at may out = let within : i < length base.roads.segments = slice_get_within base.roads.segments i s at in
+        false≢true (sym (none_meets base state truck (leaves base.roads nodes) 0 (length base.roads.segments - 0) none i (omega arith) (omega (arith, within)) (leaves_of base.roads nodes i s at out)) ∙ may)
 
 -- where no segment leaves the nodes, no walk leads from the one to the other
 pub none_there : (roads : Roads) (a b : ℕ) (nodes path : List ℕ) → Separates nodes a b → leaving roads nodes ≡ [] → IsWalk roads.segments every a b path → ⊥
 none_there roads a b nodes path apart none walk =
-    false≢true (sym apart.outside ∙ stays_in roads.segments every nodes closed a b path walk apart.inside)
+    false≢true (sym apart.outside ∙ stays_in roads.segments every (λ n. is_in n nodes) closed a b path apart.inside walk)
   where
-    closed : (i : ℕ) (s : Segment) → slice_get roads.segments i ≡ Some s → every i ≡ true → is_in s.from nodes ≡ true → is_in s.to nodes ≡ true
-    closed i s at may = let within : i < length roads.segments = slice_get_within roads.segments i s at in
-        ends_in roads nodes i s at (λ out. none_left (leaves roads nodes) 0 (length roads.segments - 0) none i (omega arith) (omega (arith, within)) out)
+    closed : (i : ℕ) (s : Segment) → slice_get roads.segments i ≡ Some s → every i ≡ true → Leaves (λ n. is_in n nodes) s → ⊥
+    closed i s at may out = let within : i < length roads.segments = slice_get_within roads.segments i s at in
+        none_left (leaves roads nodes) 0 (length roads.segments - 0) none i (omega arith) (omega (arith, within)) (leaves_of roads nodes i s at out)
