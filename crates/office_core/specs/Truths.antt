@@ -20,7 +20,7 @@ use Rattle.office_core.specs.declared.entry.Cause.TheVariants as cause
 use Rattle.office_core.specs.Clearances.{MeetsTruck}
 use Rattle.office_core.specs.Passages.{IsPassableWalk, IsRoadWalk, IsShortest, LeadsOut}
 use Rattle.office_core.specs.Happened.{Day, History, Route, application_in, day_after, issued_in}
-use Rattle.office_core.specs.Happened.{state_after, state_at_version, state_seen, version_after}
+use Rattle.office_core.specs.Happened.{seen_by, state_after, state_at_version, state_seen, version_after}
 
 -- a call asks for a trip that can be asked for: its truck and its nodes are there, an asked route is a walk
 -- of it, and its days are in order
@@ -35,7 +35,7 @@ WasFound base before a route (Some asked) = (route ≡ asked) × All (MeetsTruck
 WasFound base before a route None = IsShortest base before a.truck a.from a.to route
 
 -- a permit has the next number and names the current version. Its route is a walk of the trip, each segment
--- of which meets the truck in the state of that version. It was found in the state of the version seen. The
+-- of which meets the truck in the state of that version. It was found for the version seen. The
 -- truck is not legal without a permit, and the trip does not begin before the day
 pub record TruePermit (base : BaseLists) (day : Day) (front : History) (c : Call) (n v : ℕ) (route : Route)
     : Type 0 where
@@ -44,6 +44,7 @@ pub record TruePermit (base : BaseLists) (day : Day) (front : History) (c : Call
   pub number : n ≡ issued_in front + 1
   pub version : v ≡ version_after front
   pub walk : IsPassableWalk base (state_after base front) trip.truck trip.from trip.to route
+  pub seen : seen_by front c ≤ v
   pub found : WasFound base (state_seen base front c) trip route trip.asked
   pub needed : IsLegal (truck_of base trip.truck).load → ⊥
   pub on_time : is_before trip.first (day_after day front) ≡ false
@@ -85,6 +86,7 @@ pub record TrueRefusal (base : BaseLists) (front : History) (c : Call) (v : ℕ)
   pub asked : AsksFor base c trip
   pub version : v ≡ version_after front
   pub limit : IsFirstLimit base (state_after base front) trip.truck l
+  pub seen : seen_by front c ≤ v
   pub stands : StandsInTheWay base (state_seen base front c) (state_after base front) trip (segment_of l)
       trip.asked
 
