@@ -87,6 +87,10 @@ base_is_of roads is = record {
   ];
 }
 
+-- a state of the network has what the network takes
+pub named_of : (roads : Roads) (state : InForce) (change : Change) → AreOf roads state → takes roads change ≡ true → is_named state change ≡ true
+named_of roads state change is taken = named_by_count roads state change is.values is.ratings taken
+
 -- a rating in range keeps the others
 rated : (ratings : List ℕ) (span permille i : ℕ) → span < length ratings → permille ≤ 100000 → rating_at ratings i ≤ 100000
     → rating_at (state_after (record { values = []; ratings = ratings }) (Rating span permille)).ratings i ≤ 100000

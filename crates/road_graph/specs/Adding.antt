@@ -20,6 +20,10 @@ new_segment name from to feet = record { name = name; from = from; to = to; feet
 abbrev pub with_segment : Roads → Segment → Roads
 with_segment roads s = record roads { segments = roads.segments ++ s ∷ [] }
 
+-- a span
+abbrev pub new_span : List ℕ → ℕ → ℕ → ℕ → Span
+new_span name segment inches rating = record { name = name; segment = segment; inches = inches; rating = rating }
+
 -- the network with one span more
 abbrev pub with_span : Roads → Span → Roads
 with_span roads t = record roads { spans = roads.spans ++ t ∷ [] }
@@ -28,10 +32,14 @@ with_span roads t = record roads { spans = roads.spans ++ t ∷ [] }
 abbrev pub limited : Segment → What → ℕ → Segment
 limited s what value = record s { base = with_value s.base what value }
 
+-- the segments with one limit of one of them replaced
+abbrev pub segments_limited : List Segment → ℕ → What → ℕ → List Segment
+segments_limited segments i what value = slice_set segments i (limited (segment_at segments i) what value)
+
 -- the network with one limit of one segment replaced
 abbrev pub with_limit : Roads → ℕ → What → ℕ → Roads
 with_limit roads i what value =
-    record roads { segments = slice_set roads.segments i (limited (segment_at roads.segments i) what value) }
+    record roads { segments = segments_limited roads.segments i what value }
 
 -- the first cause, in this order, for which a node is refused: its name is taken, or there are 4,096 nodes
 abbrev pub node_refusal : Roads → List ℕ → Option AddRefusal

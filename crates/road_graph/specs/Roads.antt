@@ -59,6 +59,10 @@ outgoing_of segments node = map (λ x. x.0) (numbered (λ s. s.from == node) seg
 abbrev pub arrival_of : ℕ × Segment → Arrival
 arrival_of x = record { segment = x.0; from = x.1.from; feet = x.1.feet }
 
+-- the next segment as it will be seen from its end
+abbrev pub next_arrival : List Segment → Segment → Arrival
+next_arrival segments segment = arrival_of (length segments, segment)
+
 -- the segments that end at a node, rising
 abbrev pub incoming_of : List Segment → ℕ → List Arrival
 incoming_of segments node = map arrival_of (numbered (λ s. s.to == node) segments)

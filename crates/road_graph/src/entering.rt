@@ -1,10 +1,10 @@
 // The steps that write what was added. Each takes all the room that it needs first, and then only what cannot fail is done,
 // so that nothing has changed where no memory was left.
 
-ghost use Rattle.std.specs.Prelude.{◌≡◌, ◌<◌, ◌≤◌, ◌++◌, ◌∷◌, [], ◌^◌, length, map, slice_set, nat_lt, ◌&&◌, false, OnOk, OnErr, IfSome, IfNone, slice_get, Some};
-ghost use Rattle.road_graph.specs.Lists.{lists_of, with_last};
-ghost use Rattle.road_graph.specs.Roads.{has_name, number_of, segment_at, arrival_of};
-ghost use Rattle.road_graph.specs.Adding.{limited};
+ghost use Rattle.std.specs.Prelude.{◌≡◌, ◌<◌, ◌≤◌, ◌++◌, ◌∷◌, [], ◌^◌, length, map, nat_lt, ◌&&◌, false, OnOk, OnErr, IfSome, IfNone, slice_get, Some};
+ghost use Rattle.road_graph.specs.Lists.{lists_of, IsAdded};
+ghost use Rattle.road_graph.specs.Roads.{has_name, number_of, next_arrival};
+ghost use Rattle.road_graph.specs.Adding.{segments_limited};
 
 use crate::lists::{push_at, reserve_at};
 use crate::segment::{Arrival, Segment, Span};
@@ -85,8 +85,10 @@ pub(crate) fn enter_segment(
     requires to { segment.to < length incoming.old.items }
     ensures name { OnOk result (names.new.keys ≡ names.old.keys ++ segment.name ∷ []) }
     ensures segment { OnOk result (segments.new.items ≡ segments.old.items ++ segment ∷ []) }
-    ensures outgoing { OnOk result (lists_of outgoing.new.items ≡ with_last (lists_of outgoing.old.items) segment.from (length segments.old.items)) }
-    ensures incoming { OnOk result (lists_of incoming.new.items ≡ with_last (lists_of incoming.old.items) segment.to (arrival_of (length segments.old.items, segment))) }
+    ensures outgoing { OnOk result
+        (IsAdded outgoing.old.items outgoing.new.items segment.from (length segments.old.items)) }
+    ensures incoming { OnOk result
+        (IsAdded incoming.old.items incoming.new.items segment.to (next_arrival segments.old.items segment)) }
     ensures carried { OnOk result (lists_of carried.new.items ≡ lists_of carried.old.items ++ [] ∷ []) }
     ensures name_unchanged { OnErr result (names.new.keys ≡ names.old.keys) }
     ensures segments_unchanged { OnErr result (segments.new.items ≡ segments.old.items) }
@@ -127,7 +129,7 @@ pub(crate) fn enter_span(
     requires within { span.segment < length carried.old.items }
     ensures name { OnOk result (names.new.keys ≡ names.old.keys ++ span.name ∷ []) }
     ensures span { OnOk result (spans.new.items ≡ spans.old.items ++ span ∷ []) }
-    ensures carried { OnOk result (lists_of carried.new.items ≡ with_last (lists_of carried.old.items) span.segment (length spans.old.items)) }
+    ensures carried { OnOk result (IsAdded carried.old.items carried.new.items span.segment (length spans.old.items)) }
     ensures name_unchanged { OnErr result (names.new.keys ≡ names.old.keys) }
     ensures spans_unchanged { OnErr result (spans.new.items ≡ spans.old.items) }
     ensures carried_unchanged { OnErr result (lists_of carried.new.items ≡ lists_of carried.old.items) }
@@ -144,7 +146,7 @@ pub(crate) fn enter_span(
 /// Replaces a limit of a segment.
 pub(crate) fn enter_limit(segments: &mut Vec<Segment>, i: usize, what: What, value: u32)
     requires { i < length segments.old.items }
-    ensures { segments.new.items ≡ slice_set segments.old.items i (limited (segment_at segments.old.items i) what value) }
+    ensures { segments.new.items ≡ segments_limited segments.old.items i what value }
 {
     let segment = &mut segments[i];
     segment.base = segment.base.with(what, value);

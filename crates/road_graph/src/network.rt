@@ -54,7 +54,7 @@ impl Model for Network {
 impl Network {
     ghost use Rattle.std.specs.Prelude.{◌≡◌, ◌<◌, length, slice_get, Some, None, false, IfSome, IfNone, IfOk, IfErr, OnOk, OnErr};
     ghost use Rattle.road_graph.specs.Roads.{Roads, no_roads, has_name, number_of, segment_names, span_names, segment_at, span_at, outgoing_of, incoming_of, spans_of, IsRoads, IsSegment, IsSpan, IsOutgoing, IsIncoming, AreSpansOf};
-    ghost use Rattle.road_graph.specs.Adding.{with_node, with_segment, new_segment, with_span, with_limit, node_refusal, segment_refusal, span_refusal, limit_refusal, IsCause};
+    ghost use Rattle.road_graph.specs.Adding.{new_span, with_node, with_segment, new_segment, with_span, with_limit, node_refusal, segment_refusal, span_refusal, limit_refusal, IsCause};
 
     /// A network with nothing in it. It keeps the allocator for what is added. Takes no memory.
     pub fn new(alloc: Global) -> Network
@@ -114,7 +114,7 @@ impl Network {
         ensures number { IfOk result (λ number. number ≡ length self.old.segments) }
         ensures added { OnOk result (self.new ≡ with_segment self.old (new_segment name from to feet)) }
         ensures taken { OnOk result (segment_refusal self.old name from to feet ≡ None) }
-        ensures refused { IfErr result (λ refusal. IsCause (segment_refusal self.old name from to feet) refusal) }
+        ensures refused { IfErr result (IsCause (segment_refusal self.old name from to feet)) }
         ensures unchanged { OnErr result (self.new ≡ self.old) }
     {
         if self.segment_names.contains(&name) {
@@ -162,9 +162,9 @@ impl Network {
         rating: u32,
     ) -> Result<u32, AddRefusal>
         ensures number { IfOk result (λ number. number ≡ length self.old.spans) }
-        ensures added { OnOk result (self.new ≡ with_span self.old (record { name = name; segment = segment; inches = inches; rating = rating })) }
+        ensures added { OnOk result (self.new ≡ with_span self.old (new_span name segment inches rating)) }
         ensures taken { OnOk result (span_refusal self.old name segment inches rating ≡ None) }
-        ensures refused { IfErr result (λ refusal. IsCause (span_refusal self.old name segment inches rating) refusal) }
+        ensures refused { IfErr result (IsCause (span_refusal self.old name segment inches rating)) }
         ensures unchanged { OnErr result (self.new ≡ self.old) }
     {
         if self.span_names.contains(&name) {
@@ -253,6 +253,13 @@ impl Network {
         ensures roads { IsRoads self.now }
     {
         self.nodes.len() as u32
+    }
+
+    /// A fact, and no work: the lists of a network are in order. Takes no memory.
+    pub fn lists_are_in_order(&self)
+        ensures { IsRoads self.now }
+    {
+        let _nodes = self.nodes();
     }
 
     /// How many segments there are. Takes no memory.

@@ -5,11 +5,15 @@ use Rattle.route_search.specs.declared.found.Found.{Found}
 use Rattle.route_search.specs.declared.found.Found.TheVariants.{Cut, NoRoad, Route}
 use Rattle.route_search.specs.Walks.{ArePotentials, AreReached, CanReach, IsRoute, every, feet_of, flagged}
 
+-- for each node the least length of a walk to a goal, over the flagged segments of a network
+abbrev pub ArePotentialsOver : Roads → List Bool → ℕ → List (Option ℕ) → Type 0
+ArePotentialsOver roads passable goal potentials = ArePotentials roads.segments (flagged passable) (length roads.nodes) goal potentials
+
 -- the first of the shortest passable walks from a to b, its length, and the potentials that certify it
 pub record IsRouteFound (roads : Roads) (passable : List Bool) (a b : ℕ) (segments : List ℕ) (feet : ℕ) (potential : List (Option ℕ)) : Type 0 where
   pub route : IsRoute roads.segments (flagged passable) a b segments
   pub feet_is : feet_of roads.segments segments ≡ feet
-  pub potentials : ArePotentials roads.segments (flagged passable) (length roads.nodes) b potential
+  pub potentials : ArePotentialsOver roads passable b potential
   pub at_start : slice_get potential a ≡ Some (Some feet)
 
 -- there is a walk from a to b, and none is passable; the nodes that passable walks reach from a

@@ -1,8 +1,8 @@
 -- What holds while nodes are marked.
-use Rattle.std.specs.Prelude.{◌≡◌, ◌⊎◌, ℕ, ◌+◌, ◌++◌, ◌∷◌, [], Bool, true, false, List, length, slice_get, slice_set, Some, Contains}
+use Rattle.std.specs.Prelude.{◌≡◌, ◌⊎◌, ℕ, ◌+◌, ◌≤◌, ◌++◌, ◌∷◌, [], Bool, true, false, List, length, slice_get, slice_set, Some, Contains}
 use Rattle.road_graph.specs.declared.segment.Segment.{Segment}
 use Rattle.road_graph.specs.Roads.{Roads}
-use Rattle.route_search.specs.Walks.{CanReach}
+use Rattle.route_search.specs.Walks.{CanReach, flagged}
 
 -- how many nodes are not marked: each mark takes one from it
 abbrev pub one_unless : Bool → ℕ
@@ -49,3 +49,15 @@ pub record IsSpreading (roads : Roads) (may : ℕ → Bool) (from : ℕ) (marked
   pub reaching : IsReachingBut roads may from marked waiting (λ v. v ≡ node)
   pub here : IsMarked marked node
   pub tried_all : (k i : ℕ) (s : Segment) → slice_get tried k ≡ Some i → slice_get roads.segments i ≡ Some s → may i ≡ true → IsMarked marked s.to
+
+-- the marking over the flagged segments goes on with these marks and these nodes that wait
+abbrev pub IsReachingOver : Roads → List Bool → ℕ → List Bool → List ℕ → Type 0
+IsReachingOver roads passable from marked waiting = IsReaching roads (flagged passable) from marked waiting
+
+-- the same but for a node, none of whose segments is tried yet
+abbrev pub IsSpreadingOver : Roads → List Bool → ℕ → List Bool → List ℕ → ℕ → Type 0
+IsSpreadingOver roads passable from marked waiting node = IsSpreading roads (flagged passable) from marked waiting node []
+
+-- no more is left to do with these marks and these nodes that wait than with those before
+abbrev pub IsNoMoreToMark : List Bool → List ℕ → List Bool → List ℕ → Type 0
+IsNoMoreToMark marked waiting now queue = to_do now + length queue ≤ to_do marked + length waiting

@@ -4,7 +4,7 @@ use Rattle.road_graph.specs.declared.segment.Segment.{Segment}
 use Rattle.road_graph.specs.Roads.{Roads}
 use Rattle.road_graph.specs.declared.segment.Arrival.{Arrival}
 use Rattle.route_search.specs.declared.waiting.Waiting.{Waiting}
-use Rattle.route_search.specs.Walks.{IsWalk, feet_of}
+use Rattle.route_search.specs.Walks.{IsWalk, feet_of, flagged}
 
 -- above every length that can be found
 abbrev pub beyond : ℕ
@@ -64,6 +64,18 @@ pub record IsRelaxing (roads : Roads) (may : ℕ → Bool) (goal : ℕ) (potenti
   pub here : slice_get potentials v ≡ Some (Some d)
   pub settled : (j : ℕ) (a : Arrival) → slice_get tried j ≡ Some a → may a.segment ≡ true → IsBelow potentials a.from (d + a.feet)
   pub waits : (u e : ℕ) → slice_get potentials u ≡ Some (Some e) → (u ≡ v) ⊎ (IsIn (record { length = e; node = u }) queue ⊎ IsSettledFrom roads.segments may potentials u e 0)
+
+-- the search over the flagged segments goes on with these potentials and this queue
+abbrev pub IsSearchingOver : Roads → List Bool → ℕ → List (Option ℕ) → List Waiting → Type 0
+IsSearchingOver roads passable goal potentials queue = IsSearching roads (flagged passable) goal potentials queue
+
+-- the same but for a node that was taken from the queue, no arrival of which is settled yet
+abbrev pub IsRelaxingOver : Roads → List Bool → ℕ → List (Option ℕ) → List Waiting → Waiting → Type 0
+IsRelaxingOver roads passable goal potentials queue near = IsRelaxing roads (flagged passable) goal potentials queue near.node near.length []
+
+-- no more is left to do with these potentials and this queue than with those before
+abbrev pub IsNoMoreWork : List (Option ℕ) → List Waiting → List (Option ℕ) → List Waiting → Type 0
+IsNoMoreWork potentials queue now waiting = all_weight now + length waiting ≤ all_weight potentials + length queue
 
 -- the queue holds one more
 pub record IsPushed (old new : List Waiting) (w : Waiting) : Type 0 where

@@ -1,13 +1,14 @@
 // The search from one node to another.
 
 ghost use Rattle.std.specs.Prelude.{◌≡◌, ◌<◌, length, IfOk};
-ghost use Rattle.route_search.specs.Walks.{ArePotentials, CanReach, flagged};
-ghost use Rattle.route_search.specs.Founds.{IsFound};
+ghost use Rattle.route_search.specs.Walks.{CanReach, flagged};
+ghost use Rattle.route_search.specs.Founds.{ArePotentialsOver, IsFound};
 
 use crate::follow::follow;
 use crate::found::{Found, Potentials};
 use crate::reach::{listed, reach};
 use crate::settle::settle;
+use crate::waiting::Waiting;
 use office_io::NoMemory;
 use road_graph::{Network, Numbers};
 use std::alloc::{AllocError, Global};
@@ -28,10 +29,7 @@ pub fn search(
     requires to { to < length network.now.nodes }
     ensures { IfOk result (IsFound network.now passable.now from to) }
 {
-    match find(alloc, network, passable, from, to) {
-        Ok(found) => Ok(found),
-        Err(_) => Err(NoMemory),
-    }
+    Ok(find(alloc, network, passable, from, to)?)
 }
 
 /// For each node the least length of a passable walk to a node. `NoMemory` where no memory was left.
@@ -43,7 +41,7 @@ pub fn potentials(
 ) -> Result<Potentials, NoMemory>
     requires flags { length passable.now ≡ length network.now.segments }
     requires to { to < length network.now.nodes }
-    ensures { IfOk result (λ p. ArePotentials network.now.segments (flagged passable.now) (length network.now.nodes) to p) }
+    ensures { IfOk result (ArePotentialsOver network.now passable.now to) }
 {
     let list = settle(alloc, network, passable, to)?;
     Ok(Potentials::of(list))
@@ -61,13 +59,10 @@ pub fn search_by(
     requires flags { length passable.now ≡ length network.now.segments }
     requires from { from < length network.now.nodes }
     requires to { to < length network.now.nodes }
-    requires potentials { ArePotentials network.now.segments (flagged passable.now) (length network.now.nodes) to potentials.now }
+    requires potentials { ArePotentialsOver network.now passable.now to potentials.now }
     ensures { IfOk result (IsFound network.now passable.now from to) }
 {
-    match find_by(alloc, network, passable, potentials, from, to) {
-        Ok(found) => Ok(found),
-        Err(_) => Err(NoMemory),
-    }
+    Ok(find_by(alloc, network, passable, potentials, from, to)?)
 }
 
 // The route that the potentials show, or why there is none.
@@ -82,15 +77,15 @@ fn find_by(
     requires flags { length passable.now ≡ length network.now.segments }
     requires from { from < length network.now.nodes }
     requires to { to < length network.now.nodes }
-    requires potentials { ArePotentials network.now.segments (flagged passable.now) (length network.now.nodes) to potentials.now }
+    requires potentials { ArePotentialsOver network.now passable.now to potentials.now }
     ensures { IfOk result (IsFound network.now passable.now from to) }
 {
-    // the network tells that its lists are in order
-    let _segments = network.segments();
+    network.lists_are_in_order();
     match potentials.at(from) {
         Some(length) => {
             let list = potentials.as_slice();
-            let segments = follow(alloc, network, passable, list, from, to, length)?;
+            let start = Waiting { length, node: from };
+            let segments = follow(alloc, network, passable, list, start, to)?;
             let potential = potentials.try_clone(alloc)?;
             Ok(Found::Route {
                 segments: Numbers::of(segments),
@@ -119,15 +114,8 @@ fn find(
     let nearest = potentials[from as usize];
     match nearest {
         Some(length) => {
-            let segments = follow(
-                alloc,
-                network,
-                passable,
-                potentials.as_slice(),
-                from,
-                to,
-                length,
-            )?;
+            let start = Waiting { length, node: from };
+            let segments = follow(alloc, network, passable, &potentials, start, to)?;
             Ok(Found::Route {
                 segments: Numbers::of(segments),
                 length,

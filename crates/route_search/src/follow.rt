@@ -1,10 +1,12 @@
 // The walk that the potentials show.
 ghost use Rattle.std.specs.Prelude.{◌≡◌, ◌↔◌, ℕ, ◌+◌, ◌<◌, ◌≤◌, length, IfOk, IfSome, IfNone, IsTrue, slice_get, Some, None};
 ghost use Rattle.road_graph.specs.Roads.{IsRoads};
-ghost use Rattle.route_search.specs.Walks.{ArePotentials, IsRoute, flagged};
-ghost use Rattle.route_search.specs.Following.{IsFirstTight, IsTight};
+ghost use Rattle.route_search.specs.Walks.{IsRoute, flagged};
+ghost use Rattle.route_search.specs.Founds.{ArePotentialsOver};
+ghost use Rattle.route_search.specs.Following.{IsFirstTightOver, IsNoneTightOver, IsTightOver};
 
 use crate::settle::is_known;
+use crate::waiting::Waiting;
 use road_graph::Network;
 use std::alloc::{AllocError, Global};
 
@@ -19,7 +21,7 @@ fn is_tight(
     requires flags { length passable.now ≡ length network.now.segments }
     requires potentials { length potentials.now ≡ length network.now.nodes }
     requires there { i < length network.now.segments }
-    ensures { IsTrue result ↔ IsTight network.now.segments (flagged passable.now) potentials.now node left i }
+    ensures { IsTrue result ↔ IsTightOver network.now passable.now potentials.now node left i }
 {
     let segment = network.segment(i);
     let feet = u64::from(segment.feet);
@@ -40,8 +42,8 @@ fn first_tight(
     requires flags { length passable.now ≡ length network.now.segments }
     requires potentials { length potentials.now ≡ length network.now.nodes }
     requires there { node < length network.now.nodes }
-    ensures some { IfSome result (λ i. IsFirstTight network.now.segments (flagged passable.now) potentials.now node left i) }
-    ensures none { IfNone result ((i : ℕ) → IsTight network.now.segments (flagged passable.now) potentials.now node left i → ⊥) }
+    ensures some { IfSome result (IsFirstTightOver network.now passable.now potentials.now node left) }
+    ensures none { IfNone result (IsNoneTightOver network.now passable.now potentials.now node left) }
 {
     for i in network.outgoing(node) {
         if is_tight(network, passable, potentials, node, left, *i) {
@@ -57,19 +59,18 @@ pub(crate) fn follow(
     network: &Network,
     passable: &[bool],
     potentials: &[Option<u64>],
-    from: u32,
+    start: Waiting,
     to: u32,
-    total: u64,
 ) -> Result<Vec<u32>, AllocError>
     requires roads { IsRoads network.now }
     requires flags { length passable.now ≡ length network.now.segments }
-    requires potentials { ArePotentials network.now.segments (flagged passable.now) (length network.now.nodes) to potentials.now }
-    requires from { slice_get potentials.now from ≡ Some (Some total) }
-    ensures { IfOk result (λ r. IsRoute network.now.segments (flagged passable.now) from to r.items) }
+    requires potentials { ArePotentialsOver network.now passable.now to potentials.now }
+    requires start { slice_get potentials.now start.node ≡ Some (Some start.length) }
+    ensures { IfOk result (λ r. IsRoute network.now.segments (flagged passable.now) start.node to r.items) }
 {
     let mut route = Vec::new(alloc);
-    let mut node = from;
-    let mut left = total;
+    let mut node = start.node;
+    let mut left = start.length;
     'follow: while left > 0 {
         match first_tight(network, passable, potentials, node, left) {
             Some(i) => {

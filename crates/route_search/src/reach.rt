@@ -2,7 +2,7 @@
 ghost use Rattle.std.specs.Prelude.{◌≡◌, ◌↔◌, ℕ, ◌+◌, ◌<◌, ◌≤◌, length, IfOk, OnOk, IsTrue, slice_get, Some, None, [], take};
 ghost use Rattle.road_graph.specs.Roads.{IsRoads, Roads};
 ghost use Rattle.route_search.specs.Walks.{AreReached, flagged};
-ghost use Rattle.route_search.specs.Reaching.{AreMarked, IsMarkedToo, IsReaching, IsSpreading, to_do};
+ghost use Rattle.route_search.specs.Reaching.{AreMarked, IsMarkedToo, IsNoMoreToMark, IsReachingOver, IsSpreadingOver};
 
 use road_graph::Network;
 use std::alloc::{AllocError, Global};
@@ -10,7 +10,8 @@ use std::alloc::{AllocError, Global};
 // Marks a node, if it is not yet marked, and notes that its segments are to be tried.
 fn mark(marked: &mut Vec<bool>, waiting: &mut Vec<u32>, node: u32) -> Result<(), AllocError>
     requires { node < length marked.old.items }
-    ensures { OnOk result (IsMarkedToo marked.old.items waiting.old.items marked.new.items waiting.new.items node) }
+    ensures { OnOk result
+        (IsMarkedToo marked.old.items waiting.old.items marked.new.items waiting.new.items node) }
 {
     if !marked[node as usize] {
         waiting.push(node)?;
@@ -30,9 +31,10 @@ fn spread(
 ) -> Result<(), AllocError>
     requires flags { length passable.now ≡ length network.now.segments }
     requires roads { IsRoads network.now }
-    requires before { IsSpreading network.now (flagged passable.now) from marked.old.items waiting.old.items node [] }
-    ensures after { OnOk result (IsReaching network.now (flagged passable.now) from marked.new.items waiting.new.items) }
-    ensures less { OnOk result (to_do marked.new.items + length waiting.new.items ≤ to_do marked.old.items + length waiting.old.items) }
+    requires before { IsSpreadingOver network.now passable.now from marked.old.items waiting.old.items node }
+    ensures after { OnOk result (IsReachingOver network.now passable.now from marked.new.items waiting.new.items) }
+    ensures less { OnOk result
+        (IsNoMoreToMark marked.old.items waiting.old.items marked.new.items waiting.new.items) }
 {
     for i in network.outgoing(node) {
         if passable[*i as usize] {

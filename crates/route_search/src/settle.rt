@@ -1,12 +1,12 @@
 // The least lengths to a goal.
 ghost use Rattle.std.specs.Prelude.{◌≡◌, ◌↔◌, ℕ, ◌+◌, ◌*◌, ◌<◌, ◌≤◌, List, [], length, IfOk, OnOk, IsTrue, slice_get, replicate, Some, None};
-ghost use Rattle.road_graph.specs.Roads.{IsIncoming, IsRoads};
-ghost use Rattle.route_search.specs.Walks.{ArePotentials, flagged};
-ghost use Rattle.route_search.specs.Settling.{IsRelaxing, IsSearching, IsTried, all_weight, beyond, weight_of};
+ghost use Rattle.road_graph.specs.Roads.{IsRoads};
+ghost use Rattle.route_search.specs.Founds.{ArePotentialsOver};
+ghost use Rattle.route_search.specs.Settling.{IsNoMoreWork, IsRelaxingOver, IsSearchingOver, IsTried, beyond, weight_of};
 
 use crate::waiting::{Queue, Waiting};
 use crate::width::shift;
-use road_graph::{Arrival, Network};
+use road_graph::Network;
 use std::alloc::{AllocError, Global};
 
 fn is_shorter(known: Option<u64>, feet: u64) -> bool
@@ -54,18 +54,19 @@ fn relax(
     network: &Network,
     passable: &[bool],
     goal: u32,
-    arrivals: &[Arrival],
     potentials: &mut Vec<Option<u64>>,
     queue: &mut Queue,
     near: Waiting,
 ) -> Result<(), AllocError>
     requires roads { IsRoads network.now }
     requires flags { length passable.now ≡ length network.now.segments }
-    requires arrivals { IsIncoming network.now.segments near.node arrivals.now }
-    requires before { IsRelaxing network.now (flagged passable.now) goal potentials.old.items queue.old near.node near.length [] }
-    ensures after { OnOk result (IsSearching network.now (flagged passable.now) goal potentials.new.items queue.new) }
-    ensures less { OnOk result (all_weight potentials.new.items + length queue.new ≤ all_weight potentials.old.items + length queue.old) }
+    requires there { near.node < length network.now.nodes }
+    requires before { IsRelaxingOver network.now passable.now goal potentials.old.items queue.old near }
+    ensures after { OnOk result (IsSearchingOver network.now passable.now goal potentials.new.items queue.new) }
+    ensures less { OnOk result
+        (IsNoMoreWork potentials.old.items queue.old potentials.new.items queue.new) }
 {
+    let arrivals = network.incoming(near.node);
     for arrival in arrivals {
         if passable[arrival.segment as usize] {
             improve(
@@ -89,7 +90,7 @@ pub(crate) fn settle(
     requires flags { length passable.now ≡ length network.now.segments }
     requires there { goal < length network.now.nodes }
     ensures roads { OnOk result (IsRoads network.now) }
-    ensures least { IfOk result (λ r. ArePotentials network.now.segments (flagged passable.now) (length network.now.nodes) goal r.items) }
+    ensures least { IfOk result (λ r. ArePotentialsOver network.now passable.now goal r.items) }
 {
     let nodes = network.nodes() as usize;
     let mut potentials = none_known(alloc, nodes)?;
@@ -101,15 +102,7 @@ pub(crate) fn settle(
     })?;
     'nearest: while let Some(near) = queue.pop() {
         if is_known(potentials[near.node as usize], near.length) {
-            relax(
-                network,
-                passable,
-                goal,
-                network.incoming(near.node),
-                &mut potentials,
-                &mut queue,
-                near,
-            )?;
+            relax(network, passable, goal, &mut potentials, &mut queue, near)?;
         }
     }
     Ok(potentials)

@@ -1,4 +1,9 @@
-use crate::{Found, search};
+ghost use Rattle.route_search.specs.Founds.{IsFound};
+
+use crate::{
+    Found, Potentials, cuts_hold, findings_are_one, potentials, potentials_certify, search,
+    search_by,
+};
 use office_io::Name;
 use road_graph::Network;
 use std::alloc::Global;
@@ -39,6 +44,37 @@ fn flags(alloc: Global, network: &Network, closed: &str) -> Result<Vec<bool>, Fa
 }
 
 // What is found, in words: a route's segments, its length, and the potentials of all nodes; or the nodes that are reached.
+fn in_words(
+    alloc: Global,
+    network: &Network,
+    passable: &[bool],
+    from: u32,
+    to: u32,
+    found: Found,
+) -> Result<String, Fail>
+    requires { IsFound network.now passable.now from to found }
+{
+    match found {
+        Found::Route {
+            segments,
+            length,
+            potential,
+        } => {
+            let mut text = format!(in alloc; "route {:?} {length} ", segments.as_slice())?;
+            for node in 0..network.nodes() {
+                match potential.at(node) {
+                    Some(feet) => text.push_str(format!(in alloc; " {feet}")?.as_str())?,
+                    None => text.push_str(" -")?,
+                }
+            }
+            Ok(text)
+        }
+        Found::Cut { reached } => Ok(format!(in alloc; "cut {:?}", reached.as_slice())?),
+        Found::NoRoad { reached } => Ok(format!(in alloc; "no road {:?}", reached.as_slice())?),
+    }
+}
+
+// What a search finds.
 fn told(
     alloc: Global,
     network: &Network,
@@ -51,24 +87,26 @@ fn told(
     if passable.len() != network.segments() as usize || from >= nodes || to >= nodes {
         return Ok(format!(in alloc; "out of range")?);
     }
-    match search(alloc, network, passable.as_slice(), from, to)? {
-        Found::Route {
-            segments,
-            length,
-            potential,
-        } => {
-            let mut text = format!(in alloc; "route {:?} {length} ", segments.as_slice())?;
-            for node in 0..nodes {
-                match potential.at(node) {
-                    Some(feet) => text.push_str(format!(in alloc; " {feet}")?.as_str())?,
-                    None => text.push_str(" -")?,
-                }
-            }
-            Ok(text)
-        }
-        Found::Cut { reached } => Ok(format!(in alloc; "cut {:?}", reached.as_slice())?),
-        Found::NoRoad { reached } => Ok(format!(in alloc; "no road {:?}", reached.as_slice())?),
+    let found = search(alloc, network, &passable, from, to)?;
+    in_words(alloc, network, &passable, from, to, found)
+}
+
+// What a search finds by potentials that are known.
+fn told_by(
+    alloc: Global,
+    network: &Network,
+    closed: &str,
+    from: u32,
+    to: u32,
+) -> Result<String, Fail> {
+    let passable = flags(alloc, network, closed)?;
+    let nodes = network.nodes();
+    if passable.len() != network.segments() as usize || from >= nodes || to >= nodes {
+        return Ok(format!(in alloc; "out of range")?);
     }
+    let known = potentials(alloc, network, &passable, to)?;
+    let found = search_by(alloc, network, &passable, &known, from, to)?;
+    in_words(alloc, network, &passable, from, to, found)
 }
 
 // The first lines of a group say a network; then a line for each search: the closed segments, the two nodes, and what is
@@ -132,6 +170,8 @@ fn finds_the_first_of_the_shortest_walks_or_what_is_reached(rt: HostRuntime) -> 
             let to = number(ends.next().unwrap_or(""));
             let found = told(alloc, &roads, first, from, to)?;
             assert_eq!(rt; found.as_str(), third, "{line}");
+            let found = told_by(alloc, &roads, first, from, to)?;
+            assert_eq!(rt; found.as_str(), third, "{line}, by potentials");
             searches = searches.wrapping_add(1);
         }
     }
@@ -182,5 +222,44 @@ fn takes_the_first_of_the_walks_over_a_grid(rt: HostRuntime) -> Result<(), Fail>
             );
         }
     }
+    Ok(())
+}
+
+// For each segment whether it leads on no walk of least length to a node.
+fn slack(alloc: Global, network: &Network, closed: &str, to: u32) -> Result<String, Fail> {
+    let passable = flags(alloc, network, closed)?;
+    if passable.len() != network.segments() as usize || to >= network.nodes() {
+        return Ok(format!(in alloc; "out of range")?);
+    }
+    let known = potentials(alloc, network, &passable, to)?;
+    let mut text = String::new(alloc);
+    for segment in 0..network.segments() {
+        text.push_str(if known.is_slack(network, segment) {
+            "1"
+        } else {
+            "0"
+        })?;
+    }
+    Ok(text)
+}
+
+#[test]
+fn tells_which_segments_lead_on_no_walk_of_least_length(rt: HostRuntime) -> Result<(), Fail> {
+    let alloc = rt.alloc();
+    // From 0 to 1 in 1,000 ft by [0] and in 2,000 by [1, 2].
+    let roads = network(alloc, 3, "0,1,1000 0,2,1000 2,1,1000")?;
+    assert_eq!(rt; slack(alloc, &roads, "", 1)?.as_str(), "010");
+    // Over [1, 2] alone no segment is slack; the closed one would be a shorter way.
+    assert_eq!(rt; slack(alloc, &roads, "0", 1)?.as_str(), "000");
+    // Nothing leads from 1 to 0.
+    assert_eq!(rt; slack(alloc, &roads, "", 0)?.as_str(), "111");
+    let none = Potentials::none(alloc);
+    assert_eq!(rt;
+        format!(in alloc; "{none:?}")?.as_str(),
+        "Potentials { list: [] }"
+    );
+    potentials_certify();
+    findings_are_one();
+    cuts_hold();
     Ok(())
 }

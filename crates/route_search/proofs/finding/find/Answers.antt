@@ -8,11 +8,11 @@ use Rattle.route_search.proofs.finding.find.Goals as goal
 read_at : (ps : List (Option ℕ)) (i : ℕ) (x p : Option ℕ) → i < length ps → x ≡ get_or ps i x → x ≡ p → slice_get ps i ≡ Some p
 read_at ps i x p within is e = slice_get_read ps (length ps) i x refl within is ∙ ap (λ (y : Option ℕ). Some y) e
 
-pub follow-requires-clause-from : goal.follow-requires-clause-from
-follow-requires-clause-from c =
+pub follow-requires-clause-start : goal.follow-requires-clause-start
+follow-requires-clause-start c =
     let ps = c.in_ok-potentials.potentials.items in
     let within : c.args.from < length ps = omega (arith, c.in_ok-potentials.ensures.least.many, c.requires.from) in
-    rw c.as_slice.ensures.value (read_at ps c.args.from c.index-nearest.result.now (Some c.in-Some.length) within c.index-nearest.ensures c.in-Some.is)
+    rw c.deref.ensures.value (read_at ps c.args.from c.index-nearest.result.now (Some c.in-Some.length) within c.index-nearest.ensures c.in-Some.is)
 
 pub no_route-requires-clause-none : goal.no_route-requires-clause-none
 no_route-requires-clause-none c =

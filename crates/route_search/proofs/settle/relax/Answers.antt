@@ -10,35 +10,35 @@ use Rattle.route_search.proofs.settle.relax.Goals.{then-passable-arrival+in_ok-i
 
 pub overflow_add-near : goal.overflow_add-near
 overflow_add-near c =
-    let list = c.args.arrivals.now in
+    let list = c.incoming-arrivals.result.now in
     let k = c.loop-arrival.arrival-index in
     let none : Arrival = record { segment = 0; from = 0; feet = 0 } in
     let a = get_or list k none in
     let at = slice_get-get_or list k none c.loop-arrival-test.true in
-    let near = turn_near c.args.network.now (flagged c.args.passable.now) c.args.goal c.requires.roads c.loop-arrival.potentials.items c.loop-arrival.queue c.args.near.node c.args.near.length list (take k list) c.requires.arrivals c.loop-arrival.invariant.relaxing k a at in
+    let near = turn_near c.args.network.now (flagged c.args.passable.now) c.args.goal c.requires.roads c.loop-arrival.potentials.items c.loop-arrival.queue c.args.near.node c.args.near.length list (take k list) c.incoming-arrivals.ensures.meaning c.loop-arrival.invariant.relaxing k a at in
     rw c.from.ensures (omega (arith, near))
 
 pub improve-requires-clause-within : goal.improve-requires-clause-within
 improve-requires-clause-within c =
-    let list = c.args.arrivals.now in
+    let list = c.incoming-arrivals.result.now in
     let k = c.loop-arrival.arrival-index in
     let none : Arrival = record { segment = 0; from = 0; feet = 0 } in
     let a = get_or list k none in
     let at = slice_get-get_or list k none c.loop-arrival-test.true in
-    turn_from c.args.network.now (flagged c.args.passable.now) c.args.goal c.requires.roads c.loop-arrival.potentials.items c.loop-arrival.queue c.args.near.node c.args.near.length list (take k list) c.requires.arrivals c.loop-arrival.invariant.relaxing k a at
+    turn_from c.args.network.now (flagged c.args.passable.now) c.args.goal c.requires.roads c.loop-arrival.potentials.items c.loop-arrival.queue c.args.near.node c.args.near.length list (take k list) c.incoming-arrivals.ensures.meaning c.loop-arrival.invariant.relaxing k a at
 
 pub improve-requires-clause-near : goal.improve-requires-clause-near
 improve-requires-clause-near c =
-    let list = c.args.arrivals.now in
+    let list = c.incoming-arrivals.result.now in
     let k = c.loop-arrival.arrival-index in
     let none : Arrival = record { segment = 0; from = 0; feet = 0 } in
     let a = get_or list k none in
     let at = slice_get-get_or list k none c.loop-arrival-test.true in
-    rw c.from.ensures (turn_near c.args.network.now (flagged c.args.passable.now) c.args.goal c.requires.roads c.loop-arrival.potentials.items c.loop-arrival.queue c.args.near.node c.args.near.length list (take k list) c.requires.arrivals c.loop-arrival.invariant.relaxing k a at)
+    rw c.from.ensures (turn_near c.args.network.now (flagged c.args.passable.now) c.args.goal c.requires.roads c.loop-arrival.potentials.items c.loop-arrival.queue c.args.near.node c.args.near.length list (take k list) c.incoming-arrivals.ensures.meaning c.loop-arrival.invariant.relaxing k a at)
 
 pub loop-arrival-preserved : goal.loop-arrival-preserved
 loop-arrival-preserved c =
-    let list = c.args.arrivals.now in
+    let list = c.incoming-arrivals.result.now in
     let k = c.loop-arrival.arrival-index in
     let none : Arrival = record { segment = 0; from = 0; feet = 0 } in
     let a = get_or list k none in
@@ -48,8 +48,8 @@ loop-arrival-preserved c =
       | then-passable-arrival+in_ok-improve w ↦ (
           let tried = rw w.from.ensures at w.in_ok-improve.ensures in
           rw (w.potentials-is, w.queue-is, more) (record {
-            relaxing = turn_more c.args.network.now (flagged c.args.passable.now) c.args.goal c.requires.roads c.loop-arrival.potentials.items c.loop-arrival.queue c.args.near.node c.args.near.length list (take k list) c.requires.arrivals c.loop-arrival.invariant.relaxing k a at w.improve.new.potentials.items w.improve.new.queue w.if-passable-arrival.true tried;
-            less = omega (arith, c.loop-arrival.invariant.less, turn_less c.args.network.now (flagged c.args.passable.now) c.args.goal c.requires.roads c.loop-arrival.potentials.items c.loop-arrival.queue c.args.near.node c.args.near.length list (take k list) c.requires.arrivals c.loop-arrival.invariant.relaxing k a at w.improve.new.potentials.items w.improve.new.queue w.if-passable-arrival.true tried);
+            relaxing = turn_more c.args.network.now (flagged c.args.passable.now) c.args.goal c.requires.roads c.loop-arrival.potentials.items c.loop-arrival.queue c.args.near.node c.args.near.length list (take k list) c.incoming-arrivals.ensures.meaning c.loop-arrival.invariant.relaxing k a at w.improve.new.potentials.items w.improve.new.queue w.if-passable-arrival.true tried;
+            less = omega (arith, c.loop-arrival.invariant.less, turn_less c.args.network.now (flagged c.args.passable.now) c.args.goal c.requires.roads c.loop-arrival.potentials.items c.loop-arrival.queue c.args.near.node c.args.near.length list (take k list) c.incoming-arrivals.ensures.meaning c.loop-arrival.invariant.relaxing k a at w.improve.new.potentials.items w.improve.new.queue w.if-passable-arrival.true tried);
           }))
       | else-passable-arrival w ↦ rw (w.potentials-is, w.queue-is, more) (record {
         relaxing = relaxing_skip c.args.network.now (flagged c.args.passable.now) c.args.goal c.requires.roads c.loop-arrival.potentials.items c.loop-arrival.queue c.args.near.node c.args.near.length a (take k list) w.if-passable-arrival.false c.loop-arrival.invariant.relaxing;
@@ -59,6 +59,6 @@ loop-arrival-preserved c =
 
 pub returns-clause-after : goal.returns-clause-after
 returns-clause-after c =
-    let list = c.args.arrivals.now in
+    let list = c.incoming-arrivals.result.now in
     let all = take_all c.loop-arrival.arrival-index list c.loop-arrival-test.false in
-    relaxed c.args.network.now (flagged c.args.passable.now) c.args.goal c.requires.roads c.loop-arrival.potentials.items c.loop-arrival.queue c.args.near.node c.args.near.length list c.requires.arrivals (rw all at c.loop-arrival.invariant.relaxing)
+    relaxed c.args.network.now (flagged c.args.passable.now) c.args.goal c.requires.roads c.loop-arrival.potentials.items c.loop-arrival.queue c.args.near.node c.args.near.length list c.incoming-arrivals.ensures.meaning (rw all at c.loop-arrival.invariant.relaxing)

@@ -40,7 +40,7 @@ returns-clause-least c =
     let none : c.nearest.queue ≡ [] = empty c.pop.result c.nearest.queue c.pop.ensures.none c.in_default.not-Some in
     settled_all c.args.network.now (flagged c.args.passable.now) c.args.goal c.nodes-nodes.ensures.roads c.nearest.potentials.items (rw none at c.nearest.invariant)
 
-pub incoming-requires : goal.incoming-requires
-incoming-requires c =
+pub relax-requires-clause-there : goal.relax-requires-clause-there
+relax-requires-clause-there c =
     let within : c.in-Some.near.node < length c.nearest.potentials.items = popped_within c.args.network.now (flagged c.args.passable.now) c.args.goal c.nodes-nodes.ensures.roads c.nearest.potentials.items c.nearest.queue c.pop.new.self c.in-Some.near c.nearest.invariant c.in-Some.ensures.some.one c.in-Some.ensures.some.no_more c.in-Some.ensures.some.others in
     omega (arith, within, c.nearest.invariant.kept.many)
