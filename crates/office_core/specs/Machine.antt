@@ -5,7 +5,7 @@ use Rattle.restriction_log.specs.Changes.{takes, AreTaken}
 use Rattle.restriction_log.specs.States.{InForce, state_of}
 use Rattle.permit_book.specs.declared.permit.Permit.{Permit}
 use Rattle.permit_book.specs.declared.permit.Mark.TheVariants as mark
-use Rattle.permit_book.specs.Permits.{AreNumbered, in_force, marked}
+use Rattle.permit_book.specs.Permits.{new_permit, AreNumbered, in_force, marked}
 use Rattle.trip_analysis.specs.declared.application.Application.{Application}
 use Rattle.trip_analysis.specs.declared.finding.Proposal.{Proposal}
 use Rattle.trip_analysis.specs.declared.finding.What.{What}
@@ -97,7 +97,7 @@ IsAnswer base m caller c r = IsGiven base m caller c r ⊎ ((r ≡ reply.NoMemor
 -- the permits after an application is answered: an issued one is added, live
 abbrev pub with_issued : List Permit → ℕ → Application → ℕ → Reply → List Permit
 with_issued permits caller a seen (reply.Issued number version route) =
-    permits ++ (record { number = number; caller = caller; truck = a.truck; route = route; first = a.first; last = a.last; version = version; seen = seen; mark = mark.Live }) ∷ []
+    permits ++ new_permit number caller a.truck route a.first a.last version seen ∷ []
 with_issued permits caller a seen _ = permits
 
 abbrev pub with_permit : Machine → ℕ → Application → ℕ → Reply → Machine

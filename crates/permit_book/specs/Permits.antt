@@ -11,6 +11,25 @@ use Rattle.permit_book.specs.declared.permit.Status.TheVariants as status
 abbrev pub no_permit : Permit
 no_permit = record { number = 0; caller = 0; truck = 0; route = []; first = []; last = []; version = 0; seen = 0; mark = mark.Surrendered }
 
+-- a permit as it is issued: live
+abbrev pub new_permit : ℕ → ℕ → ℕ → List ℕ → List ℕ → List ℕ → ℕ → ℕ → Permit
+new_permit number caller truck route first last version seen = record {
+  number = number;
+  caller = caller;
+  truck = truck;
+  route = route;
+  first = first;
+  last = last;
+  version = version;
+  seen = seen;
+  mark = mark.Live;
+}
+
+-- the next one after these permits
+abbrev pub next_permit : List Permit → ℕ → ℕ → List ℕ → List ℕ → List ℕ → ℕ → ℕ → Permit
+next_permit permits caller truck route first last version seen =
+    new_permit (length permits + 1) caller truck route first last version seen
+
 -- the permit of a number, counted from 1
 abbrev pub permit_of : List Permit → ℕ → Permit
 permit_of permits number = get_or permits (number - 1) no_permit

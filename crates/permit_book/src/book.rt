@@ -33,7 +33,7 @@ impl Book {
     ghost use Rattle.std.specs.Prelude.{◌≡◌, ◌≤◌, ◌<◌, ◌+◌, ◌++◌, ◌∷◌, [], length, true, None, IfSome, IfOk, IfErr, OnOk, OnErr, is_some, nat_eq};
     ghost use Rattle.permit_book.specs.declared.permit.Permit.{Permit};
     ghost use Rattle.permit_book.specs.declared.permit.Mark.TheVariants as mark;
-    ghost use Rattle.permit_book.specs.Permits.{permit_of, is_issued, is_live, marked, status_in};
+    ghost use Rattle.permit_book.specs.Permits.{next_permit, permit_of, is_issued, is_live, marked, status_in};
     ghost use Rattle.permit_book.specs.Books.{IsBook, IsIssueCause, issue_refusal};
 
     /// A book with no permits, which keeps the allocator for those to come. Takes no memory.
@@ -59,7 +59,8 @@ impl Book {
         seen: u32,
     ) -> Result<u32, BookRefusal>
         ensures number { IfOk result (λ number. number ≡ length self.old + 1) }
-        ensures issued { OnOk result (self.new ≡ self.old ++ (record { number = length self.old + 1; caller = caller; truck = truck; route = route; first = first; last = last; version = version; seen = seen; mark = mark.Live }) ∷ []) }
+        ensures issued { OnOk result
+            (self.new ≡ self.old ++ next_permit self.old caller truck route first last version seen ∷ []) }
         ensures room { OnOk result (issue_refusal self.old ≡ None) }
         ensures refused { IfErr result (λ refusal. IsIssueCause (issue_refusal self.old) refusal) }
         ensures unchanged { OnErr result (self.new ≡ self.old) }
