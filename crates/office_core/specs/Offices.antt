@@ -4,7 +4,7 @@ use Rattle.std.specs.Arc.{arc_value}
 use Rattle.road_graph.specs.Roads.{IsRoads}
 use Rattle.restriction_log.specs.States.{state_of}
 use Rattle.restriction_log.specs.Changes.{AreTaken}
-use Rattle.trip_analysis.specs.Bases.{BaseLists}
+use Rattle.trip_analysis.specs.Bases.{AreTrains, BaseLists}
 use Rattle.trip_analysis.specs.Known.{AreKnown}
 use Rattle.office_core.specs.declared.entry.Call.{Call}
 use Rattle.office_core.specs.declared.entry.Reply.{Reply}
@@ -13,7 +13,6 @@ use Rattle.office_core.specs.declared.entry.Entry.{Entry}
 use Rattle.office_core.specs.declared.office.Office.TheInside.{Inside}
 use Rattle.office_core.specs.Replies.{is_full}
 use Rattle.office_core.specs.Machine.{IsLegal, Machine, Step, machine_at, machine_of}
-use Rattle.office_core.specs.Clearances.{AreTrains}
 
 -- what the office is about, the day on which it opened, the most entries that its history may hold, and the history
 pub record Opened : Type 0 where

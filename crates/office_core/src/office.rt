@@ -13,7 +13,6 @@ ghost use Rattle.office_core.specs.Promises.{KeepsPromises};
 
 use crate::applying::{answer_held, answer_submit};
 use crate::entry::{Call, Entry, Reply};
-use crate::laws::trains;
 use crate::permits::{answer_day, answer_show, answer_surrender};
 use crate::posting::answer_post;
 use clearance_rules::Steps;
@@ -69,9 +68,7 @@ impl Office {
         requires bounded { most ≤ 1000000 }
         ensures { IfOk result (λ o. o ≡ record { base = arc_value base; opening = day; most = most; history = [] }) }
     {
-        // the network tells that its lists are in order, and the fleet that its axles are trains
-        let _segments = base.network().segments();
-        trains(&base);
+        base.lists_are_in_order();
         let state = State::base(alloc, base.network())?;
         let analyst = Analyst::new(alloc, &base)?;
         let log = Log::start(alloc, base.network())?;

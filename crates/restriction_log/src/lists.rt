@@ -52,8 +52,8 @@ pub(crate) fn copied_ratings(alloc: Global, ratings: &[u32]) -> Result<Vec<u32>,
 /// Replaces the value that the change names.
 pub(crate) fn replace(values: &mut Vec<Values>, ratings: &mut Vec<u32>, change: &Change)
     requires { is_named (in_force values.old.items ratings.old.items) change.now ≡ true }
-    ensures values { values.new.items ≡ (state_after (in_force values.old.items ratings.old.items) change.now).values }
-    ensures ratings { ratings.new.items ≡ (state_after (in_force values.old.items ratings.old.items) change.now).ratings }
+    ensures { in_force values.new.items ratings.new.items
+        ≡ state_after (in_force values.old.items ratings.old.items) change.now }
 {
     match change {
         Change::Closed { segment, closed } => values[*segment as usize].closed = *closed,

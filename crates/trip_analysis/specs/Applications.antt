@@ -56,6 +56,14 @@ abbrev pub route_refusal : Option ℕ → List ℕ → List ℕ → Option Appli
 route_refusal (Some at) first last = Some (BrokenRoute at)
 route_refusal None first last = if is_before last first then Some DayOrder else None
 
+-- the application is sound for every base of these roads that has its truck
+abbrev pub IsSoundOn : Roads → ℕ → Application → Type 0
+IsSoundOn roads truck a = (base : BaseLists) → base.roads ≡ roads → truck < length base.fleet → Sound base a
+
+-- the refusal is the first cause that applies
+abbrev pub IsCause : Option ApplicationRefusal → ApplicationRefusal → Type 0
+IsCause cause refusal = cause ≡ Some refusal
+
 -- the first cause, in this order, for which an application is refused
 abbrev pub application_refusal : Roads → ℕ → ℕ → Option (List ℕ) → List ℕ → List ℕ → Option ApplicationRefusal
 application_refusal roads from to asked first last =

@@ -1,5 +1,5 @@
 -- What is found for an application in a state of the roads.
-use Rattle.std.specs.Prelude.{◌≡◌, ℕ, ◌-◌, ◌<◌, Bool, true, false, not, ◌&&◌, ◌==◌, List, [], ◌∷◌, map, filter, length, slice_get, Option, Some, None, is_none, if◌then◌else◌, All}
+use Rattle.std.specs.Prelude.{◌≡◌, ℕ, ◌+◌, ◌-◌, ◌<◌, ◌≤◌, Bool, true, false, not, ◌&&◌, ◌==◌, List, [], ◌∷◌, map, filter, length, slice_get, Option, Some, None, is_none, if◌then◌else◌, All}
 use Rattle.std.specs.List.{list_any, range_with_len}
 use Rattle.restriction_log.specs.States.{InForce}
 use Rattle.road_graph.specs.Roads.{Roads, segment_at}
@@ -56,6 +56,12 @@ leaves roads nodes s = is_in (segment_at roads.segments s).from nodes && not (is
 abbrev pub leaving_from : Roads → List ℕ → ℕ → List ℕ
 leaving_from roads nodes start = filter (leaves roads nodes) (range_with_len start (length roads.segments - start))
 
+-- s is the least segment from a number on that leaves a set of nodes. That it is below 16,384, the most segments of a
+-- network, is said so that whoever asks can go on from the number after it
+abbrev pub IsNextLeaving : Roads → List ℕ → ℕ → ℕ → Type 0
+IsNextLeaving roads nodes start s =
+    (start ≤ s) × (s < 16384) × (s < length roads.segments) × (leaving_from roads nodes start ≡ s ∷ leaving_from roads nodes (s + 1))
+
 -- all segments that leave a set of nodes, rising
 abbrev pub leaving : Roads → List ℕ → List ℕ
 leaving roads nodes = leaving_from roads nodes 0
@@ -75,10 +81,14 @@ abbrev pub asked_finding : Option Failing → List ℕ → What
 asked_finding (Some failing) route = what.Fails failing.segment
 asked_finding None route = what.Route route
 
+-- what a search over the flagged segments finds, as it is proposed
+abbrev pub IsSearched : Roads → List Bool → ℕ → ℕ → What → Type 0
+IsSearched roads flags from to w = (f : Found) × IsFound roads flags from to f × (w ≡ what_of f)
+
 -- what is found with an asked route or, without one, by a search over the segments that the truck may pass
 abbrev pub IsFoundBy : BaseLists → InForce → Application → Option (List ℕ) → What → Type 0
 IsFoundBy base state a (Some route) w = w ≡ asked_finding (first_on base state a.truck route) route
-IsFoundBy base state a None w = (f : Found) × IsFound base.roads (flags_of base state a.truck) a.from a.to f × (w ≡ what_of f)
+IsFoundBy base state a None w = IsSearched base.roads (flags_of base state a.truck) a.from a.to w
 
 -- what is found for an application in a state: nothing is needed where the truck is legal
 pub record IsFinding (base : BaseLists) (state : InForce) (a : Application) (w : What) : Type 0 where

@@ -1,22 +1,21 @@
 // What is found for an application.
 
-ghost use Rattle.std.specs.Prelude.{◌≡◌, ◌<◌, length, All, IfOk};
+ghost use Rattle.std.specs.Prelude.{◌≡◌, ◌<◌, length, None, IfOk};
 ghost use Rattle.restriction_log.specs.States.{AreOf};
 ghost use Rattle.trip_analysis.specs.Applications.{Sound};
 ghost use Rattle.trip_analysis.specs.Bases.{train_of};
-ghost use Rattle.trip_analysis.specs.Known.{IsSettled};
-ghost use Rattle.trip_analysis.specs.Findings.{IsFinding, IsFoundBy, asked_finding, first_on as first_in, flags_of, what_of};
+ghost use Rattle.trip_analysis.specs.Findings.{IsFinding, IsFoundBy, IsSearched, asked_finding, what_of};
 
 use crate::application::Application;
 use crate::base::Base;
-use crate::finding::What;
+use crate::finding::{Failing, What};
 use crate::passing::{first_on_by, flags, train_of};
 use clearance_rules::Steps;
 use hs20_truck::Live;
 use office_io::NoMemory;
 use restriction_log::State;
-use road_graph::Numbers;
-use route_search::{Found, Potentials, search, search_by};
+use road_graph::{Network, Numbers};
+use route_search::{Found, search};
 use span_rating::SpanStudy;
 use std::alloc::Global;
 use std::marker::Brand;
@@ -81,36 +80,24 @@ fn find_counted<E: SpanStudy, L: Ledger>(
         return Ok(What::NotNeeded);
     }
     match application.asked() {
-        Some(route) => find_asked(
-            alloc,
-            base,
-            state,
-            application.truck(),
-            study,
-            route,
-            &mut steps,
-        ),
+        Some(route) => {
+            let truck = application.truck();
+            let failing = first_on_by(base, state, truck, study, route.as_slice(), &mut steps);
+            asked_finding(alloc, failing, route)
+        }
         None => find_free(alloc, base, state, application, study, &mut steps),
     }
 }
 
-// What is found on an asked route.
-pub(crate) fn find_asked<E: SpanStudy, L: Ledger>(
+// What is found on an asked route, of which this is the first segment that fails.
+pub(crate) fn asked_finding(
     alloc: Global,
-    base: &Base,
-    state: &State,
-    truck: u32,
-    study: &E,
+    failing: Option<Failing>,
     route: &Numbers,
-    steps: &mut Steps<L>,
 ) -> Result<What, NoMemory>
-    requires truck { truck < length base.now.fleet }
-    requires study { E.axles study.now ≡ train_of base.now truck }
-    requires state { AreOf base.now.roads state.now }
-    requires segments { All (λ s. s < length base.now.roads.segments) route.now }
-    ensures { IfOk result (λ w. w ≡ asked_finding (first_in base.now state.now truck route.now) route.now) }
+    ensures { IfOk result (λ w. w ≡ asked_finding failing route.now) }
 {
-    match first_on_by(base, state, truck, study, route.as_slice(), steps) {
+    match failing {
         Some(failing) => Ok(What::Fails {
             segment: failing.segment,
         }),
@@ -130,63 +117,36 @@ fn find_free<E: SpanStudy, L: Ledger>(
     requires study { E.axles study.now ≡ train_of base.now application.now.truck }
     requires state { AreOf base.now.roads state.now }
     requires sound { Sound base.now application.now }
-    ensures { IfOk result (λ w. IsFoundBy base.now state.now application.now None w) }
+    ensures { IfOk result (IsFoundBy base.now state.now application.now None) }
 {
     let passable = flags(alloc, base, state, application.truck(), study, steps)?;
-    find_flagged(alloc, base, state, application, passable.as_slice())
-}
-
-// The same where the flags of the segments are known.
-#[tactic(auto, using(crate::proofs::Flags::flags_many))]
-pub(crate) fn find_flagged(
-    alloc: Global,
-    base: &Base,
-    _state: &State,
-    application: &Application,
-    passable: &[bool],
-) -> Result<What, NoMemory>
-    requires flags { passable.now ≡ flags_of base.now _state.now application.now.truck }
-    requires sound { Sound base.now application.now }
-    ensures { IfOk result (λ w. IsFoundBy base.now _state.now application.now None w) }
-{
-    let found = search(
+    search_flagged(
         alloc,
         base.network(),
-        passable,
+        &passable,
         application.from(),
         application.to(),
-    )?;
-    Ok(proposed(found))
+    )
 }
 
-// The same where the potentials of the end of the trip are known too.
-#[tactic(auto, using(crate::proofs::Flags::flags_many))]
-pub(crate) fn find_settled(
+// What a search over the flagged segments finds, as it is proposed.
+fn search_flagged(
     alloc: Global,
-    base: &Base,
-    _state: &State,
-    application: &Application,
+    network: &Network,
     passable: &[bool],
-    potentials: &Potentials,
+    from: u32,
+    to: u32,
 ) -> Result<What, NoMemory>
-    requires flags { passable.now ≡ flags_of base.now _state.now application.now.truck }
-    requires sound { Sound base.now application.now }
-    requires potentials { IsSettled base.now.roads passable.now application.now.to potentials.now }
-    ensures { IfOk result (λ w. IsFoundBy base.now _state.now application.now None w) }
+    requires flags { length passable.now ≡ length network.now.segments }
+    requires from { from < length network.now.nodes }
+    requires to { to < length network.now.nodes }
+    ensures { IfOk result (IsSearched network.now passable.now from to) }
 {
-    let found = search_by(
-        alloc,
-        base.network(),
-        passable,
-        potentials,
-        application.from(),
-        application.to(),
-    )?;
-    Ok(proposed(found))
+    Ok(proposed(search(alloc, network, passable, from, to)?))
 }
 
-// What a search found, as it is proposed.
-fn proposed(found: Found) -> What
+// What a search finds, as it is proposed.
+pub(crate) fn proposed(found: Found) -> What
     ensures { result ≡ what_of found }
 {
     match found {

@@ -1,25 +1,25 @@
 // Who finds what applications ask for, and keeps what is known of each truck.
 
-ghost use Rattle.std.specs.Prelude.{◌≡◌, ◌<◌, length, slice_set, true, false, None, Some, IfOk};
+ghost use Rattle.std.specs.Prelude.{◌≡◌, ◌<◌, length, slice_set, true, IfOk, OnOk};
 ghost use Rattle.road_graph.specs.Roads.{IsRoads};
+ghost use Rattle.restriction_log.specs.Changes.{takes};
 ghost use Rattle.restriction_log.specs.States.{AreOf, InForce, state_after};
-ghost use Rattle.restriction_log.specs.Changes.{takes, touched};
 ghost use Rattle.trip_analysis.specs.Applications.{Sound};
 ghost use Rattle.trip_analysis.specs.Bases.{train_of};
-ghost use Rattle.trip_analysis.specs.Findings.{IsFinding, flags_of};
-ghost use Rattle.trip_analysis.specs.Known.{AreKnown, AreStudied, IsKnown, IsNew, IsSettled};
+ghost use Rattle.trip_analysis.specs.Findings.{IsFinding};
+ghost use Rattle.trip_analysis.specs.Known.{AreKnown, AreSettled, AreStudied, IsKnown, IsKnownBut, IsSettled};
 
-use crate::analysis::{find_asked, find_settled};
+use crate::analysis::{asked_finding, proposed};
 use crate::application::Application;
 use crate::base::Base;
 use crate::finding::What;
-use crate::passing::{failing_limit_by, flags, train_of};
+use crate::passing::{failing_limit_by, first_on_by, flags, train_of};
 use clearance_rules::Steps;
 use hs20_truck::Kept;
 use office_io::NoMemory;
 use restriction_log::{Change, State, touched};
 use road_graph::Network;
-use route_search::{Potentials, potentials};
+use route_search::{Potentials, potentials, search_by};
 use std::alloc::Global;
 use std::marker::Brand;
 use std::sync::ledger::{Blank, Ledger};
@@ -50,7 +50,7 @@ impl Analyst {
     {
         let mut known = Vec::new(alloc);
         let count = base.fleet().len();
-        for truck in 0..count {
+        'trucks: for truck in 0..count {
             known.push(unknown(alloc, base, truck as u32)?)?;
         }
         Ok(Analyst { known })
@@ -84,8 +84,8 @@ impl Analyst {
         &self.known[truck as usize].study
     }
 
-    /// Goes on from a state to the one that a change makes of it: of each truck the segment that the change names is judged
-    /// anew. Takes no memory.
+    /// Goes on from `old`, the state in which the trucks are known, to the one that a change makes of it: of each truck the
+    /// segment that the change names is judged anew. Takes no memory.
     pub fn turn<L: Ledger>(
         &mut self,
         base: &Base,
@@ -100,12 +100,11 @@ impl Analyst {
         requires after { new.now ≡ state_after old.now change.now }
         ensures { AreKnown base.now new.now self.new }
     {
-        // the network tells that its lists are in order
-        let _segments = base.network().segments();
+        base.lists_are_in_order();
         let segment = touched(base.network(), change);
-        for truck in 0..base.fleet().len() {
+        'trucks: for truck in 0..base.fleet().len() {
             let known = &mut self.known[truck];
-            turn_one(base, old, new, change, truck as u32, segment, known, steps);
+            judge_anew(base, new, truck as u32, segment, known, steps);
         }
     }
 }
@@ -133,14 +132,25 @@ fn find_known<L: Ledger>(
     if base.fleet()[truck as usize].load.legal() {
         return Ok(What::NotNeeded);
     }
-    learn(base.network(), &mut known.study, &mut known.is_studied)?;
+    learn_effects(base.network(), &mut known.study, &mut known.is_studied)?;
     match application.asked() {
-        Some(route) => find_asked(alloc, base, state, truck, &known.study, route, &mut steps),
+        Some(route) => {
+            let study = &known.study;
+            let failing = first_on_by(base, state, truck, study, route.as_slice(), &mut steps);
+            asked_finding(alloc, failing, route)
+        }
         None => {
             learn_flags(alloc, base, state, truck, known, &mut steps)?;
-            learn_potentials(alloc, base, state, truck, application.to(), known)?;
-            let passable = known.flags.as_slice();
-            find_settled(alloc, base, state, application, passable, &known.potentials)
+            learn_potentials(alloc, base.network(), application.to(), known)?;
+            let found = search_by(
+                alloc,
+                base.network(),
+                &known.flags,
+                &known.potentials,
+                application.from(),
+                application.to(),
+            )?;
+            Ok(proposed(found))
         }
     }
 }
@@ -170,66 +180,61 @@ fn learn_flags<L: Ledger>(
 }
 
 // Keeps the potentials of a goal, where those of another one are kept, or none.
-#[tactic(auto, using(crate::proofs::Flags::flags_many))]
 fn learn_potentials(
     alloc: Global,
-    base: &Base,
-    _state: &State,
-    _truck: u32,
+    network: &Network,
     goal: u32,
     known: &mut Known,
 ) -> Result<(), NoMemory>
-    requires flagged { known.old.is_flagged ≡ true }
-    requires known { IsKnown base.now _state.now _truck known.old }
-    requires goal { goal < length base.now.roads.nodes }
-    ensures flagged { known.new.is_flagged ≡ true }
-    ensures settled { IfOk result (λ _. IsSettled base.now.roads known.new.flags.items goal known.new.potentials) }
-    ensures known { IsKnown base.now _state.now _truck known.new }
+    requires many { length known.old.flags.items ≡ length network.now.segments }
+    requires goal { goal < length network.now.nodes }
+    requires settled { AreSettled network.now known.old }
+    ensures study { known.new.study ≡ known.old.study }
+    ensures flagged { known.new.is_flagged ≡ known.old.is_flagged }
+    ensures flags { known.new.flags.items ≡ known.old.flags.items }
+    ensures settled { AreSettled network.now known.new }
+    ensures goal { OnOk result (IsSettled network.now known.old.flags.items goal known.new.potentials) }
 {
     if known.is_settled && known.goal == goal {
         return Ok(());
     }
-    known.potentials = potentials(alloc, base.network(), known.flags.as_slice(), goal)?;
+    known.potentials = potentials(alloc, network, &known.flags, goal)?;
     known.goal = goal;
     known.is_settled = true;
     Ok(())
 }
 
-// Goes on to the state that a change makes, where the flags are kept.
-fn turn_one<L: Ledger>(
+// Judges a segment anew, where flags are kept.
+fn judge_anew<L: Ledger>(
     base: &Base,
-    _old: &State,
-    new: &State,
-    _change: &Change,
+    state: &State,
     truck: u32,
     segment: u32,
     known: &mut Known,
     steps: &mut Steps<L>,
 )
     requires truck { truck < length base.now.fleet }
-    requires known { IsKnown base.now _old.now truck known.old }
-    requires state { AreOf base.now.roads new.now }
-    requires segment { segment ≡ touched base.now.roads _change.now }
-    requires within { segment < length base.now.roads.segments }
-    requires after { new.now ≡ state_after _old.now _change.now }
+    requires known { IsKnownBut base.now state.now segment truck known.old }
+    requires state { AreOf base.now.roads state.now }
+    requires segment { segment < length base.now.roads.segments }
     requires roads { IsRoads base.now.roads }
-    ensures { IsKnown base.now new.now truck known.new }
+    ensures { IsKnown base.now state.now truck known.new }
 {
     if known.is_flagged {
-        let limit = failing_limit_by(base, new, truck, &known.study, segment, steps);
-        write_flag(base.network(), known, segment, limit.is_none());
+        let limit = failing_limit_by(base, state, truck, &known.study, segment, steps);
+        write_flag(base.network(), segment, limit.is_none(), known);
     }
 }
 
 // Writes the flag of a segment. The potentials stay where it is as before, or where it does not matter to them.
-fn write_flag(network: &Network, known: &mut Known, segment: u32, passable: bool)
+fn write_flag(network: &Network, segment: u32, passable: bool, known: &mut Known)
     requires roads { IsRoads network.now }
-    requires within { segment < length network.now.segments }
+    requires segment { segment < length network.now.segments }
     requires many { length known.old.flags.items ≡ length network.now.segments }
-    requires settled { known.old.is_settled ≡ true → IsSettled network.now known.old.flags.items known.old.goal known.old.potentials }
+    requires settled { AreSettled network.now known.old }
     ensures study { known.new.study ≡ known.old.study }
     ensures flags { known.new.flags.items ≡ slice_set known.old.flags.items segment passable }
-    ensures settled { known.new.is_settled ≡ true → IsSettled network.now known.new.flags.items known.new.goal known.new.potentials }
+    ensures settled { AreSettled network.now known.new }
 {
     let before = known.flags[segment as usize];
     known.flags[segment as usize] = passable;
@@ -239,13 +244,17 @@ fn write_flag(network: &Network, known: &mut Known, segment: u32, passable: bool
 }
 
 // Keeps the effects on each span, where that was not done yet.
-fn learn(network: &Network, study: &mut Kept, is_studied: &mut bool) -> Result<(), NoMemory>
+fn learn_effects(
+    network: &Network,
+    study: &mut Kept,
+    is_studied: &mut bool,
+) -> Result<(), NoMemory>
     ensures { study.new ≡ study.old }
 {
     if *is_studied {
         return Ok(());
     }
-    for span in 0..network.spans() {
+    'spans: for span in 0..network.spans() {
         study.keep(network.span(span).inches)?;
     }
     *is_studied = true;
@@ -255,7 +264,7 @@ fn learn(network: &Network, study: &mut Kept, is_studied: &mut bool) -> Result<(
 // What is known of a truck of which nothing is known but its axles.
 fn unknown(alloc: Global, base: &Base, truck: u32) -> Result<Known, NoMemory>
     requires truck { truck < length base.now.fleet }
-    ensures { IfOk result (λ known. IsNew base.now truck known) }
+    ensures { IfOk result (λ known. (state : InForce) → IsKnown base.now state truck known) }
 {
     let train = train_of(base, truck).clone()?;
     Ok(Known {

@@ -1,8 +1,7 @@
 // What a carrier asks for.
 
 ghost use Rattle.std.specs.Prelude.{◌≡◌, ◌<◌, length, None, Some, All, IfOk, IfErr, OnOk, OnErr, option_map};
-ghost use Rattle.trip_analysis.specs.Bases.{BaseLists};
-ghost use Rattle.trip_analysis.specs.Applications.{AreThere, AreAskedThere, Sound, application_of, application_refusal, break_from, asked_break};
+ghost use Rattle.trip_analysis.specs.Applications.{AreThere, AreAskedThere, IsCause, IsSoundOn, Sound, application_of, application_refusal, break_from, asked_break};
 
 use crate::base::Base;
 use crate::refusal::ApplicationRefusal;
@@ -41,7 +40,7 @@ impl Application {
         ensures fields { IfOk result (λ a. a ≡ application_of truck from to asked first last) }
         ensures sound { IfOk result (λ a. Sound base.now a) }
         ensures taken { OnOk result (application_refusal base.now.roads from to asked first last ≡ None) }
-        ensures refused { IfErr result (λ e. application_refusal base.now.roads from to asked first last ≡ Some e) }
+        ensures refused { IfErr result (IsCause (application_refusal base.now.roads from to asked first last)) }
     {
         Application::on(base.network(), truck, from, to, asked, first, last)
     }
@@ -58,9 +57,9 @@ impl Application {
     ) -> Result<Application, ApplicationRefusal>
         requires there { AreThere network.now from to asked }
         ensures fields { IfOk result (λ a. a ≡ application_of truck from to asked first last) }
-        ensures sound { IfOk result (λ a. (base : BaseLists) → base.roads ≡ network.now → truck < length base.fleet → Sound base a) }
+        ensures sound { IfOk result (IsSoundOn network.now truck) }
         ensures taken { OnOk result (application_refusal network.now from to asked first last ≡ None) }
-        ensures refused { IfErr result (λ e. application_refusal network.now from to asked first last ≡ Some e) }
+        ensures refused { IfErr result (IsCause (application_refusal network.now from to asked first last)) }
     {
         if from == to {
             return Err(ApplicationRefusal::SamePlace);

@@ -1,5 +1,8 @@
 // What an office is about: roads and trucks.
 
+ghost use Rattle.std.specs.Prelude.{All};
+ghost use Rattle.axle_train.specs.Bounds.{IsTrain};
+
 use clearance_rules::Load;
 use office_io::Name;
 use road_graph::Network;
@@ -22,24 +25,26 @@ pub struct Base {
 }
 
 impl Model for Base {
-    ghost use Rattle.std.specs.Prelude.{◌≤◌, length};
-    ghost use Rattle.trip_analysis.specs.Bases.{BaseLists};
+    ghost use Rattle.trip_analysis.specs.Bases.{BaseLists, IsBase};
 
     ghost Value = { BaseLists };
 
     ghost view = { λ b. record { roads = b.network; fleet = b.fleet.items } };
 
-    ghost invariant = { λ b. length b.fleet.items ≤ 64 };
+    ghost invariant = { λ b. IsBase (record { roads = b.network; fleet = b.fleet.items }) };
 }
 
 impl Base {
     ghost use Rattle.std.specs.Prelude.{◌≡◌, ◌≤◌, length};
+    ghost use Rattle.road_graph.specs.Roads.{IsRoads};
+    ghost use Rattle.trip_analysis.specs.Bases.{AreTrains};
 
     /// These roads and trucks. Takes no memory.
     pub fn new(network: Network, fleet: Vec<Truck>) -> Base
         requires few { length fleet.items ≤ 64 }
         ensures { result ≡ record { roads = network; fleet = fleet.items } }
     {
+        tell_trains(&fleet);
         Base { network, fleet }
     }
 
@@ -50,11 +55,30 @@ impl Base {
         &self.network
     }
 
+    /// A fact, and no work: the lists of the roads are in order, and each truck is a train of axles within bounds.
+    pub fn lists_are_in_order(&self)
+        ensures roads { IsRoads self.now.roads }
+        ensures trains { AreTrains self.now }
+    {
+        self.network().lists_are_in_order();
+        let _trucks = self.fleet().len();
+    }
+
     /// The trucks, at most 64, in order. Takes no memory.
     pub fn fleet(&self) -> &[Truck]
         ensures value { result.now ≡ self.now.fleet }
         ensures few { length self.now.fleet ≤ 64 }
+        ensures trains { AreTrains self.now }
     {
         self.fleet.as_slice()
+    }
+}
+
+// Tells of each truck that its axles are within the bounds of trains, as its load promises. Nothing is done.
+fn tell_trains(fleet: &[Truck])
+    ensures { All (λ t. IsTrain t.load.train) fleet.now }
+{
+    'trucks: for i in 0..fleet.len() {
+        let _train = fleet[i].load.train();
     }
 }

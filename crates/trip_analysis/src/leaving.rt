@@ -3,7 +3,7 @@
 ghost use Rattle.std.specs.Prelude.{◌≡◌, ◌+◌, ◌<◌, ◌≤◌, ◌∷◌, [], length, MatchOption};
 ghost use Rattle.restriction_log.specs.States.{AreOf};
 ghost use Rattle.trip_analysis.specs.Bases.{train_of};
-ghost use Rattle.trip_analysis.specs.Findings.{AreRising, first_meeting, is_in, leaves, leaving, leaving_from};
+ghost use Rattle.trip_analysis.specs.Findings.{AreRising, IsNextLeaving, first_meeting, is_in, leaves, leaving, leaving_from};
 
 use crate::base::Base;
 use crate::passing::{failing_limit_by, train_of};
@@ -15,14 +15,12 @@ use span_rating::SpanStudy;
 use std::sync::ledger::Ledger;
 
 /// The least segment from a number on that leaves these nodes, which rise. Takes no memory.
-///
-/// That it is below 16,384, the most segments of a network, is said so that a caller can go on from the number after it.
 #[tactic(auto, using(crate::proofs::Crossing::lemmas))]
 pub fn next_leaving(network: &Network, nodes: &[u32], start: u32) -> Option<u32>
     requires rising { AreRising nodes.now }
     ensures { MatchOption result
         (leaving_from network.now nodes.now start ≡ [])
-        (λ s. (start ≤ s) × (s < 16384) × (s < length network.now.segments) × (leaving_from network.now nodes.now start ≡ s ∷ leaving_from network.now nodes.now (s + 1))) }
+        (IsNextLeaving network.now nodes.now start) }
 {
     let count = network.segments();
     for s in start..count {

@@ -4,9 +4,9 @@ ghost use Rattle.trip_analysis.specs.Applications.{AreAskedThere, Sound};
 ghost use Rattle.trip_analysis.specs.Findings.{AreRising};
 
 use crate::{
-    Application, ApplicationRefusal, Base, Failing, Truck, What, asked_findings_are_of_the_route,
-    failing_limit, find, findings_hold, first_meeting_out, first_on, free_findings_are_of_walks,
-    next_leaving, routes_break_off_where_walks_do,
+    Analyst, Application, ApplicationRefusal, Base, Failing, Truck, What,
+    asked_findings_are_of_the_route, failing_limit, find, findings_hold, first_meeting_out,
+    first_on, free_findings_are_of_walks, next_leaving, routes_break_off_where_walks_do,
 };
 use axle_train::{Axle, Train};
 use clearance_rules::{Limit, Load, Steps};
@@ -43,19 +43,25 @@ fn numbers(alloc: Global, text: &str) -> Result<Vec<u32>, Fail> {
     Ok(list)
 }
 
-// Nodes 0, 1 and 2, and segments of 1,000 ft: 0 from node 0 to node 1, 1 from node 0 to node 2, and 2 from node 2 to node 1.
-fn roads(rt: &impl Abort, alloc: Global) -> Network {
+// Nodes 0, 1 and 2, and segments of 1,000 ft, each written FROM,TO.
+fn roads(rt: &impl Abort, alloc: Global, segments: &str) -> Network {
     let mut network = Network::new(alloc);
     for name in [b"a", b"b", b"c"] {
         network.add_node(named(rt, name)).expect(rt, "a node");
     }
-    for (name, from, to) in [(b"ab", 0, 1), (b"ac", 0, 2), (b"cb", 2, 1)] {
+    for segment in segments.split_whitespace() {
+        let mut ends = segment.split(',');
+        let from = number(ends.next().unwrap_or(""));
+        let to = number(ends.next().unwrap_or(""));
         network
-            .add_segment(named(rt, name), from, to, 1_000)
+            .add_segment(named(rt, segment.as_bytes()), from, to, 1_000)
             .expect(rt, "a segment");
     }
     network
 }
+
+// Two ways from node 0 to node 1: segment 0, and segments 1 and 2 by node 2.
+const TWO_WAYS: &str = "0,1 0,2 2,1";
 
 // A truck of 102 in by 720 in whose axles are within the limits of 23 CFR 658.17: 20,000 lb an axle, 34,000 lb for the
 // tandem of 48 in, and by the formula 45,000 lb for the first two axles and 50,000 lb for all three.
@@ -70,12 +76,12 @@ fn truck(rt: &impl Abort, name: &[u8], height: u32) -> Truck {
     }
 }
 
-// The roads with truck 0, which at 168 in is higher than 162 in and needs a permit, and truck 1, which is legal.
-fn base(rt: &impl Abort, alloc: Global) -> Result<Base, Fail> {
+// Roads with truck 0, which at 168 in is higher than 162 in and needs a permit, and truck 1, which is legal.
+fn base(rt: &impl Abort, alloc: Global, segments: &str) -> Result<Base, Fail> {
     let mut fleet = Vec::new(alloc);
     fleet.push(truck(rt, b"high", 168))?;
     fleet.push(truck(rt, b"legal", 160))?;
-    Ok(Base::new(roads(rt, alloc), fleet))
+    Ok(Base::new(roads(rt, alloc, segments), fleet))
 }
 
 // Whether the segments of a list are there.
@@ -140,7 +146,7 @@ const ANSWERS: &str = "\
 
 #[test]
 fn refuses_an_application_for_its_first_cause(rt: HostRuntime) -> Result<(), Fail> {
-    let base = base(&rt, rt.alloc())?;
+    let base = base(&rt, rt.alloc(), TWO_WAYS)?;
     for line in ANSWERS.lines() {
         let mut parts = line.split('/');
         let wanted = (parts.next().unwrap_or(""), parts.next().unwrap_or(""));
@@ -155,7 +161,7 @@ fn refuses_an_application_for_its_first_cause(rt: HostRuntime) -> Result<(), Fai
 
 #[test]
 fn keeps_what_is_asked_for(rt: HostRuntime) -> Result<(), Fail> {
-    let base = base(&rt, rt.alloc())?;
+    let base = base(&rt, rt.alloc(), TWO_WAYS)?;
     let text = "1,0,1,1 2,2026-03-02,2026-03-05";
     let taken = applied(&rt, rt.alloc(), &base, text)?.expect(&rt, "an application");
     let copy = taken.try_clone(rt.alloc())?;
@@ -230,7 +236,7 @@ fn found(
 
 #[test]
 fn finds_a_route_or_why_there_is_none(rt: HostRuntime) -> Result<(), Fail> {
-    let base = base(&rt, rt.alloc())?;
+    let base = base(&rt, rt.alloc(), TWO_WAYS)?;
     for line in FINDINGS.lines() {
         let mut parts = line.split('/');
         let text = parts.next().unwrap_or("");
@@ -238,6 +244,85 @@ fn finds_a_route_or_why_there_is_none(rt: HostRuntime) -> Result<(), Fail> {
         let wanted = parts.next().unwrap_or("");
         let answer = found(&rt, rt.alloc(), &base, text, low)?;
         assert_eq!(rt; answer.as_str(), wanted, "{line}");
+    }
+    Ok(())
+}
+
+// Roads, an application, what is posted on segments one after another, and what is found before and after each posting.
+const TURNS: &str = "\
+0,1 0,2 2,1/0,0,1,-,2026-03-02,2026-03-02/closed,0,1/route [0]; route [1, 2]
+0,1/0,0,1,-,2026-03-02,2026-03-02/height,0,160 height,0,168/route [0]; cut [0]; route [0]
+0,2/0,0,1,-,2026-03-02,2026-03-02/closed,0,1/cut [0, 2]; cut [0, 2]
+0,2/0,0,2,-,2026-03-02,2026-03-02/closed,0,1/route [0]; cut [0]
+0,2/0,0,2,0,2026-03-02,2026-03-02/closed,0,1/route [0]; fails 0
+0,1/1,0,1,-,2026-03-02,2026-03-02/closed,0,1/not needed; not needed
+0,1 0,2 2,1/0,0,1,-,2026-03-02,2026-03-02/closed,1,1 closed,0,1 closed,1,0 closed,0,0/route [0]; route [0]; cut [0]; route [1, 2]; route [0]
+";
+
+// What a text posts: KIND,SEGMENT,VALUE.
+fn posted(text: &str) -> Change {
+    let mut parts = text.split(',');
+    let kind = parts.next().unwrap_or("");
+    let segment = number(parts.next().unwrap_or(""));
+    let value = number(parts.next().unwrap_or(""));
+    if kind == "closed" {
+        return Change::Closed {
+            segment,
+            closed: value == 1,
+        };
+    }
+    Change::Height {
+        segment,
+        inches: value,
+    }
+}
+
+// What an analyst finds before and after each of the postings of a text. It is what is found anew.
+#[tactic(auto, using(restriction_log::proofs::Standing::stays_of, restriction_log::proofs::Standing::named_of))]
+fn found_in_turn<L: Ledger>(
+    rt: &impl Abort,
+    alloc: Global,
+    base: &Base,
+    application: &Application,
+    postings: &str,
+    blank: Blank,
+) -> Result<String, Fail>
+    requires sound { Sound base.now application.now }
+    requires name { blank.name ≡ L.name }
+    requires parts { blank.parts ≡ L.parts }
+    requires some { 0 < blank.parts }
+{
+    let mut steps = Steps::<L>::new(blank);
+    base.network().lists_are_in_order();
+    let mut state = State::base(alloc, base.network())?;
+    let mut analyst = Analyst::new(alloc, base)?;
+    let mut all = told(alloc, &analyst.find(alloc, base, &state, application)?)?;
+    'postings: for text in postings.split_whitespace() {
+        let change = posted(text);
+        assert!(rt; takes(base.network(), &change));
+        let next = state.with(alloc, &change)?;
+        analyst.turn(base, &state, &next, &change, &mut steps);
+        state = next;
+        let kept = told(alloc, &analyst.find(alloc, base, &state, application)?)?;
+        let anew = told(alloc, &find(alloc, base, &state, application)?)?;
+        assert_eq!(rt; kept.as_str(), anew.as_str());
+        all.push_str("; ")?;
+        all.push_str(kept.as_str())?;
+    }
+    Ok(all)
+}
+
+#[test]
+fn goes_on_from_posting_to_posting(rt: HostRuntime) -> Result<(), Fail> {
+    for line in TURNS.lines() {
+        let mut parts = line.split('/');
+        let base = base(&rt, rt.alloc(), parts.next().unwrap_or(""))?;
+        let text = parts.next().unwrap_or("");
+        let application = applied(&rt, rt.alloc(), &base, text)?.expect(&rt, "an application");
+        let postings = parts.next().unwrap_or("");
+        let blank = Blank::new(1);
+        let all = found_in_turn::<Brand>(&rt, rt.alloc(), &base, &application, postings, blank)?;
+        assert_eq!(rt; all.as_str(), parts.next().unwrap_or(""), "{line}");
     }
     Ok(())
 }
@@ -310,7 +395,7 @@ fn tell_both<L: Ledger>(rt: &impl Abort, base: &Base, state: &State, blank: Blan
 
 #[test]
 fn tells_segments_that_fail_and_segments_that_leave(rt: HostRuntime) -> Result<(), Fail> {
-    let base = base(&rt, rt.alloc())?;
+    let base = base(&rt, rt.alloc(), TWO_WAYS)?;
     let state = lowered(&rt, rt.alloc(), base.network(), "0 1")?;
     tell_both::<Brand>(&rt, &base, &state, Blank::new(1));
     findings_hold();

@@ -8,5 +8,5 @@ returns-then-known-clause-settled c = λ e.
     let old = c.requires.settled c.if-known.true in
     record {
       there = old.there;
-      least = potentials_stay a.network.now a.known.now.flags.items _ a.known.now.goal a.known.now.potentials a.segment a.passable c.requires.roads old.least old.there c.requires.within refl (sym c.is_slack-known.ensures ∙ e);
+      least = potentials_stay a.network.now a.known.now.flags.items _ a.known.now.goal a.known.now.potentials a.segment a.passable c.requires.roads old.least old.there c.requires.segment refl (sym c.is_slack-known.ensures ∙ e);
     }

@@ -1,7 +1,11 @@
 use Rattle.std.proofs.Common.{◌≡◌, length}
-use Rattle.trip_analysis.specs.Known.{IsNew}
+use Rattle.restriction_log.specs.States.{InForce}
+use Rattle.trip_analysis.specs.Known.{IsKnown}
 use Rattle.trip_analysis.proofs.KnownAt.{AllBelow}
 use Rattle.trip_analysis.proofs.analyst.Analyst.new.Given as goal
 
-abbrev pub invariant-loop-truck : goal.invariant-loop-truck
-invariant-loop-truck l = (length l.known.items ≡ l.truck) × AllBelow (IsNew l.base) l.known.items l.truck
+abbrev pub invariant-trucks : goal.invariant-trucks
+invariant-trucks l = record {
+  many : length l.known.items ≡ l.truck;
+  each : AllBelow (λ truck known. (state : InForce) → IsKnown l.base state truck known) l.known.items l.truck;
+}
