@@ -129,7 +129,8 @@ pub(crate) fn enter_span(
     requires within { span.segment < length carried.old.items }
     ensures name { OnOk result (names.new.keys ≡ names.old.keys ++ span.name ∷ []) }
     ensures span { OnOk result (spans.new.items ≡ spans.old.items ++ span ∷ []) }
-    ensures carried { OnOk result (IsAdded carried.old.items carried.new.items span.segment (length spans.old.items)) }
+    ensures carried { OnOk result
+        (IsAdded carried.old.items carried.new.items span.segment (length spans.old.items)) }
     ensures name_unchanged { OnErr result (names.new.keys ≡ names.old.keys) }
     ensures spans_unchanged { OnErr result (spans.new.items ≡ spans.old.items) }
     ensures carried_unchanged { OnErr result (lists_of carried.new.items ≡ lists_of carried.old.items) }

@@ -32,7 +32,8 @@ fn spread(
     requires flags { length passable.now ≡ length network.now.segments }
     requires roads { IsRoads network.now }
     requires before { IsSpreadingOver network.now passable.now from marked.old.items waiting.old.items node }
-    ensures after { OnOk result (IsReachingOver network.now passable.now from marked.new.items waiting.new.items) }
+    ensures after { OnOk result
+        (IsReachingOver network.now passable.now from marked.new.items waiting.new.items) }
     ensures less { OnOk result
         (IsNoMoreToMark marked.old.items waiting.old.items marked.new.items waiting.new.items) }
 {

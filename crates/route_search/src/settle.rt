@@ -62,7 +62,8 @@ fn relax(
     requires flags { length passable.now ≡ length network.now.segments }
     requires there { near.node < length network.now.nodes }
     requires before { IsRelaxingOver network.now passable.now goal potentials.old.items queue.old near }
-    ensures after { OnOk result (IsSearchingOver network.now passable.now goal potentials.new.items queue.new) }
+    ensures after { OnOk result
+        (IsSearchingOver network.now passable.now goal potentials.new.items queue.new) }
     ensures less { OnOk result
         (IsNoMoreWork potentials.old.items queue.old potentials.new.items queue.new) }
 {

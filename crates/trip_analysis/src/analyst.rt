@@ -244,11 +244,7 @@ fn write_flag(network: &Network, segment: u32, passable: bool, known: &mut Known
 }
 
 // Keeps the effects on each span, where that was not done yet.
-fn learn_effects(
-    network: &Network,
-    study: &mut Kept,
-    is_studied: &mut bool,
-) -> Result<(), NoMemory>
+fn learn_effects(network: &Network, study: &mut Kept, is_studied: &mut bool) -> Result<(), NoMemory>
     ensures { study.new ≡ study.old }
 {
     if *is_studied {

@@ -40,7 +40,8 @@ impl Application {
         ensures fields { IfOk result (λ a. a ≡ application_of truck from to asked first last) }
         ensures sound { IfOk result (λ a. Sound base.now a) }
         ensures taken { OnOk result (application_refusal base.now.roads from to asked first last ≡ None) }
-        ensures refused { IfErr result (IsCause (application_refusal base.now.roads from to asked first last)) }
+        ensures refused { IfErr result
+            (IsCause (application_refusal base.now.roads from to asked first last)) }
     {
         Application::on(base.network(), truck, from, to, asked, first, last)
     }
