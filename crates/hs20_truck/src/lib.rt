@@ -5,8 +5,8 @@
 //! The crates above are promised that `effects` is greatest over every second spacing and every place,
 //! fractions of an inch among them, although only the truck with its smallest spacing is looked at;
 //! that the effects of a train, and those of the design truck, are functions of the train and the span,
-//! with no other effects that are these peaks; and that `Live` answers for its own train and for the
-//! design truck.
+//! with no other effects that are these peaks; and that `Live`, which computes, and `Kept`, which keeps
+//! what it computed, answer for their own train and for the design truck.
 #![tactic(auto)]
 
 ghost use Rattle.std.specs.Prelude.{◌≡◌, ◌≤◌};

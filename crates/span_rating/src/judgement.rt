@@ -61,10 +61,27 @@ mod tests {
     use std::process::Abort;
     use std::test::Fail;
 
+    // The numerator and the denominator of a moment, and those of a shear.
+    type Terms = ((u128, u128), (u128, u128));
+
+    // HS20-44 on 20 feet, and on 500 feet with a train of 32 axles of 62,500 lb: the train's moment is 21,323.08
+    // thousandths of the design's, and its shear 21,282.7.
+    const SHORT: Terms = ((1920000, 1), (41600, 1));
+
+    const LONG: Terms = ((104649408, 1), (70656, 1));
+
+    const HEAVY: Terms = ((17851584375, 8), (1503750, 1));
+
+    // Numbers near the greatest that are allowed.
+    const GREATEST: Terms = (((1 << 68) - 1, (1 << 36) - 2), (1, 1));
+
+    const LEAST: Terms = ((1, (1 << 36) - 1), (1, 1));
+
     // Two effects, each in lowest terms and of the size that peaks have.
-    fn effects(rt: &impl Abort, moment: (u128, u128), shear: (u128, u128)) -> Effects
+    fn effects(rt: &impl Abort, terms: Terms) -> Effects
         ensures { AreSmall result }
     {
+        let (moment, shear) = terms;
         let moment = small(rt, moment.0, moment.1);
         let shear = small(rt, shear.0, shear.1);
         Effects { moment, shear }
@@ -79,82 +96,32 @@ mod tests {
 
     #[test]
     fn judges_at_the_last_thousandth(rt: HostRuntime) {
-        // A truck's moment and shear, those of the design truck, a rating, and the judgement.
+        // A truck's effects, those of the design truck, a rating, and the judgement.
         let cases = [
-            // The design truck itself, on 20 feet.
-            (
-                (1920000, 1),
-                (41600, 1),
-                (1920000, 1),
-                (41600, 1),
-                1000,
-                Fit::Fits,
-            ),
-            (
-                (1920000, 1),
-                (41600, 1),
-                (1920000, 1),
-                (41600, 1),
-                999,
-                Fit::Moment,
-            ),
-            // 32 axles of 62,500 lb on 500 feet: the moment is 21,323.08 thousandths of the design's,
-            // and the shear 21,282.7.
-            (
-                (17851584375, 8),
-                (1503750, 1),
-                (104649408, 1),
-                (70656, 1),
-                21323,
-                Fit::Moment,
-            ),
-            (
-                (17851584375, 8),
-                (1503750, 1),
-                (104649408, 1),
-                (70656, 1),
-                21324,
-                Fit::Fits,
-            ),
+            (SHORT, SHORT, 1000, Fit::Fits),
+            (SHORT, SHORT, 999, Fit::Moment),
+            (HEAVY, LONG, 21323, Fit::Moment),
+            (HEAVY, LONG, 21324, Fit::Fits),
             // Both are over the rating, and the moment is named.
-            (
-                (17851584375, 8),
-                (1503750, 1),
-                (104649408, 1),
-                (70656, 1),
-                21282,
-                Fit::Moment,
-            ),
+            (HEAVY, LONG, 21282, Fit::Moment),
             // The shear alone is over the rating, or just within it: 3/2 of the design's.
-            ((1, 1), (3, 1), (1, 1), (2, 1), 1499, Fit::Shear),
-            ((1, 1), (3, 1), (1, 1), (2, 1), 1500, Fit::Fits),
+            (((1, 1), (3, 1)), ((1, 1), (2, 1)), 1499, Fit::Shear),
+            (((1, 1), (3, 1)), ((1, 1), (2, 1)), 1500, Fit::Fits),
             // 5/7 against 3/4: 952.38 thousandths.
-            ((5, 7), (5, 7), (3, 4), (3, 4), 952, Fit::Moment),
-            ((5, 7), (5, 7), (3, 4), (3, 4), 953, Fit::Fits),
+            (((5, 7), (5, 7)), ((3, 4), (3, 4)), 952, Fit::Moment),
+            (((5, 7), (5, 7)), ((3, 4), (3, 4)), 953, Fit::Fits),
             // A span rated 0 carries what does nothing.
-            ((0, 1), (0, 1), (3, 4), (3, 4), 0, Fit::Fits),
-            ((0, 1), (1, 9), (3, 4), (3, 4), 0, Fit::Shear),
-            // The greatest rating, and numbers near the greatest that are allowed.
-            ((100, 1), (100, 1), (1, 1), (1, 1), 100000, Fit::Fits),
-            ((101, 1), (1, 1), (1, 1), (1, 1), 100000, Fit::Moment),
-            (
-                ((1 << 68) - 1, (1 << 36) - 2),
-                (1, 1),
-                (1, (1 << 36) - 1),
-                (1, 1),
-                100000,
-                Fit::Moment,
-            ),
+            (((0, 1), (0, 1)), ((3, 4), (3, 4)), 0, Fit::Fits),
+            (((0, 1), (1, 9)), ((3, 4), (3, 4)), 0, Fit::Shear),
+            // The greatest rating.
+            (((100, 1), (100, 1)), ((1, 1), (1, 1)), 100000, Fit::Fits),
+            (((101, 1), (1, 1)), ((1, 1), (1, 1)), 100000, Fit::Moment),
+            (GREATEST, LEAST, 100000, Fit::Moment),
         ];
-        for (moment, shear, design_moment, design_shear, rating, wanted) in cases {
+        for (truck, design, rating, wanted) in cases {
             assert!(rt; rating <= 100000);
-            let truck = effects(&rt, moment, shear);
-            let design = effects(&rt, design_moment, design_shear);
-            assert_eq!(rt;
-                fits(&truck, &design, rating),
-                wanted,
-                "{moment:?} {shear:?} at {rating}"
-            );
+            let found = fits(&effects(&rt, truck), &effects(&rt, design), rating);
+            assert_eq!(rt; found, wanted, "{truck:?} on {design:?} at {rating}");
         }
         fit_is_of_the_peaks(&Hs20Placements, &Hs20Placements);
     }
