@@ -1,5 +1,5 @@
 -- What the test of legality by weight means.
-use Rattle.std.proofs.Common.{◌≡◌, ◌↔◌, List, Bool, true, leb, ap}
+use Rattle.std.proofs.Common.{◌≡◌, ◌↔◌, List, true, leb, ap}
 use Rattle.std.specs.List.{list_all}
 use Rattle.std.proofs.lemmas.Bool.{and_from, and_parts, leb-true, le-leb}
 use Rattle.axle_train.specs.declared.axle.Axle.{Axle}

@@ -1,5 +1,5 @@
 -- The list of all groups: what is in it, and in which order.
-use Rattle.std.proofs.Common.{◌≡◌, ℕ, zero, suc, ◌+◌, ◌-◌, ◌<◌, ◌≤◌, List, ◌++◌, length, map, get_or, Bool, true, All, Contains, AllPairs, flat_map, arith, refl, inl, inr, subst}
+use Rattle.std.proofs.Common.{◌≡◌, ℕ, zero, suc, ◌+◌, ◌-◌, ◌<◌, ◌≤◌, List, ◌++◌, length, get_or, Bool, true, All, Contains, AllPairs, flat_map, arith, refl, inl, inr, subst}
 use Rattle.std.specs.List.{range_with_len, list_all}
 use Rattle.std.proofs.lemmas.Bool.{cases_lt}
 use Rattle.std.proofs.lemmas.List.Elements.{All-nil, All-append, All-contains, Contains-append_left, Contains-append_right}
@@ -7,7 +7,7 @@ use Rattle.std.proofs.lemmas.List.FromFn.{get_or-map-range_with_len, length-map-
 use Rattle.std.proofs.lemmas.List.Sums.{AllPass-from_list_all, list_all-from_AllPass}
 use Rattle.axle_train.specs.declared.axle.Axle.{Axle}
 use Rattle.axle_limits.specs.declared.worst_group.WorstGroup.{WorstGroup}
-use Rattle.axle_limits.specs.Groups.{group_at, groups_from, groups_of, IsGroup, IsEarlier, AreGroups, GroupsAreListed}
+use Rattle.axle_limits.specs.Groups.{group_at, groups_from, groups_of, IsGroup, IsEarlier, GroupsAreListed}
 use Rattle.axle_limits.proofs.Lists.{pairs_append}
 
 -- the groups of n first axles, from axle a on

@@ -1,5 +1,5 @@
 -- The computed findings are those of the groups and of the gross weight, in order.
-use Rattle.std.proofs.Common.{◌≡◌, ℕ, zero, suc, ◌+◌, ◌-◌, ◌<◌, ◌≤◌, ◌⊎◌, List, [], ◌∷◌, ◌++◌, length, map, filter, get_or, Bool, true, false, cond, ltb, All, Contains, AllPairs, arith, refl, sym, ap, ◌∙◌, inl, inr, subst, ◌↔◌}
+use Rattle.std.proofs.Common.{◌≡◌, ℕ, zero, suc, ◌-◌, ◌<◌, ◌≤◌, List, [], ◌∷◌, ◌++◌, length, map, filter, get_or, Bool, true, false, cond, ltb, All, Contains, AllPairs, arith, refl, sym, ap, ◌∙◌, inl, inr, subst, ◌↔◌}
 use Rattle.std.proofs.lemmas.Bool.{cases_lt, ltb-true, ltb-false, lt-ltb}
 use Rattle.std.proofs.lemmas.List.{map-append}
 use Rattle.std.proofs.lemmas.List.Elements.{All-contains, All-map, All-filter, filter_passes, filter-append, Contains-append_cases, Contains-append_left, Contains-append_right}
@@ -16,7 +16,7 @@ use Rattle.axle_limits.specs.Limits.{IsGroupLimit, group_limit_of, limit_of}
 use Rattle.axle_limits.specs.Groups.{gross_of, group_at, groups_of, IsGroup, IsEarlier}
 use Rattle.axle_limits.specs.Findings.{IsGroupFinding, IsGrossFinding, ComesBefore, AreFindings, IsLegalByWeight, is_over_limit, finding_of, over_limit, gross_finding, findings_of}
 use Rattle.axle_limits.proofs.Lists.{contains_filter, contains_map, pairs_append, pairs_map}
-use Rattle.axle_limits.proofs.Groups.{groups_all, groups_contain, groups_rise, group_from}
+use Rattle.axle_limits.proofs.Groups.{groups_all, groups_contain, groups_rise}
 use Rattle.axle_limits.proofs.OneLimit.{group_limit_is, group_limit_only}
 
 -- the findings of two lists of groups, one after the other

@@ -4,10 +4,11 @@ use Rattle.std.proofs.lemmas.Bool.{cases_lt}
 use Rattle.axle_train.specs.declared.axle.Axle.{Axle}
 use Rattle.axle_train.specs.Trains.{group_weight, spread}
 use Rattle.bridge_formula.specs.Formula.{formula_limit}
+use Rattle.axle_limits.specs.declared.legal.TheConstants.{SINGLE_SPREAD, TANDEM_SPREAD, TWO_TANDEM_LIMIT}
 use Rattle.axle_limits.specs.declared.worst_group.WorstGroup.{WorstGroup}
 use Rattle.axle_limits.specs.Limits.{limit_of, is_two_tandem}
 use Rattle.axle_limits.proofs.OneLimit.{chosen}
-use Rattle.axle_limits.specs.Groups.{IsGroup, group_at}
+use Rattle.axle_limits.specs.Groups.{group_at}
 use Rattle.axle_limits.specs.Worst.{IsNoWorse, IsWorstSoFar, IsAtLeastAsBad, IsWorseThan}
 
 chosen_some : (a b c : Bool) (f : ℕ) → 0 < f → 0 < (chosen a b c f).limit
@@ -18,7 +19,7 @@ chosen_some false false false f h = h
 
 -- every limit is above 0
 pub limit_some : (axles : List Axle) (i j : ℕ) → 0 < limit_of axles i j
-limit_some axles i j = chosen_some (leb (spread axles i j) 40) (leb (spread axles i j) 96) (ltb (formula_limit (spread axles i j) (j - i + 1)) 68000 && is_two_tandem axles i j) (formula_limit (spread axles i j) (j - i + 1)) (omega arith)
+limit_some axles i j = chosen_some (leb (spread axles i j) SINGLE_SPREAD) (leb (spread axles i j) TANDEM_SPREAD) (ltb (formula_limit (spread axles i j) (j - i + 1)) TWO_TANDEM_LIMIT && is_two_tandem axles i j) (formula_limit (spread axles i j) (j - i + 1)) (omega arith)
 
 -- the same group stays
 stays : (axles : List Axle) (i j : ℕ) (best : WorstGroup) → IsWorstSoFar axles i j best → IsNoWorse axles i j best → IsWorstSoFar axles i (j + 1) best

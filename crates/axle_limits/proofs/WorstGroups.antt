@@ -1,5 +1,5 @@
 -- Some group is the worst, and it is the one that is computed.
-use Rattle.std.proofs.Common.{◌≡◌, ℕ, suc, ◌+◌, ◌*◌, ◌<◌, ◌≤◌, ◌⊎◌, List, [], ◌∷◌, length, find, get_or, Bool, true, false, leb, Option, Some, None, All, Contains, subst, arith, refl, sym, ap, ◌∙◌, inl, inr}
+use Rattle.std.proofs.Common.{◌≡◌, ℕ, suc, ◌*◌, ◌<◌, ◌≤◌, List, [], ◌∷◌, length, find, get_or, Bool, true, false, Option, Some, None, All, Contains, subst, arith, refl, sym, ap, ◌∙◌, inl, inr}
 use Rattle.std.specs.Prelude.{unwrap_or}
 use Rattle.std.specs.List.{list_all}
 use Rattle.std.proofs.lemmas.Bool.{cases_lt, leb-true, le-leb, true≢false}
@@ -9,11 +9,11 @@ use Rattle.axle_train.specs.declared.axle.Axle.{Axle}
 use Rattle.axle_train.specs.Trains.{group_weight}
 use Rattle.axle_limits.specs.declared.worst_group.WorstGroup.{WorstGroup}
 use Rattle.axle_limits.specs.Limits.{limit_of}
-use Rattle.axle_limits.specs.Groups.{group_at, groups_of, IsGroup, IsEarlier}
+use Rattle.axle_limits.specs.Groups.{group_at, groups_of, IsEarlier}
 use Rattle.axle_limits.specs.Worst.{IsWorst, IsBetter, is_no_worse, worst_of, WorstIsThere, WorstIsOne}
 use Rattle.axle_limits.proofs.Cross.{cross_trans}
 use Rattle.axle_limits.proofs.Lists.{IsFirst, found_first, found_none}
-use Rattle.axle_limits.proofs.Groups.{group_is, group_from, groups_all, groups_contain, groups_rise, all_groups, each_group}
+use Rattle.axle_limits.proofs.Groups.{group_is, group_from, groups_all, groups_contain, groups_rise, each_group}
 use Rattle.axle_limits.proofs.SoFar.{limit_some}
 
 -- the second group is no worse than the first

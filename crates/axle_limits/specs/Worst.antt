@@ -1,5 +1,5 @@
 -- The worst group: the one whose weight is the greatest part of its limit.
-use Rattle.std.specs.Prelude.{◌≡◌, ℕ, ◌+◌, ◌*◌, ◌<◌, ◌≤◌, Bool, nat_lt, nat_le, List, length, unwrap_or}
+use Rattle.std.specs.Prelude.{◌≡◌, ℕ, ◌*◌, ◌<◌, ◌≤◌, Bool, nat_lt, nat_le, List, length, unwrap_or}
 use Rattle.std.specs.List.{find, list_all}
 use Rattle.axle_train.specs.declared.axle.Axle.{Axle}
 use Rattle.axle_train.specs.Trains.{group_weight}
@@ -30,6 +30,12 @@ pub record IsWorstSoFar (axles : List Axle) (i j : ℕ) (g : WorstGroup) : Type 
   pub row : (b : ℕ) → i ≤ b → b < j → IsNoWorse axles i b g
   pub first_row : (a b : ℕ) → a < g.i → a ≤ b → b < length axles → IsBetter axles a b g
   pub first_in_row : (b : ℕ) → g.i ≤ b → b < g.j → IsBetter axles g.i b g
+
+-- the numbers of a group are in range: its limit is above 0, and neither number is above 2,000,000 lb
+pub record IsInRange (g : WorstGroup) : Type 0 where
+  pub some : 0 < g.limit
+  pub light : g.weight ≤ 2000000
+  pub small : g.limit ≤ 2000000
 
 -- whatever is no worse than the first group is no worse than the second
 abbrev pub IsAtLeastAsBad : WorstGroup → WorstGroup → Type 0

@@ -17,12 +17,11 @@ use Rattle.span_rating.specs.Judgement.{fit_of}
 use Rattle.hs20_truck.specs.Effects.{effects_of, design_of}
 use Rattle.hs20_truck.proofs.OneEffects.{effects_are_the_peaks, design_is_the_peaks}
 use Rattle.road_graph.specs.declared.segment.Span.{Span}
-use Rattle.road_graph.specs.declared.values.Values.{Values}
 use Rattle.road_graph.specs.Roads.{Roads, IsRoads, no_span, span_at, spans_of}
 use Rattle.road_graph.proofs.Filters.{spans_are}
 use Rattle.restriction_log.specs.States.{InForce, values_at, rating_at}
 use Rattle.clearance_rules.specs.Loads.{LoadParts}
-use Rattle.clearance_rules.specs.Limits.{posted_limit, group_limit, limit_of_fit, span_limit, limit_of_span, first_of_spans, spans_limit, limit_of}
+use Rattle.clearance_rules.specs.Limits.{posted_limit, group_limit, limit_of_fit, span_limit, limit_of_span, first_of_spans, limit_of}
 use Rattle.clearance_rules.specs.Failing.{FailsAt}
 use Rattle.clearance_rules.specs.Laws.{NamedLimitFails}
 use Rattle.clearance_rules.specs.declared.limit.Limit.{Limit}

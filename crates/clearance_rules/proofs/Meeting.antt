@@ -25,7 +25,7 @@ use Rattle.road_graph.specs.Roads.{Roads, IsRoads, no_span, span_at, spans_of}
 use Rattle.road_graph.proofs.Filters.{spans_are}
 use Rattle.restriction_log.specs.States.{InForce, values_at, rating_at}
 use Rattle.clearance_rules.specs.Loads.{LoadParts}
-use Rattle.clearance_rules.specs.Limits.{IsWithinPosted, Carries, Meets, posted_limit, group_limit, span_limit, limit_of_span, first_of_spans, spans_limit, limit_of, limit_of_fit}
+use Rattle.clearance_rules.specs.Limits.{IsWithinPosted, Carries, Meets, posted_limit, group_limit, span_limit, limit_of_span, first_of_spans, limit_of, limit_of_fit}
 use Rattle.clearance_rules.specs.declared.limit.Limit.{Limit}
 use Rattle.clearance_rules.specs.declared.limit.Limit.TheVariants as limit
 use Rattle.axle_limits.proofs.Allowance.{any_is_not_all}

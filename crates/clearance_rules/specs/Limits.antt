@@ -1,5 +1,5 @@
 -- Which limit of a segment fails a load first, in a state of what is posted.
-use Rattle.std.specs.Prelude.{◌≡◌, ℕ, ◌*◌, ◌≤◌, Bool, false, nat_lt, List, [], ◌∷◌, length, slice_get, Option, Some, None, is_none, if◌then◌else◌}
+use Rattle.std.specs.Prelude.{◌≡◌, ℕ, ◌≤◌, Bool, false, nat_lt, List, [], ◌∷◌, slice_get, Option, Some, None, is_none, if◌then◌else◌}
 use Rattle.std.specs.List.{list_any}
 use Rattle.std.specs.Option.{option_or}
 use Rattle.axle_train.specs.declared.axle.Axle.{Axle}

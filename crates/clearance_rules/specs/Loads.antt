@@ -4,7 +4,7 @@ use Rattle.axle_train.specs.declared.axle.Axle.{Axle}
 use Rattle.axle_train.specs.Bounds.{IsTrain}
 use Rattle.axle_limits.specs.declared.legal.TheConstants.{LEGAL_HEIGHT, LEGAL_WIDTH}
 use Rattle.axle_limits.specs.Findings.{IsLegalByWeight, is_legal_by_weight}
-use Rattle.axle_limits.specs.Worst.{IsWorst, worst_of}
+use Rattle.axle_limits.specs.Worst.{IsWorst, IsInRange, worst_of}
 use Rattle.axle_limits.specs.declared.worst_group.WorstGroup.{WorstGroup}
 
 -- height, width and length in inches, and the axles
@@ -50,4 +50,5 @@ pub record IsKept (load : LoadParts) (worst : WorstGroup) (legal : Bool) : Type 
   pub is_train : IsTrain load.train
   pub is_worst : IsWorst load.train worst
   pub worst_is : worst ≡ worst_of load.train
+  pub worst_in_range : IsInRange worst
   pub legal_is : legal ≡ is_legal load

@@ -3,7 +3,7 @@
 ghost use Rattle.std.specs.Prelude.{◌≡◌, ◌&&◌, IfOk, OnOk, OnErr, IsTrue, ◌↔◌, true, false};
 ghost use Rattle.axle_train.specs.Bounds.{IsTrain};
 ghost use Rattle.axle_limits.specs.Findings.{is_legal_by_weight};
-ghost use Rattle.axle_limits.specs.Worst.{IsWorst, worst_of};
+ghost use Rattle.axle_limits.specs.Worst.{IsWorst, IsInRange, worst_of};
 ghost use Rattle.clearance_rules.specs.Loads.{is_cross_section, is_length, is_load, parts_of, is_legal, IsLegal, is_legal_size};
 
 use axle_limits::{GROSS_LIMIT, LEGAL_HEIGHT, LEGAL_WIDTH, WorstGroup, worst};
@@ -97,6 +97,7 @@ impl Load {
     pub fn worst(&self) -> WorstGroup
         ensures value { result ≡ worst_of self.now.train }
         ensures meaning { IsWorst self.now.train result }
+        ensures range { IsInRange result }
     {
         self.worst
     }

@@ -17,6 +17,7 @@ invariant_of-result c = record {
   is_train = c.bounds.ensures;
   is_worst = c.worst-worst.ensures.meaning;
   worst_is = c.worst-worst.ensures.value;
+  worst_in_range = c.worst-worst.ensures.range;
   legal_is = elim c.if-by_weight.branch [
     | then-by_weight w ↦ in_turn c.if-by_weight.result c.is_legal_by_weight-by_weight.result c.is_legal_size-by_size.result (is_legal_by_weight c.args.train) (is_legal_size c.args.height c.args.width)
         c.is_legal_by_weight-by_weight.ensures c.is_legal_size-by_size.ensures w.if-by_weight.true w.result-is
