@@ -3,7 +3,7 @@
 ghost use Rattle.std.specs.Prelude.{◌≡◌, IfOk};
 
 use office_io::NoMemory;
-use std::alloc::Global;
+use std::alloc::{AllocError, Global};
 use std::marker::Model;
 
 /// A list of numbers, as the segments of a route or the nodes that were reached.
@@ -18,6 +18,16 @@ impl Model for Numbers {
     ghost Value = { List ℕ };
 
     ghost view = { λ n. n.list.items };
+}
+
+/// A list in the same allocator, for types that derive `Clone`.
+impl Clone for Numbers {
+    ghost is_clone = { λ numbers copy. copy ≡ numbers };
+
+    fn clone(&self) -> Result<Numbers, AllocError> {
+        let list = self.list.clone()?;
+        Ok(Numbers { list })
+    }
 }
 
 impl Numbers {
