@@ -1,5 +1,6 @@
 -- What holds of each case of an answer to an application holds of the answer.
-use Rattle.std.proofs.Common.{◌≡◌, ◌∷◌, [], List, ℕ, ◌+◌, ◌⊎◌, inl, inr, true, false, ap, sym, refl, ◌∙◌, Option, Some, None, length, not, nat_eq, if◌then◌else◌, arith}
+use Rattle.std.proofs.Common.{◌≡◌, ◌∷◌, [], List, ℕ, ◌+◌, ◌⊎◌, inl, inr, true, false, ap, sym, subst, refl, ◌∙◌, Option, Some, None, length, not, nat_eq, if◌then◌else◌, is_none, unwrap_or, arith}
+use Rattle.road_graph.specs.Roads.{IsRoads}
 use Rattle.restriction_log.specs.States.{InForce}
 use Rattle.restriction_log.specs.Changes.{takes}
 use Rattle.clearance_rules.specs.declared.limit.Limit.{Limit}
@@ -10,15 +11,17 @@ use Rattle.trip_analysis.specs.declared.application.Application.{Application}
 use Rattle.trip_analysis.specs.declared.finding.Failing.{Failing}
 use Rattle.trip_analysis.specs.declared.finding.What.{What}
 use Rattle.trip_analysis.specs.Bases.{BaseLists}
-use Rattle.trip_analysis.specs.Findings.{limit_for, first_on, first_meeting, leaving}
+use Rattle.trip_analysis.specs.Applications.{Sound}
+use Rattle.trip_analysis.specs.Findings.{limit_for, first_on, first_meeting, leaving, HoldsIn}
 use Rattle.office_core.specs.declared.entry.Call.{Call}
 use Rattle.office_core.specs.declared.entry.Reply.{Reply}
-use Rattle.office_core.specs.Replies.{route_reply, fails_reply, refused_or, cut_reply, what_reply, is_late, is_free, apply_reply, day_reply, surrender_reply, shown, show_reply, is_full}
+use Rattle.office_core.specs.Replies.{route_reply, fails_reply, refused_or, cut_reply, what_reply, is_late, is_free, early_reply, apply_reply, day_reply, surrender_reply, shown, show_reply, is_full}
 use Rattle.office_core.specs.Machine.{Machine, version_of, state_in, reply_in, posted_reply, IsAnswer}
 use Rattle.office_core.specs.declared.entry.Call.TheVariants as call
 use Rattle.office_core.specs.declared.entry.Reply.TheVariants as reply
 use Rattle.office_core.specs.declared.entry.Cause.TheVariants as cause
 use Rattle.trip_analysis.specs.declared.finding.What.TheVariants as what
+use Rattle.trip_analysis.proofs.Found.{found_holds}
 use Rattle.office_core.proofs.Lists.{pick}
 
 module _ (base : BaseLists) (state : InForce) (v : ℕ) (day : List ℕ) (number : ℕ) (a : Application) (w : What) where
@@ -65,10 +68,17 @@ module _ (base : BaseLists) (state : InForce) (v : ℕ) (day : List ℕ) (number
 
   -- the answer, where each case is known if the trip is neither late nor free
   pub apply_found : (P : Reply → Type 0) → (is_late day a ≡ true → P (reply.Late day)) → (is_free base a ≡ true → P reply.NotNeeded) → (is_late day a ≡ false → is_free base a ≡ false → Cases P) → P (apply_reply base state v day number a w)
-  apply_found P late free c = pick P (is_late day a) (reply.Late day) _ late (λ early. pick P (is_free base a) reply.NotNeeded _ free (λ needed. found_case P (c early needed)))
+  apply_found P late free c =
+      let Holds : Option Reply → Type 0 = λ o. P (unwrap_or o (what_reply base state v number a.truck w)) in
+      pick Holds (is_late day a) (Some (reply.Late day)) _ late
+      (λ early. pick Holds (is_free base a) (Some reply.NotNeeded) None free (λ needed. found_case P (c early needed)))
 
   pub apply_cases : (P : Reply → Type 0) → P (reply.Late day) → P reply.NotNeeded → Cases P → P (apply_reply base state v day number a w)
   apply_cases P late free c = apply_found P (λ _. late) (λ _. free) (λ _ _. c)
+
+-- no answer is known early where the trip is neither late nor free
+pub none_early : (base : BaseLists) (day : List ℕ) (a : Application) → is_late day a ≡ false → is_free base a ≡ false → early_reply base day a ≡ None
+none_early base day a early needed = rw (early, needed) refl
 
 abbrev NotFull : Reply → Type 0
 NotFull r = is_full r ≡ false

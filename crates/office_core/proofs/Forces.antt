@@ -11,9 +11,10 @@ use Rattle.trip_analysis.specs.declared.application.Application.{Application}
 use Rattle.trip_analysis.specs.Bases.{BaseLists}
 use Rattle.office_core.specs.declared.entry.Call.{Call}
 use Rattle.office_core.specs.declared.entry.Reply.{Reply}
-use Rattle.office_core.specs.Recalls.{InForceMeet, fails, is_recalled, recalled_if}
+use Rattle.office_core.specs.declared.entry.Entry.{Entry}
+use Rattle.office_core.specs.Recalls.{InForceMeet, MeetsIfInForce, is_recalled, recalled_if}
 use Rattle.office_core.specs.Replies.{day_reply}
-use Rattle.office_core.specs.Machine.{Machine, version_of, state_in, reply_in, IsAnswer, with_permit, with_posting, with_day, with_surrender, after}
+use Rattle.office_core.specs.Machine.{Machine, opened, version_of, state_in, reply_in, IsAnswer, with_permit, with_posting, with_day, with_surrender, after, after_entry, after_all, IsLegalFrom, IsLegal, machine_of}
 use Rattle.permit_book.specs.declared.permit.Status.TheVariants as status
 use Rattle.permit_book.specs.declared.permit.Mark.TheVariants as mark
 use Rattle.office_core.specs.declared.entry.Call.TheVariants as call
@@ -26,20 +27,17 @@ use Rattle.office_core.proofs.Replies.{IssuedMeets, apply_meets, none_fails}
 abbrev pub MeetNow : BaseLists → Machine → Type 0
 MeetNow base m = InForceMeet base (state_in base m) m.day m.permits
 
-abbrev IsFine : BaseLists → InForce → List ℕ → Permit → Type 0
-IsFine base state day p = in_force day p ≡ true → fails base state p ≡ false
-
 issue_meets : (base : BaseLists) (m : Machine) (caller : ℕ) (a : Application) (seen : ℕ) (r : Reply) → MeetNow base m → IssuedMeets base (state_in base m) a.truck r → MeetNow base (with_permit m caller a seen r)
-issue_meets base m caller a seen (reply.Issued number v route) had e = All-append (IsFine base (state_in base m) m.day) m.permits _ had
-    (All-cons (IsFine base (state_in base m) m.day) _ [] (λ _. none_fails base (state_in base m) a.truck route e) (All-nil (IsFine base (state_in base m) m.day)))
+issue_meets base m caller a seen (reply.Issued number v route) had e = All-append (MeetsIfInForce base (state_in base m) m.day) m.permits _ had
+    (All-cons (MeetsIfInForce base (state_in base m) m.day) _ [] (λ _. none_fails base (state_in base m) a.truck route e) (All-nil (MeetsIfInForce base (state_in base m) m.day)))
 issue_meets base m caller a seen _ had e = had
 
-recalled_fine : (base : BaseLists) (state : InForce) (day : List ℕ) (v : ℕ) (p : Permit) → IsFine base state day (recalled_if base state day v p)
-recalled_fine base state day v p = pick (IsFine base state day) (is_recalled base state day p) (record p { mark = mark.Recalled v }) p (λ _ e. absurd (grind (arith, e))) (λ off on. grind (arith, off, on))
+recalled_fine : (base : BaseLists) (state : InForce) (day : List ℕ) (v : ℕ) (p : Permit) → MeetsIfInForce base state day (recalled_if base state day v p)
+recalled_fine base state day v p = pick (MeetsIfInForce base state day) (is_recalled base state day p) (record p { mark = mark.Recalled v }) p (λ _ e. absurd (grind (arith, e))) (λ off on. grind (arith, off, on))
 
-post_meets : (base : BaseLists) (m : Machine) (change : Change) (r : Reply) → MeetNow base m → MeetNow base (with_posting base m change r)
+pub post_meets : (base : BaseLists) (m : Machine) (change : Change) (r : Reply) → MeetNow base m → MeetNow base (with_posting base m change r)
 post_meets base m change (reply.Posted v recalled) had = let state = state_of base.roads (m.postings ++ change ∷ []) in
-    All-map (IsFine base (state_in base m) m.day) (IsFine base state m.day) (recalled_if base state m.day v) (λ p _. recalled_fine base state m.day v p) m.permits had
+    All-map (MeetsIfInForce base (state_in base m) m.day) (MeetsIfInForce base state m.day) (recalled_if base state m.day v) (λ p _. recalled_fine base state m.day v p) m.permits had
 post_meets base m change _ had = had
 
 -- a live permit is in force where its last day is not before the day
@@ -65,12 +63,12 @@ Advances kept _ = Unit {0}
 advances : (kept day : List ℕ) → Advances kept (day_reply kept day)
 advances kept day = pick (Advances kept) (is_before day kept) (reply.DayBack kept) (reply.DayIs day) (λ _. tt) (λ e. e)
 
-day_meets : (base : BaseLists) (m : Machine) (r : Reply) → MeetNow base m → Advances m.day r → MeetNow base (with_day m r)
-day_meets base m (reply.DayIs day) had h = All-weaker (IsFine base (state_in base m) m.day) (IsFine base (state_in base m) day) (λ p f on. f (earlier p.mark p.last m.day day h on)) m.permits had
+pub day_meets : (base : BaseLists) (m : Machine) (r : Reply) → MeetNow base m → Advances m.day r → MeetNow base (with_day m r)
+day_meets base m (reply.DayIs day) had h = All-weaker (MeetsIfInForce base (state_in base m) m.day) (MeetsIfInForce base (state_in base m) day) (λ p f on. f (earlier p.mark p.last m.day day h on)) m.permits had
 day_meets base m _ had h = had
 
-surrender_meets : (base : BaseLists) (m : Machine) (number : ℕ) (r : Reply) → MeetNow base m → MeetNow base (with_surrender m number r)
-surrender_meets base m number reply.Surrendered had = All-set (IsFine base (state_in base m) m.day) m.permits _ _ (λ e. absurd (grind (arith, e))) had
+pub surrender_meets : (base : BaseLists) (m : Machine) (number : ℕ) (r : Reply) → MeetNow base m → MeetNow base (with_surrender m number r)
+surrender_meets base m number reply.Surrendered had = All-set (MeetsIfInForce base (state_in base m) m.day) m.permits _ _ (λ e. absurd (grind (arith, e))) had
 surrender_meets base m number _ had = had
 
 -- what holds of each given answer and of want of memory holds of each answer

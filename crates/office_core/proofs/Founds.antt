@@ -1,5 +1,5 @@
 -- What is known of findings, from below.
-use Rattle.std.proofs.Common.{◌≡◌, ℕ, List, [], ◌∷◌, ◌++◌, true, length, take, ap, sym, subst, ◌∙◌, arith}
+use Rattle.std.proofs.Common.{◌≡◌, ℕ, List, [], ◌∷◌, ◌++◌, true, length, take, ap, sym, subst, ◌∙◌, arith, Option, None}
 use Rattle.std.proofs.lemmas.List.{take_all}
 use Rattle.road_graph.specs.Roads.{Roads, IsRoads}
 use Rattle.restriction_log.specs.declared.change.Change.{Change}
@@ -11,7 +11,7 @@ use Rattle.trip_analysis.specs.declared.finding.Proposal.{Proposal}
 use Rattle.trip_analysis.specs.Bases.{BaseLists}
 use Rattle.trip_analysis.specs.Applications.{Sound}
 use Rattle.trip_analysis.specs.Findings.{IsFinding, HoldsIn}
-use Rattle.office_core.specs.Machine.{Machine, version_of, state_in, IsFound}
+use Rattle.office_core.specs.Machine.{Machine, version_of, state_at, state_in, IsFound}
 use Rattle.restriction_log.proofs.Standing.{named_by_count}
 use Rattle.restriction_log.proofs.Elsewhere.{state-posted}
 use Rattle.restriction_log.proofs.Standing.{state_is_of, stays_of}
@@ -46,3 +46,11 @@ found_now base m a n state w now same sound is = record {
   seen = omega (arith, now);
   found = subst (λ (s : InForce). IsFinding base s a w) (same ∙ ap (state_of base.roads) (sym (take_all n m.postings (omega (arith, now))))) is;
 }
+
+-- at the current version the state seen is the state
+pub seen_now : (base : BaseLists) (m : Machine) (seen : ℕ) → seen ≡ version_of m → state_at base m seen ≡ state_in base m
+seen_now base m seen now = ap (state_of base.roads) (take_all seen m.postings (omega (arith, now)))
+
+-- so what was none then is none now
+pub still_none : {A : Type 0} (f : InForce → Option A) (base : BaseLists) (m : Machine) (seen : ℕ) → seen ≡ version_of m → f (state_at base m seen) ≡ None → None ≡ f (state_in base m)
+still_none f base m seen now none = sym none ∙ ap f (seen_now base m seen now)

@@ -1,5 +1,5 @@
 -- What every legal history leaves: permits numbered by their places, with trucks and segments that exist, in force only where they meet.
-use Rattle.std.proofs.Common.{◌≡◌, ◌∷◌, ◌++◌, [], List, ℕ, zero, suc, ◌+◌, ◌-◌, ◌<◌, ◌≤◌, ◌⊎◌, inl, inr, true, false, map, set, get_or, length, sym, subst, refl, ◌∙◌, arith}
+use Rattle.std.proofs.Common.{◌≡◌, ◌∷◌, ◌++◌, [], List, ℕ, zero, suc, ◌+◌, ◌-◌, ◌<◌, ◌≤◌, ◌⊎◌, inl, inr, true, false, map, set, get_or, length, sym, subst, refl, ◌∙◌, arith, None}
 use Rattle.std.specs.List.{All}
 use Rattle.std.proofs.lemmas.List.{set_past}
 use Rattle.std.proofs.lemmas.Bool.{cases_lt}
@@ -8,6 +8,7 @@ use Rattle.road_graph.specs.Roads.{IsRoads}
 use Rattle.restriction_log.specs.declared.change.Change.{Change}
 use Rattle.restriction_log.specs.States.{InForce, state_of}
 use Rattle.restriction_log.specs.Changes.{takes, AreTaken}
+use Rattle.permit_days.specs.Days.{is_before}
 use Rattle.permit_book.specs.declared.permit.Permit.{Permit}
 use Rattle.permit_book.specs.declared.permit.Mark.{Mark}
 use Rattle.permit_book.specs.Permits.{no_permit, in_force, AreNumbered}
@@ -15,32 +16,33 @@ use Rattle.trip_analysis.specs.declared.application.Application.{Application}
 use Rattle.trip_analysis.specs.declared.finding.What.{What}
 use Rattle.trip_analysis.specs.Bases.{BaseLists}
 use Rattle.trip_analysis.specs.Applications.{Sound}
-use Rattle.trip_analysis.specs.Findings.{InRange}
+use Rattle.trip_analysis.specs.Findings.{InRange, first_on}
 use Rattle.office_core.specs.declared.entry.Call.{Call}
 use Rattle.office_core.specs.declared.entry.Reply.{Reply}
 use Rattle.office_core.specs.declared.entry.Entry.{Entry}
-use Rattle.office_core.specs.Recalls.{fails, is_recalled, recalled_if, IsRanged}
-use Rattle.office_core.specs.Replies.{is_late, is_free}
+use Rattle.office_core.specs.Recalls.{MeetsIfInForce, is_recalled, recalled_if, IsRanged}
+use Rattle.office_core.specs.Replies.{early_reply}
 use Rattle.office_core.specs.Machine.{Machine, opened, version_of, state_in, state_at, reply_in, MayAsk, IsAnswer, with_permit, with_posting, with_day, with_surrender, after, Step, after_entry, after_all, IsLegalFrom, IsLegal, machine_of, IsGood}
 use Rattle.permit_book.specs.declared.permit.Mark.TheVariants as mark
 use Rattle.office_core.specs.declared.entry.Call.TheVariants as call
 use Rattle.office_core.specs.declared.entry.Reply.TheVariants as reply
 use Rattle.trip_analysis.proofs.Found.{found_in_range}
-use Rattle.office_core.proofs.Cases.{apply_found}
+use Rattle.office_core.proofs.Cases.{apply_found, none_early}
 use Rattle.office_core.proofs.Lists.{pick, All-map}
-use Rattle.office_core.proofs.Forces.{answer_meets}
+use Rattle.office_core.proofs.Forces.{answer_meets, day_meets, post_meets, surrender_meets}
+use Rattle.office_core.proofs.Replies.{none_fails}
 
 -- of a reply that issues a permit, its number and its route
 abbrev IssuedAs : BaseLists → ℕ → Reply → Type 0
 IssuedAs base number (reply.Issued n version route) = (n ≡ number) × All (λ s. s < length base.roads.segments) route
 IssuedAs base number _ = Unit {0}
 
-issued_as : (base : BaseLists) (m : Machine) (a : Application) (w : What) → (is_late m.day a ≡ false → is_free base a ≡ false → InRange base w) → IssuedAs base (length m.permits + 1) (reply_in base m a w)
+issued_as : (base : BaseLists) (m : Machine) (a : Application) (w : What) → (early_reply base m.day a ≡ None → InRange base w) → IssuedAs base (length m.permits + 1) (reply_in base m a w)
 issued_as base m a w h = apply_found base (state_in base m) (version_of m) m.day (length m.permits + 1) a w (IssuedAs base (length m.permits + 1)) (λ _. tt) (λ _. tt) (λ early needed. record {
   not_needed = λ _. tt;
   no_road = λ _ _ _. tt;
   now_fails = λ _ _ _ _. tt;
-  issued = λ route e meets. (refl, subst (InRange base) e (h early needed));
+  issued = λ route e meets. (refl, subst (InRange base) e (h (none_early base m.day a early needed)));
   refused = λ _ _ _ _. tt;
   now_meets = λ _ _ _. tt;
   cut_refused = λ _ _ _ _ _ _ _ _. tt;
@@ -101,13 +103,13 @@ submit_as base m caller number c r s is (inl e) = subst (IssuedAs base number) (
 submit_as base m caller number c r s is (inr e) = subst (IssuedAs base number) (sym e.0) tt
 
 held_as : (base : BaseLists) (m : Machine) (caller : ℕ) (a : Application) (r : Reply) → IsRoads base.roads → Sound base a → IsAnswer base m caller (call.Held a) r → IssuedAs base (length m.permits + 1) r
-held_as base m caller a r roads sound (inl g) = subst (IssuedAs base (length m.permits + 1)) (sym g.2) (issued_as base m a g.0 (λ early needed. found_in_range base (state_in base m) a g.0 roads sound (g.1 early needed)))
+held_as base m caller a r roads sound (inl g) = subst (IssuedAs base (length m.permits + 1)) (sym g.2) (issued_as base m a g.0 (λ early. found_in_range base (state_in base m) a g.0 roads sound (g.1 early)))
 held_as base m caller a r roads sound (inr e) = subst (IssuedAs base (length m.permits + 1)) (sym e.0) tt
 
 kept_after : (base : BaseLists) (m : Machine) (caller : ℕ) (c : Call) (r : Reply) → IsRoads base.roads → MayAsk base m c → IsAnswer base m caller c r → Kept base m → Kept base (after base m caller c r)
 kept_after base m caller call.Snapshot r roads ask answer had = had
 kept_after base m caller (call.Submit a p) r roads ask answer had = issue_kept base m caller a p.seen r ask.sound.truck
-    (submit_as base m caller (length m.permits + 1) (call.Submit a p) r (reply_in base m a p.what) (issued_as base m a p.what (λ _ _. found_in_range base (state_at base m p.seen) a p.what roads ask.sound ask.found)) answer) had
+    (submit_as base m caller (length m.permits + 1) (call.Submit a p) r (reply_in base m a p.what) (issued_as base m a p.what (λ _. found_in_range base (state_at base m p.seen) a p.what roads ask.sound ask.found)) answer) had
 kept_after base m caller (call.Held a) r roads ask answer had = issue_kept base m caller a (version_of m) r ask.truck (held_as base m caller a r roads ask answer) had
 kept_after base m caller (call.Post change) r roads ask answer had = post_kept base m change r had
 kept_after base m caller (call.Day day) r roads ask answer had = day_kept base m r had
@@ -144,6 +146,46 @@ taken_after base m caller (call.Day day) r answer had = day_taken base m r had
 taken_after base m caller (call.Surrender number) r answer had = surrender_taken base m number r had
 taken_after base m caller (call.Show number) r answer had = had
 
+-- an office begins so, and each change of what it keeps leaves it so
+pub good_opened : (base : BaseLists) (day : List ℕ) → IsGood base (opened day)
+good_opened base day = record {
+  taken = All-nil (λ c. takes base.roads c ≡ true);
+  numbered = tt;
+  ranged = All-nil (IsRanged base);
+  meets = All-nil (MeetsIfInForce base (state_in base (opened day)) day);
+}
+
+pub good_entered : (base : BaseLists) (m : Machine) (p : Permit) → p.number ≡ length m.permits + 1 → IsRanged base p → first_on base (state_in base m) p.truck p.route ≡ None → IsGood base m → IsGood base (record m { permits = m.permits ++ p ∷ [] })
+good_entered base m p number ranged meets good = record {
+  taken = good.taken;
+  numbered = numbered-append 0 m.permits p good.numbered (omega (arith, number));
+  ranged = All-append (IsRanged base) m.permits (p ∷ []) good.ranged (All-cons (IsRanged base) p [] ranged (All-nil (IsRanged base)));
+  meets = All-append (MeetsIfInForce base (state_in base m) m.day) m.permits (p ∷ []) good.meets
+      (All-cons (MeetsIfInForce base (state_in base m) m.day) p [] (λ _. none_fails base (state_in base m) p.truck p.route meets) (All-nil (MeetsIfInForce base (state_in base m) m.day)));
+}
+
+pub good_posted : (base : BaseLists) (m : Machine) (change : Change) (v : ℕ) (recalled : List ℕ) → takes base.roads change ≡ true → IsGood base m → IsGood base (with_posting base m change (reply.Posted v recalled))
+good_posted base m change v recalled taken good =
+    let r : Reply = reply.Posted v recalled in
+    let kept = post_kept base m change r (good.numbered, good.ranged) in record {
+      taken = post_taken base m change r taken good.taken;
+      numbered = kept.0;
+      ranged = kept.1;
+      meets = post_meets base m change r good.meets;
+    }
+
+pub good_day : (base : BaseLists) (m : Machine) (day : List ℕ) → is_before day m.day ≡ false → IsGood base m → IsGood base (with_day m (reply.DayIs day))
+good_day base m day later good = record { taken = good.taken; numbered = good.numbered; ranged = good.ranged; meets = day_meets base m (reply.DayIs day) good.meets later }
+
+pub good_surrendered : (base : BaseLists) (m : Machine) (number : ℕ) → IsGood base m → IsGood base (with_surrender m number reply.Surrendered)
+good_surrendered base m number good =
+    let kept = surrender_kept base m number reply.Surrendered (good.numbered, good.ranged) in record {
+      taken = good.taken;
+      numbered = kept.0;
+      ranged = kept.1;
+      meets = surrender_meets base m number reply.Surrendered good.meets;
+    }
+
 pub good_after : (base : BaseLists) (m : Machine) (e : Entry) → IsRoads base.roads → Step base m e (after_entry base m e) → IsGood base m → IsGood base (after_entry base m e)
 good_after base m e roads step good = let kept = kept_after base m e.caller e.call e.reply roads step.asked step.answer (good.numbered, good.ranged) in record {
   taken = taken_after base m e.caller e.call e.reply step.answer good.taken;
@@ -157,9 +199,4 @@ good_all base m [] roads legal good = good
 good_all base m (e ∷ es) roads legal good = good_all base (after_entry base m e) es roads legal.1 (good_after base m e roads legal.0 good)
 
 pub good_of : (base : BaseLists) (day : List ℕ) (es : List Entry) → IsRoads base.roads → IsLegal base day es → IsGood base (machine_of base day es)
-good_of base day es roads legal = good_all base (opened day) es roads legal (record {
-  taken = All-nil (λ c. takes base.roads c ≡ true);
-  numbered = tt;
-  ranged = All-nil (IsRanged base);
-  meets = All-nil (λ p. in_force day p ≡ true → fails base (state_in base (opened day)) p ≡ false);
-})
+good_of base day es roads legal = good_all base (opened day) es roads legal (good_opened base day)

@@ -10,7 +10,7 @@ use Rattle.office_core.specs.declared.entry.Call.{Call}
 use Rattle.office_core.specs.declared.entry.Reply.{Reply}
 use Rattle.office_core.specs.declared.entry.Entry.{Entry}
 use Rattle.office_core.specs.Machine.{Machine, opened, IsFound, MayAsk, with_posting, with_day, with_surrender, after, after_entry, after_all, machine_of}
-use Rattle.office_core.specs.Offices.{Opened, Stepped, entry, machine_in}
+use Rattle.office_core.specs.Offices.{Opened, HasPlace, IsFull, grown, machine_in}
 use Rattle.office_core.specs.declared.entry.Call.TheVariants as call
 use Rattle.office_core.specs.declared.entry.Reply.TheVariants as reply
 use Rattle.office_core.proofs.Prefixes.{after_all-append}
@@ -66,17 +66,17 @@ asked_later base day es more (call.Surrender number) ask = tt
 asked_later base day es more (call.Show number) ask = tt
 
 -- a step leaves what the office is about
-pub base_stays : (o : Opened) (caller : ℕ) (c : Call) (r : Reply) (next : Opened) → Stepped o caller c r next → next.base ≡ o.base
-base_stays o caller c r next s = by (cases_lt (length o.history) o.most)
+pub base_stays : (o next : Opened) (e : Entry) → (IsFull o → next ≡ o) → (HasPlace o → next ≡ grown o e) → next.base ≡ o.base
+base_stays o next e unchanged grown = by (cases_lt (length o.history) o.most)
   where
-    by : (length o.history < o.most) ⊎ (o.most ≤ length o.history) → next.base ≡ o.base
-    by (inl room) = ap (λ (n : Opened). n.base) (s.grown room)
-    by (inr all) = ap (λ (n : Opened). n.base) (s.full all).1
+    by : HasPlace o ⊎ IsFull o → next.base ≡ o.base
+    by (inl place) = ap (λ (n : Opened). n.base) (grown place)
+    by (inr full) = ap (λ (n : Opened). n.base) (unchanged full)
 
 -- what may be asked may be asked after a step
-pub asked_after : (o : Opened) (caller : ℕ) (c : Call) (r : Reply) (next : Opened) → Stepped o caller c r next → (d : Call) → MayAsk o.base (machine_in o) d → MayAsk next.base (machine_in next) d
-asked_after o caller c r next s d ask = by (cases_lt (length o.history) o.most)
+pub asked_after : (o next : Opened) (e : Entry) → (IsFull o → next ≡ o) → (HasPlace o → next ≡ grown o e) → (c : Call) → MayAsk o.base (machine_in o) c → MayAsk next.base (machine_in next) c
+asked_after o next e unchanged grown c ask = by (cases_lt (length o.history) o.most)
   where
-    by : (length o.history < o.most) ⊎ (o.most ≤ length o.history) → MayAsk next.base (machine_in next) d
-    by (inl room) = subst (λ (n : Opened). MayAsk n.base (machine_in n) d) (sym (s.grown room)) (asked_later o.base o.opening o.history (entry caller c r ∷ []) d ask)
-    by (inr all) = subst (λ (n : Opened). MayAsk n.base (machine_in n) d) (sym (s.full all).1) ask
+    by : HasPlace o ⊎ IsFull o → MayAsk next.base (machine_in next) c
+    by (inl place) = subst (λ (n : Opened). MayAsk n.base (machine_in n) c) (sym (grown place)) (asked_later o.base o.opening o.history (e ∷ []) c ask)
+    by (inr full) = subst (λ (n : Opened). MayAsk n.base (machine_in n) c) (sym (unchanged full)) ask

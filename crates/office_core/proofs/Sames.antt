@@ -1,12 +1,12 @@
 -- An answer other than want of memory is determined.
-use Rattle.std.proofs.Common.{◌≡◌, ◌≢◌, List, ℕ, ◌⊎◌, inl, inr, Bool, cond, true, false, ap, sym, refl, ◌∙◌}
+use Rattle.std.proofs.Common.{◌≡◌, ◌≢◌, List, ℕ, ◌⊎◌, inl, inr, ap, sym, refl, ◌∙◌, Option, Some, None, unwrap_or}
 use Rattle.restriction_log.specs.States.{InForce}
 use Rattle.trip_analysis.specs.declared.application.Application.{Application}
 use Rattle.trip_analysis.specs.declared.finding.What.{What}
 use Rattle.trip_analysis.specs.Bases.{BaseLists}
 use Rattle.office_core.specs.declared.entry.Call.{Call}
 use Rattle.office_core.specs.declared.entry.Reply.{Reply}
-use Rattle.office_core.specs.Replies.{what_reply, is_late, is_free, apply_reply, day_reply, surrender_reply, show_reply}
+use Rattle.office_core.specs.Replies.{what_reply, early_reply, apply_reply, day_reply, surrender_reply, show_reply}
 use Rattle.office_core.specs.Machine.{Machine, version_of, state_in, reply_in, posted_reply, IsHeld, IsAnswer}
 use Rattle.office_core.specs.declared.entry.Call.TheVariants as call
 use Rattle.office_core.specs.declared.entry.Reply.TheVariants as reply
@@ -17,12 +17,12 @@ one x r s (inl e) (inl f) p q = e ∙ sym f
 one x r s (inl e) (inr f) p q = absurd (q f.0)
 one x r s (inr e) f p q = absurd (p e.0)
 
-choice : {A : Type 0} (b : Bool) (x y z : A) → (b ≡ false → y ≡ z) → cond b x y ≡ cond b x z
-choice true x y z h = refl
-choice false x y z h = h refl
-
 held_one : (base : BaseLists) (state : InForce) (v : ℕ) (day : List ℕ) (number : ℕ) (a : Application) (w u : What) → IsHeld base state day a w → IsHeld base state day a u → apply_reply base state v day number a w ≡ apply_reply base state v day number a u
-held_one base state v day number a w u f g = choice (is_late day a) (reply.Late day) _ _ (λ early. choice (is_free base a) reply.NotNeeded _ _ (λ needed. ap (what_reply base state v number a.truck) (one_finding base state a w u (f early needed) (g early needed))))
+held_one base state v day number a w u f g = by (early_reply base day a) refl
+  where
+    by : (o : Option Reply) → early_reply base day a ≡ o → unwrap_or o (what_reply base state v number a.truck w) ≡ unwrap_or o (what_reply base state v number a.truck u)
+    by (Some r) e = refl
+    by None e = ap (what_reply base state v number a.truck) (one_finding base state a w u (f e) (g e))
 
 held : (base : BaseLists) (m : Machine) (caller : ℕ) (a : Application) (r s : Reply) → IsAnswer base m caller (call.Held a) r → IsAnswer base m caller (call.Held a) s → r ≢ reply.NoMemory → s ≢ reply.NoMemory → r ≡ s
 held base m caller a r s (inl g) (inl h) p q = g.2 ∙ (held_one base (state_in base m) (version_of m) m.day _ a g.0 h.0 g.1 h.1 ∙ sym h.2)

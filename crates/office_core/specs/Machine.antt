@@ -1,11 +1,11 @@
 -- The office as a machine: each entry of a history is a step, from what the entries before it leave.
-use Rattle.std.specs.Prelude.{◌≡◌, ℕ, ◌+◌, ◌≤◌, ◌⊎◌, Bool, true, false, IsTrue, List, [], ◌∷◌, ◌++◌, length, filter, take, ◌&&◌, not, if◌then◌else◌, ◌==◌, All}
+use Rattle.std.specs.Prelude.{◌≡◌, ℕ, ◌+◌, ◌<◌, ◌≤◌, ◌⊎◌, Bool, true, false, IsTrue, List, [], ◌∷◌, ◌++◌, length, filter, take, if◌then◌else◌, ◌==◌, All, None, is_none}
 use Rattle.restriction_log.specs.declared.change.Change.{Change}
 use Rattle.restriction_log.specs.Changes.{takes, AreTaken}
 use Rattle.restriction_log.specs.States.{InForce, state_of}
 use Rattle.permit_book.specs.declared.permit.Permit.{Permit}
 use Rattle.permit_book.specs.declared.permit.Mark.TheVariants as mark
-use Rattle.permit_book.specs.Permits.{new_permit, AreNumbered, in_force, marked}
+use Rattle.permit_book.specs.Permits.{new_permit, AreNumbered, marked}
 use Rattle.trip_analysis.specs.declared.application.Application.{Application}
 use Rattle.trip_analysis.specs.declared.finding.Proposal.{Proposal}
 use Rattle.trip_analysis.specs.declared.finding.What.{What}
@@ -17,8 +17,8 @@ use Rattle.office_core.specs.declared.entry.Call.TheVariants as call
 use Rattle.office_core.specs.declared.entry.Reply.{Reply}
 use Rattle.office_core.specs.declared.entry.Reply.TheVariants as reply
 use Rattle.office_core.specs.declared.entry.Entry.{Entry}
-use Rattle.office_core.specs.Recalls.{IsRanged, fails, recalled_by, recalled_now}
-use Rattle.office_core.specs.Replies.{apply_reply, day_reply, is_free, is_issue, is_late, show_reply, surrender_reply}
+use Rattle.office_core.specs.Recalls.{InForceMeet, IsRanged, recalled_by, recalled_now}
+use Rattle.office_core.specs.Replies.{apply_reply, day_reply, early_reply, is_issue, show_reply, surrender_reply}
 
 -- the postings so far, the permits so far, and the day
 pub record Machine : Type 0 where
@@ -49,11 +49,18 @@ state_at base m seen = state_of base.roads (take seen m.postings)
 abbrev pub reply_in : BaseLists → Machine → Application → What → Reply
 reply_in base m a w = apply_reply base (state_in base m) (version_of m) m.day (length m.permits + 1) a w
 
--- the answer to a posting: the next number, and the permits in force that fail when it is posted
+-- what is in force once a change is posted, and the permits in force that then fail
+abbrev pub state_with : BaseLists → Machine → Change → InForce
+state_with base m change = state_of base.roads (m.postings ++ change ∷ [])
+
+abbrev pub recalled_with : BaseLists → Machine → Change → List ℕ
+recalled_with base m change = recalled_by base (state_with base m change) m.day m.permits
+
+-- the answer to a posting: the next number, and the permits that it recalls
 abbrev pub posted_reply : BaseLists → Machine → Change → Reply
 posted_reply base m change =
     if takes base.roads change
-    then reply.Posted (version_of m + 1) (recalled_by base (state_of base.roads (m.postings ++ change ∷ [])) m.day m.permits)
+    then reply.Posted (version_of m + 1) (recalled_with base m change)
     else reply.OutOfRange
 
 -- the proposal is what is found for the application at the version that it names, and that version was reached
@@ -72,14 +79,13 @@ MayAsk base m _ = Unit {0}
 -- something itself
 abbrev pub may_lack : BaseLists → Machine → Call → Bool
 may_lack base m (call.Submit a p) = is_issue (reply_in base m a p.what)
-may_lack base m (call.Held a) = not (is_late m.day a) && not (is_free base a)
+may_lack base m (call.Held a) = is_none (early_reply base m.day a)
 may_lack base m (call.Post change) = takes base.roads change
 may_lack base m _ = false
 
--- what the office finds itself. Where the trip is late or the truck is legal the answer is known before, and nothing is
--- looked for
+-- what the office finds itself. Where the answer is known before, nothing is looked for
 abbrev pub IsHeld : BaseLists → InForce → List ℕ → Application → What → Type 0
-IsHeld base state day a w = is_late day a ≡ false → is_free base a ≡ false → IsFinding base state a w
+IsHeld base state day a w = early_reply base day a ≡ None → IsFinding base state a w
 
 -- the answer where memory suffices
 abbrev pub IsGiven : BaseLists → Machine → ℕ → Call → Reply → Type 0
@@ -94,6 +100,11 @@ IsGiven base m caller (call.Show number) r = r ≡ show_reply m.permits m.day nu
 abbrev pub IsAnswer : BaseLists → Machine → ℕ → Call → Reply → Type 0
 IsAnswer base m caller c r = IsGiven base m caller c r ⊎ ((r ≡ reply.NoMemory) × IsTrue (may_lack base m c))
 
+-- there is a number left for a posting, and one for a permit
+pub record HasRoom (m : Machine) : Type 0 where
+  pub postings : length m.postings < 1000000
+  pub permits : length m.permits < 1000000
+
 -- the permits after an application is answered: an issued one is added, live
 abbrev pub with_issued : List Permit → ℕ → Application → ℕ → Reply → List Permit
 with_issued permits caller a seen (reply.Issued number version route) =
@@ -107,7 +118,7 @@ with_permit m caller a seen r = record m { permits = with_issued m.permits calle
 abbrev pub with_posting : BaseLists → Machine → Change → Reply → Machine
 with_posting base m change (reply.Posted version recalled) = record m {
   postings = m.postings ++ change ∷ [];
-  permits = recalled_now base (state_of base.roads (m.postings ++ change ∷ [])) m.day version m.permits;
+  permits = recalled_now base (state_with base m change) m.day version m.permits;
 }
 with_posting base m change _ = m
 
@@ -165,4 +176,4 @@ pub record IsGood (base : BaseLists) (m : Machine) : Type 0 where
   pub taken : AreTaken base.roads m.postings
   pub numbered : AreNumbered 0 m.permits
   pub ranged : All (IsRanged base) m.permits
-  pub meets : All (λ p. in_force m.day p ≡ true → fails base (state_in base m) p ≡ false) m.permits
+  pub meets : InForceMeet base (state_in base m) m.day m.permits

@@ -17,17 +17,24 @@ fails base state p = list_any (λ s. not (is_passable base state p.truck s)) p.r
 abbrev pub is_recalled : BaseLists → InForce → List ℕ → Permit → Bool
 is_recalled base state day p = in_force day p && fails base state p
 
+-- the permit, if it is in force, meets its truck at all of its segments
+abbrev pub MeetsIfInForce : BaseLists → InForce → List ℕ → Permit → Type 0
+MeetsIfInForce base state day p = in_force day p ≡ true → fails base state p ≡ false
+
 -- each permit in force meets its truck at all of its segments
 abbrev pub InForceMeet : BaseLists → InForce → List ℕ → List Permit → Type 0
-InForceMeet base state day permits = All (λ p. in_force day p ≡ true → fails base state p ≡ false) permits
+InForceMeet base state day permits = All (MeetsIfInForce base state day) permits
 
 -- the permit meets its truck at each of its segments but this one
 abbrev pub MeetsElsewhere : BaseLists → InForce → ℕ → Permit → Type 0
 MeetsElsewhere base state segment p = All (λ s. s ≢ segment → is_passable base state p.truck s ≡ true) p.route
 
+abbrev pub MeetsElsewhereIfInForce : BaseLists → InForce → ℕ → List ℕ → Permit → Type 0
+MeetsElsewhereIfInForce base state segment day p = in_force day p ≡ true → MeetsElsewhere base state segment p
+
 -- each permit in force meets its truck at all of its segments but this one
 abbrev pub InForceMeetElsewhere : BaseLists → InForce → ℕ → List ℕ → List Permit → Type 0
-InForceMeetElsewhere base state segment day permits = All (λ p. in_force day p ≡ true → MeetsElsewhere base state segment p) permits
+InForceMeetElsewhere base state segment day permits = All (MeetsElsewhereIfInForce base state segment day) permits
 
 -- the numbers of the permits that a state recalls, rising
 abbrev pub recalled_by : BaseLists → InForce → List ℕ → List Permit → List ℕ

@@ -1,5 +1,5 @@
 -- What an office answers, as functions of what it is about and what it holds.
-use Rattle.std.specs.Prelude.{ℕ, Bool, true, false, List, [], ◌∷◌, nat_eq, not, if◌then◌else◌, Option, Some, None}
+use Rattle.std.specs.Prelude.{ℕ, Bool, true, false, List, [], ◌∷◌, nat_eq, not, if◌then◌else◌, Option, Some, None, unwrap_or}
 use Rattle.restriction_log.specs.States.{InForce}
 use Rattle.clearance_rules.specs.declared.limit.Limit.{Limit}
 use Rattle.permit_days.specs.Days.{is_before}
@@ -52,13 +52,17 @@ is_late day a = is_before a.first day
 abbrev pub is_free : BaseLists → Application → Bool
 is_free base a = needs_none base a.truck
 
+-- the answer that is known before the roads are looked at: the trip would begin too late, or the truck is legal
+abbrev pub early_reply : BaseLists → List ℕ → Application → Option Reply
+early_reply base day a =
+    if is_late day a then Some (reply.Late day)
+    else (if is_free base a then Some reply.NotNeeded
+    else None)
+
 -- the answer to an application for which this was found, on a day, in a state at a version, where the next permit has this
 -- number
 abbrev pub apply_reply : BaseLists → InForce → ℕ → List ℕ → ℕ → Application → What → Reply
-apply_reply base state v day number a w =
-    if is_late day a then reply.Late day
-    else (if is_free base a then reply.NotNeeded
-    else what_reply base state v number a.truck w)
+apply_reply base state v day number a w = unwrap_or (early_reply base day a) (what_reply base state v number a.truck w)
 
 -- the answer to a day, where it is the kept one
 abbrev pub day_reply : List ℕ → List ℕ → Reply
@@ -80,6 +84,18 @@ shown p number day = reply.Shown number p.caller p.truck p.first p.last p.versio
 abbrev pub show_reply : List Permit → List ℕ → ℕ → Reply
 show_reply permits day number =
     if not (is_issued permits number) then reply.Unknown else shown (permit_of permits number) number day
+
+-- whether a reply holds a list
+abbrev pub has_list : Reply → Bool
+has_list (reply.Issued number version route) = true
+has_list (reply.Posted version recalled) = true
+has_list _ = false
+
+-- the list that a reply holds
+abbrev pub list_of : Reply → List ℕ
+list_of (reply.Issued number version route) = route
+list_of (reply.Posted version recalled) = recalled
+list_of _ = []
 
 -- whether a permit was issued
 abbrev pub is_issue : Reply → Bool

@@ -1,505 +1,283 @@
-// Answers to an application: by what was proposed for it, or by what the office finds itself. Each comes twice: for the
-// history, and for the caller.
+// Answers to an application: by what was proposed for it, or by what the office finds itself.
 
-ghost use Rattle.std.specs.Prelude.{◌≡◌, ◌+◌, ◌<◌, ◌≤◌, ◌++◌, length, All, IfOk, OnErr, None, true, false, take};
-ghost use Rattle.road_graph.specs.Roads.{IsRoads};
-ghost use Rattle.restriction_log.specs.States.{AreOf, state_of};
-ghost use Rattle.restriction_log.specs.Changes.{AreTaken};
-ghost use Rattle.trip_analysis.specs.declared.finding.What.{What};
+ghost use Rattle.std.specs.Prelude.{◌≡◌, ◌<◌, length, All, IfOk, OnErr, None};
+ghost use Rattle.trip_analysis.specs.declared.finding.What.TheVariants as what;
 ghost use Rattle.trip_analysis.specs.Applications.{Sound};
-ghost use Rattle.trip_analysis.specs.Known.{AreKnown, AreStudied};
-ghost use Rattle.trip_analysis.specs.Findings.{AreRising, HoldsIn, InRange, first_meeting, first_on as first_in, leaving, limit_for};
+ghost use Rattle.trip_analysis.specs.Findings.{AreRising, InRange, first_on as first_in};
+ghost use Rattle.office_core.specs.declared.entry.Call.TheVariants.{Held, Submit};
 ghost use Rattle.office_core.specs.declared.entry.Reply.TheVariants as reply;
-ghost use Rattle.office_core.specs.declared.entry.Call.TheVariants as call;
-ghost use Rattle.office_core.specs.Replies.{apply_reply, cut_reply, fails_reply, is_free, is_issue, is_late, route_reply, what_reply};
-ghost use Rattle.office_core.specs.Machine.{IsAnswer, IsFound, IsHeld, after, machine_at, with_issued};
+ghost use Rattle.office_core.specs.Replies.{early_reply};
+ghost use Rattle.office_core.specs.Machine.{HasRoom, IsFound, version_of};
+ghost use Rattle.office_core.specs.Registers.{Gives, HeldAt, IsFoundNow, IsReplyTo, Issues, Leaves, MayLack, Permits, found_reply, least_out, next_issue, state_now, state_seen};
 
+use crate::answer::Answer;
 use crate::entry::{Cause, Reply};
-use clearance_rules::{Limit, Steps};
+use crate::register::Register;
+use clearance_rules::Steps;
 use office_io::NoMemory;
-use permit_book::{Book, BookRefusal};
+use permit_book::BookRefusal;
 use permit_days::Day;
-use restriction_log::{Log, State};
 use road_graph::Numbers;
-use std::alloc::Global;
 use std::sync::ledger::Ledger;
 use trip_analysis::{
-    Analyst, Application, Base, Proposal, What, failing_limit_by, first_meeting_out_by,
-    first_on_by, next_leaving,
+    Application, Base, Failing, Proposal, What, first_meeting_out_by, first_on_by, next_leaving,
 };
 
-// Whether the trip would begin before the day.
-fn is_late(application: &Application, day: Day) -> bool
-    ensures { result ≡ is_late day application.now }
-{
-    application.first() < day
-}
-
-// Whether the truck is legal.
-fn is_free(base: &Base, application: &Application) -> bool
-    requires { application.now.truck < length base.now.fleet }
-    ensures { result ≡ is_free base.now application.now }
-{
-    base.fleet()[application.truck() as usize].load.legal()
-}
-
-// Issues the next permit.
-fn issue(
-    alloc: Global,
-    log: &Log,
-    book: &mut Book,
-    caller: u32,
-    application: &Application,
-    seen: u32,
-    route: &Numbers,
-) -> Result<(Reply, Reply), NoMemory>
-    ensures same { IfOk result (λ r. r.1 ≡ r.0) }
-    ensures reply { IfOk result (λ r. r.0 ≡ reply.Issued (length book.old + 1) (length log.now) route.now) }
-    ensures permits { IfOk result (λ r. book.new ≡ with_issued book.old caller application.now seen r.0) }
-    ensures lack { OnErr result (book.new ≡ book.old) }
-{
-    let version = log.version();
-    let kept = route.try_clone(alloc)?;
-    let told = route.try_clone(alloc)?;
-    let own = route.try_clone(alloc)?;
-    let (first, last) = (application.first(), application.last());
-    match book.issue(caller, application.truck(), own, first, last, version, seen) {
-        Ok(number) => Ok((
-            Reply::Issued {
-                number,
-                version,
-                route: kept,
-            },
-            Reply::Issued {
-                number,
-                version,
-                route: told,
-            },
-        )),
-        // the book is never full, since it has at most as many permits as the history has entries
-        Err(BookRefusal::Full | BookRefusal::NoMemory) => Err(NoMemory),
+impl Register {
+    /// Answers a proposal, which is what was found at its version.
+    #[tactic(auto, using(crate::proofs::Founds::found_in_range, crate::proofs::Founds::found_holds))]
+    pub(crate) fn submit<L: Ledger>(
+        &mut self,
+        caller: u32,
+        application: &Application,
+        proposal: &Proposal,
+        steps: &mut Steps<L>,
+    ) -> Result<Answer, NoMemory>
+        requires found { IsFound self.old.base self.old.machine application.now proposal.now }
+        requires room { HasRoom self.old.machine }
+        ensures base { self.new.base ≡ self.old.base }
+        ensures given { IfOk result (Gives self.old caller (Submit application.now proposal.now)) }
+        ensures after { IfOk result (Leaves self.old caller (Submit application.now proposal.now) self.new) }
+        ensures unchanged { OnErr result (self.new ≡ self.old) }
+        ensures lack { OnErr result (MayLack self.old (Submit application.now proposal.now)) }
+    {
+        match early_answer(self.base(), self.today(), application) {
+            Some(answer) => Ok(answer),
+            None => self.answer_found(caller, application, proposal, steps),
+        }
     }
-}
 
-// Refuses by a limit.
-fn refused(version: u32, limit: &Limit) -> (Reply, Reply)
-    ensures same { result.1 ≡ result.0 }
-    ensures reply { result.0 ≡ reply.Refused version limit.now }
-{
-    (
-        Reply::Refused {
-            version,
-            limit: *limit,
-        },
-        Reply::Refused {
-            version,
-            limit: *limit,
-        },
-    )
-}
+    /// Answers an application by what the office finds itself.
+    pub(crate) fn held<L: Ledger>(
+        &mut self,
+        caller: u32,
+        application: &Application,
+        steps: &mut Steps<L>,
+    ) -> Result<Answer, NoMemory>
+        requires sound { Sound self.old.base application.now }
+        requires room { HasRoom self.old.machine }
+        ensures base { self.new.base ≡ self.old.base }
+        ensures given { IfOk result (Gives self.old caller (Held application.now)) }
+        ensures after { IfOk result (Leaves self.old caller (Held application.now) self.new) }
+        ensures unchanged { OnErr result (self.new ≡ self.old) }
+        ensures lack { OnErr result (MayLack self.old (Held application.now)) }
+    {
+        match early_answer(self.base(), self.today(), application) {
+            Some(answer) => Ok(answer),
+            None => {
+                let proposal = self.find(application)?;
+                self.answer_found(caller, application, &proposal, steps)
+            }
+        }
+    }
 
-// Says why a proposal is out of date.
-fn outdated(version: u32, cause: &Cause) -> (Reply, Reply)
-    ensures same { result.1 ≡ result.0 }
-    ensures reply { result.0 ≡ reply.Outdated version cause.now }
-{
-    (
-        Reply::Outdated {
-            version,
-            cause: *cause,
-        },
-        Reply::Outdated {
-            version,
-            cause: *cause,
-        },
-    )
-}
+    // What the office finds itself, at the current version.
+    fn find(&mut self, application: &Application) -> Result<Proposal, NoMemory>
+        requires { Sound self.old.base application.now }
+        ensures same { self.new ≡ self.old }
+        ensures seen { IfOk result (λ proposal. proposal.seen ≡ version_of self.old.machine) }
+        ensures found { IfOk result (λ proposal. IsFoundNow self.old application.now proposal.what) }
+        ensures within { IfOk result (λ proposal. InRange self.old.base proposal.what) }
+        ensures held { IfOk result (λ found. HeldAt self.old found.seen application.now.truck found.what) }
+    {
+        let what = self
+            .analyst
+            .find(self.alloc, &self.base, &self.state, application)?;
+        Ok(Proposal {
+            seen: self.log.version(),
+            what,
+        })
+    }
 
-// Answers a route that met all along at the version seen: all of it is tested again.
-fn answer_route<L: Ledger>(
-    alloc: Global,
-    base: &Base,
-    state: &State,
-    analyst: &Analyst,
-    log: &Log,
-    book: &mut Book,
-    caller: u32,
-    application: &Application,
-    seen: u32,
-    route: &Numbers,
-    steps: &mut Steps<L>,
-) -> Result<(Reply, Reply), NoMemory>
-    requires truck { application.now.truck < length base.now.fleet }
-    requires of_base { AreOf base.now.roads state.now }
-    requires studied { AreStudied base.now analyst.now }
-    requires segments { All (λ s. s < length base.now.roads.segments) route.now }
-    requires log { AreTaken base.now.roads log.now }
-    requires state { state.now ≡ state_of base.now.roads log.now }
-    requires met { first_in base.now (state_of base.now.roads (take seen log.now)) application.now.truck route.now ≡ None }
-    ensures same { IfOk result (λ r. r.1 ≡ r.0) }
-    ensures reply { IfOk result (λ r. r.0 ≡ route_reply (length book.old + 1) (length log.now) route.now (first_in base.now state.now application.now.truck route.now)) }
-    ensures permits { IfOk result (λ r. book.new ≡ with_issued book.old caller application.now seen r.0) }
-    ensures lack { OnErr result ((book.new ≡ book.old) × (first_in base.now state.now application.now.truck route.now ≡ None)) }
-{
-    let truck = application.truck();
-    let study = analyst.study(base, truck);
-    match first_on_by(base, state, truck, study, route.as_slice(), steps) {
-        Some(failing) => Ok(outdated(
-            log.version(),
-            &Cause::NowFails {
+    // Answers what was found for an application.
+    fn answer_found<L: Ledger>(
+        &mut self,
+        caller: u32,
+        application: &Application,
+        proposal: &Proposal,
+        steps: &mut Steps<L>,
+    ) -> Result<Answer, NoMemory>
+        requires truck { application.now.truck < length self.old.base.fleet }
+        requires within { InRange self.old.base proposal.now.what }
+        requires held { HeldAt self.old proposal.now.seen application.now.truck proposal.now.what }
+        requires room { HasRoom self.old.machine }
+        ensures base { self.new.base ≡ self.old.base }
+        ensures given { IfOk result (IsReplyTo self.old application.now.truck proposal.now.what) }
+        ensures after { IfOk result (Permits self.old caller application.now proposal.now.seen self.new) }
+        ensures unchanged { OnErr result (self.new ≡ self.old) }
+        ensures lack { OnErr result (Issues self.old application.now.truck proposal.now.what) }
+    {
+        let (truck, seen) = (application.truck(), proposal.seen);
+        match &proposal.what {
+            What::NotNeeded => Ok(Answer::plain(Reply::NotNeeded)),
+            What::Route(route) => self.answer_route(caller, application, seen, route, steps),
+            What::Fails { segment } => Ok(self.answer_fails(truck, *segment, steps)),
+            What::Cut(nodes) => Ok(self.answer_cut(truck, seen, nodes.as_slice(), steps)),
+        }
+    }
+
+    // Answers a route that met all along at the version seen.
+    fn answer_route<L: Ledger>(
+        &mut self,
+        caller: u32,
+        application: &Application,
+        seen: u32,
+        route: &Numbers,
+        steps: &mut Steps<L>,
+    ) -> Result<Answer, NoMemory>
+        requires truck { application.now.truck < length self.old.base.fleet }
+        requires segments { All (λ s. s < length self.old.base.roads.segments) route.now }
+        requires met { HeldAt self.old seen application.now.truck (what.Route route.now) }
+        requires room { HasRoom self.old.machine }
+        ensures base { self.new.base ≡ self.old.base }
+        ensures given { IfOk result (IsReplyTo self.old application.now.truck (what.Route route.now)) }
+        ensures after { IfOk result (Permits self.old caller application.now seen self.new) }
+        ensures unchanged { OnErr result (self.new ≡ self.old) }
+        ensures lack { OnErr result (Issues self.old application.now.truck (what.Route route.now)) }
+    {
+        match self.first_failing(application.truck(), seen, route.as_slice(), steps) {
+            Some(failing) => Ok(self.outdated(Cause::NowFails {
                 limit: failing.limit,
-            },
-        )),
-        None => issue(alloc, log, book, caller, application, seen, route),
+            })),
+            None => self.issue(caller, application, seen, route),
+        }
+    }
+
+    // The first segment of a route that fails the truck, where none did at the version seen. Nothing is tested again where
+    // nothing was posted since. Takes no memory.
+    fn first_failing<L: Ledger>(
+        &self,
+        truck: u32,
+        seen: u32,
+        route: &[u32],
+        steps: &mut Steps<L>,
+    ) -> Option<Failing>
+        requires truck { truck < length self.now.base.fleet }
+        requires segments { All (λ s. s < length self.now.base.roads.segments) route.now }
+        requires met { first_in self.now.base (state_seen self.now seen) truck route.now ≡ None }
+        ensures { result ≡ first_in self.now.base (state_now self.now) truck route.now }
+    {
+        if seen == self.version() {
+            return None;
+        }
+        let study = self.study(truck);
+        first_on_by(self.base(), self.state(), truck, study, route, steps)
+    }
+
+    // The least segment out of these nodes that the truck may pass, where it could pass none at the version seen. Nothing is
+    // tested again where nothing was posted since. Takes no memory.
+    fn first_meeting<L: Ledger>(
+        &self,
+        truck: u32,
+        seen: u32,
+        nodes: &[u32],
+        steps: &mut Steps<L>,
+    ) -> Option<u32>
+        requires truck { truck < length self.now.base.fleet }
+        requires rising { AreRising nodes.now }
+        requires met { least_out self.now.base (state_seen self.now seen) truck nodes.now ≡ None }
+        ensures { result ≡ least_out self.now.base (state_now self.now) truck nodes.now }
+    {
+        if seen == self.version() {
+            return None;
+        }
+        let study = self.study(truck);
+        first_meeting_out_by(self.base(), self.state(), truck, study, nodes, steps)
+    }
+
+    // Answers that a segment fails. Takes no memory.
+    fn answer_fails<L: Ledger>(&self, truck: u32, segment: u32, steps: &mut Steps<L>) -> Answer
+        requires truck { truck < length self.now.base.fleet }
+        requires segment { segment < length self.now.base.roads.segments }
+        ensures { result ≡ found_reply self.now truck (what.Fails segment) }
+    {
+        let version = self.version();
+        match self.failing_limit(truck, segment, steps) {
+            Some(limit) => Answer::plain(Reply::Refused { version, limit }),
+            None => self.outdated(Cause::NowMeets { segment }),
+        }
+    }
+
+    // Answers a cut out of which no segment met at the version seen. Takes no memory.
+    fn answer_cut<L: Ledger>(
+        &self,
+        truck: u32,
+        seen: u32,
+        nodes: &[u32],
+        steps: &mut Steps<L>,
+    ) -> Answer
+        requires truck { truck < length self.now.base.fleet }
+        requires rising { AreRising nodes.now }
+        requires met { least_out self.now.base (state_seen self.now seen) truck nodes.now ≡ None }
+        ensures { result ≡ found_reply self.now truck (what.Cut nodes.now) }
+    {
+        let Some(first) = next_leaving(self.base().network(), nodes, 0) else {
+            return Answer::plain(Reply::NoRoad);
+        };
+        if let Some(segment) = self.first_meeting(truck, seen, nodes, steps) {
+            return self.outdated(Cause::NowMeets { segment });
+        }
+        let version = self.version();
+        match self.failing_limit(truck, first, steps) {
+            Some(limit) => Answer::plain(Reply::Refused { version, limit }),
+            None => Answer::plain(Reply::NoRoad),
+        }
+    }
+
+    // Answers that a proposal is out of date. Takes no memory.
+    fn outdated(&self, cause: Cause) -> Answer
+        ensures { result ≡ reply.Outdated (version_of self.now.machine) cause }
+    {
+        let version = self.version();
+        Answer::plain(Reply::Outdated { version, cause })
+    }
+
+    // Issues the next permit, for a route that meets now and was found at the version seen.
+    fn issue(
+        &mut self,
+        caller: u32,
+        application: &Application,
+        seen: u32,
+        route: &Numbers,
+    ) -> Result<Answer, NoMemory>
+        requires truck { application.now.truck < length self.old.base.fleet }
+        requires segments { All (λ s. s < length self.old.base.roads.segments) route.now }
+        requires meets { first_in self.old.base (state_now self.old) application.now.truck route.now ≡ None }
+        requires room { HasRoom self.old.machine }
+        ensures base { self.new.base ≡ self.old.base }
+        ensures given { IfOk result (λ given. given ≡ next_issue self.old route.now) }
+        ensures after { IfOk result (Permits self.old caller application.now seen self.new) }
+        ensures unchanged { OnErr result (self.new ≡ self.old) }
+    {
+        let version = self.log.version();
+        let answer = Answer::new(Reply::Issued {
+            number: self.book.len() + 1,
+            version,
+            route: route.try_clone(self.alloc)?,
+        })?;
+        let own = route.try_clone(self.alloc)?;
+        let (truck, first, last) = (application.truck(), application.first(), application.last());
+        match self
+            .book
+            .issue(caller, truck, own, first, last, version, seen)
+        {
+            Ok(_number) => Ok(answer),
+            Err(BookRefusal::NoMemory) => Err(NoMemory),
+            Err(BookRefusal::Full) => unreachable!(),
+        }
     }
 }
 
-// Answers that a segment fails.
-fn answer_fails<L: Ledger>(
-    base: &Base,
-    state: &State,
-    analyst: &Analyst,
-    log: &Log,
-    truck: u32,
-    segment: u32,
-    steps: &mut Steps<L>,
-) -> (Reply, Reply)
-    requires truck { truck < length base.now.fleet }
-    requires of_base { AreOf base.now.roads state.now }
-    requires studied { AreStudied base.now analyst.now }
-    requires segment { segment < length base.now.roads.segments }
-    ensures same { result.1 ≡ result.0 }
-    ensures reply { result.0 ≡ fails_reply (length log.now) segment (limit_for base.now state.now truck segment) }
+// What is answered before the roads are looked at. Takes no memory.
+fn early_answer(base: &Base, day: Day, application: &Application) -> Option<Answer>
+    requires { application.now.truck < length base.now.fleet }
+    ensures { result ≡ early_reply base.now day application.now }
 {
-    let study = analyst.study(base, truck);
-    match failing_limit_by(base, state, truck, study, segment, steps) {
-        Some(limit) => refused(log.version(), &limit),
-        None => outdated(log.version(), &Cause::NowMeets { segment }),
+    if application.first() < day {
+        return Some(Answer::plain(Reply::Late { day }));
     }
-}
-
-// Answers a cut out of which no segment met at the version seen: all that leave it are tested again.
-fn answer_cut<L: Ledger>(
-    base: &Base,
-    state: &State,
-    analyst: &Analyst,
-    log: &Log,
-    truck: u32,
-    seen: u32,
-    nodes: &Numbers,
-    steps: &mut Steps<L>,
-) -> (Reply, Reply)
-    requires truck { truck < length base.now.fleet }
-    requires of_base { AreOf base.now.roads state.now }
-    requires studied { AreStudied base.now analyst.now }
-    requires rising { AreRising nodes.now }
-    requires log { AreTaken base.now.roads log.now }
-    requires state { state.now ≡ state_of base.now.roads log.now }
-    requires met { first_meeting base.now (state_of base.now.roads (take seen log.now)) truck (leaving base.now.roads nodes.now) ≡ None }
-    ensures same { result.1 ≡ result.0 }
-    ensures reply { result.0 ≡ cut_reply base.now state.now truck (length log.now) (leaving base.now.roads nodes.now) (first_meeting base.now state.now truck (leaving base.now.roads nodes.now)) }
-{
-    let nodes = nodes.as_slice();
-    let Some(first) = next_leaving(base.network(), nodes, 0) else {
-        return (Reply::NoRoad, Reply::NoRoad);
-    };
-    let study = analyst.study(base, truck);
-    if let Some(segment) = first_meeting_out_by(base, state, truck, study, nodes, steps) {
-        return outdated(log.version(), &Cause::NowMeets { segment });
+    if base.fleet()[application.truck() as usize].load.legal() {
+        return Some(Answer::plain(Reply::NotNeeded));
     }
-    match failing_limit_by(base, state, truck, study, first, steps) {
-        Some(limit) => refused(log.version(), &limit),
-        None => (Reply::NoRoad, Reply::NoRoad),
-    }
-}
-
-// Answers what was found.
-fn answer_what<L: Ledger>(
-    alloc: Global,
-    base: &Base,
-    state: &State,
-    analyst: &Analyst,
-    log: &Log,
-    book: &mut Book,
-    caller: u32,
-    application: &Application,
-    seen: u32,
-    what: &What,
-    steps: &mut Steps<L>,
-) -> Result<(Reply, Reply), NoMemory>
-    requires truck { application.now.truck < length base.now.fleet }
-    requires of_base { AreOf base.now.roads state.now }
-    requires studied { AreStudied base.now analyst.now }
-    requires what { InRange base.now what.now }
-    requires log { AreTaken base.now.roads log.now }
-    requires state { state.now ≡ state_of base.now.roads log.now }
-    requires holds { HoldsIn base.now (state_of base.now.roads (take seen log.now)) application.now.truck what.now }
-    ensures same { IfOk result (λ r. r.1 ≡ r.0) }
-    ensures reply { IfOk result (λ r. r.0 ≡ what_reply base.now state.now (length log.now) (length book.old + 1) application.now.truck what.now) }
-    ensures permits { IfOk result (λ r. book.new ≡ with_issued book.old caller application.now seen r.0) }
-    ensures lack { OnErr result ((book.new ≡ book.old) × (is_issue (what_reply base.now state.now (length log.now) (length book.old + 1) application.now.truck what.now) ≡ true)) }
-{
-    let truck = application.truck();
-    match what {
-        What::NotNeeded => Ok((Reply::NotNeeded, Reply::NotNeeded)),
-        What::Route(route) => answer_route(
-            alloc,
-            base,
-            state,
-            analyst,
-            log,
-            book,
-            caller,
-            application,
-            seen,
-            route,
-            steps,
-        ),
-        What::Fails { segment } => Ok(answer_fails(
-            base, state, analyst, log, truck, *segment, steps,
-        )),
-        What::Cut(nodes) => Ok(answer_cut(base, state, analyst, log, truck, seen, nodes, steps)),
-    }
-}
-
-// Answers an application for which this was found at the version seen.
-fn answer_found<L: Ledger>(
-    alloc: Global,
-    base: &Base,
-    state: &State,
-    analyst: &Analyst,
-    log: &Log,
-    book: &mut Book,
-    day: Day,
-    caller: u32,
-    application: &Application,
-    seen: u32,
-    what: &What,
-    steps: &mut Steps<L>,
-) -> Result<(Reply, Reply), NoMemory>
-    requires truck { application.now.truck < length base.now.fleet }
-    requires of_base { AreOf base.now.roads state.now }
-    requires studied { AreStudied base.now analyst.now }
-    requires what { InRange base.now what.now }
-    requires log { AreTaken base.now.roads log.now }
-    requires state { state.now ≡ state_of base.now.roads log.now }
-    requires holds { HoldsIn base.now (state_of base.now.roads (take seen log.now)) application.now.truck what.now }
-    ensures same { IfOk result (λ r. r.1 ≡ r.0) }
-    ensures reply { IfOk result (λ r. r.0 ≡ apply_reply base.now state.now (length log.now) day (length book.old + 1) application.now what.now) }
-    ensures permits { IfOk result (λ r. book.new ≡ with_issued book.old caller application.now seen r.0) }
-    ensures lack { OnErr result ((book.new ≡ book.old) × (is_issue (apply_reply base.now state.now (length log.now) day (length book.old + 1) application.now what.now) ≡ true)) }
-{
-    if is_late(application, day) {
-        return Ok((Reply::Late { day }, Reply::Late { day }));
-    }
-    if is_free(base, application) {
-        return Ok((Reply::NotNeeded, Reply::NotNeeded));
-    }
-    answer_what(
-        alloc,
-        base,
-        state,
-        analyst,
-        log,
-        book,
-        caller,
-        application,
-        seen,
-        what,
-        steps,
-    )
-}
-
-// Answers a cut out of which no segment meets.
-fn answer_cut_now<L: Ledger>(
-    base: &Base,
-    state: &State,
-    analyst: &Analyst,
-    log: &Log,
-    truck: u32,
-    nodes: &Numbers,
-    steps: &mut Steps<L>,
-) -> (Reply, Reply)
-    requires truck { truck < length base.now.fleet }
-    requires of_base { AreOf base.now.roads state.now }
-    requires studied { AreStudied base.now analyst.now }
-    requires rising { AreRising nodes.now }
-    requires met { first_meeting base.now state.now truck (leaving base.now.roads nodes.now) ≡ None }
-    ensures same { result.1 ≡ result.0 }
-    ensures reply { result.0 ≡ cut_reply base.now state.now truck (length log.now) (leaving base.now.roads nodes.now) (first_meeting base.now state.now truck (leaving base.now.roads nodes.now)) }
-{
-    let Some(first) = next_leaving(base.network(), nodes.as_slice(), 0) else {
-        return (Reply::NoRoad, Reply::NoRoad);
-    };
-    let study = analyst.study(base, truck);
-    match failing_limit_by(base, state, truck, study, first, steps) {
-        Some(limit) => refused(log.version(), &limit),
-        None => (Reply::NoRoad, Reply::NoRoad),
-    }
-}
-
-// Answers what is found now: only the limit that is named is looked up again.
-fn answer_now<L: Ledger>(
-    alloc: Global,
-    base: &Base,
-    state: &State,
-    analyst: &Analyst,
-    log: &Log,
-    book: &mut Book,
-    caller: u32,
-    application: &Application,
-    what: &What,
-    steps: &mut Steps<L>,
-) -> Result<(Reply, Reply), NoMemory>
-    requires truck { application.now.truck < length base.now.fleet }
-    requires of_base { AreOf base.now.roads state.now }
-    requires studied { AreStudied base.now analyst.now }
-    requires what { InRange base.now what.now }
-    requires holds { HoldsIn base.now state.now application.now.truck what.now }
-    ensures same { IfOk result (λ r. r.1 ≡ r.0) }
-    ensures reply { IfOk result (λ r. r.0 ≡ what_reply base.now state.now (length log.now) (length book.old + 1) application.now.truck what.now) }
-    ensures permits { IfOk result (λ r. book.new ≡ with_issued book.old caller application.now (length log.now) r.0) }
-    ensures lack { OnErr result (book.new ≡ book.old) }
-{
-    let truck = application.truck();
-    match what {
-        What::NotNeeded => Ok((Reply::NotNeeded, Reply::NotNeeded)),
-        What::Route(route) => issue(alloc, log, book, caller, application, log.version(), route),
-        What::Fails { segment } => Ok(answer_fails(
-            base, state, analyst, log, truck, *segment, steps,
-        )),
-        What::Cut(nodes) => Ok(answer_cut_now(base, state, analyst, log, truck, nodes, steps)),
-    }
-}
-
-// Answers an application by what is found now.
-#[tactic(auto, using(crate::proofs::Founds::found_in_range, crate::proofs::Founds::found_holds))]
-fn answer_finding<L: Ledger>(
-    alloc: Global,
-    base: &Base,
-    state: &State,
-    analyst: &mut Analyst,
-    log: &Log,
-    book: &mut Book,
-    day: Day,
-    caller: u32,
-    application: &Application,
-    steps: &mut Steps<L>,
-) -> Result<(Reply, Reply), NoMemory>
-    requires roads { IsRoads base.now.roads }
-    requires of_base { AreOf base.now.roads state.now }
-    requires log { AreTaken base.now.roads log.now }
-    requires state { state.now ≡ state_of base.now.roads log.now }
-    requires sound { Sound base.now application.now }
-    requires known { AreKnown base.now state.now analyst.old }
-    ensures known { AreKnown base.now state.now analyst.new }
-    ensures same { IfOk result (λ r. r.1 ≡ r.0) }
-    ensures reply { IfOk result (λ r. (w : What) × IsHeld base.now state.now day application.now w × (r.0 ≡ apply_reply base.now state.now (length log.now) day (length book.old + 1) application.now w)) }
-    ensures permits { IfOk result (λ r. book.new ≡ with_issued book.old caller application.now (length log.now) r.0) }
-    ensures lack { OnErr result ((book.new ≡ book.old) × (is_late day application.now ≡ false) × (is_free base.now application.now ≡ false)) }
-{
-    if is_late(application, day) {
-        return Ok((Reply::Late { day }, Reply::Late { day }));
-    }
-    if is_free(base, application) {
-        return Ok((Reply::NotNeeded, Reply::NotNeeded));
-    }
-    let what = analyst.find(alloc, base, state, application)?;
-    answer_now(
-        alloc,
-        base,
-        state,
-        analyst,
-        log,
-        book,
-        caller,
-        application,
-        &what,
-        steps,
-    )
-}
-
-/// Answers a proposal, which is what was found at its version.
-#[tactic(auto, using(crate::proofs::Founds::found_in_range, crate::proofs::Founds::found_holds))]
-pub(crate) fn answer_submit<L: Ledger>(
-    alloc: Global,
-    base: &Base,
-    state: &State,
-    analyst: &Analyst,
-    log: &Log,
-    book: &mut Book,
-    day: Day,
-    caller: u32,
-    application: &Application,
-    proposal: &Proposal,
-    steps: &mut Steps<L>,
-) -> (Reply, Reply)
-    requires roads { IsRoads base.now.roads }
-    requires of_base { AreOf base.now.roads state.now }
-    requires studied { AreStudied base.now analyst.now }
-    requires log { AreTaken base.now.roads log.now }
-    requires state { state.now ≡ state_of base.now.roads log.now }
-    requires found { IsFound base.now (machine_at log.now book.old day) application.now proposal.now }
-    ensures same { result.1 ≡ result.0 }
-    ensures answer { IsAnswer base.now (machine_at log.now book.old day) caller (call.Submit application.now proposal.now) result.0 }
-    ensures after { after base.now (machine_at log.now book.old day) caller (call.Submit application.now proposal.now) result.0 ≡ machine_at log.now book.new day }
-{
-    match answer_found(
-        alloc,
-        base,
-        state,
-        analyst,
-        log,
-        book,
-        day,
-        caller,
-        application,
-        proposal.seen,
-        &proposal.what,
-        steps,
-    ) {
-        Ok(replies) => replies,
-        Err(NoMemory) => (Reply::NoMemory, Reply::NoMemory),
-    }
-}
-
-/// Answers an application by what the office finds itself.
-pub(crate) fn answer_held<L: Ledger>(
-    alloc: Global,
-    base: &Base,
-    state: &State,
-    analyst: &mut Analyst,
-    log: &Log,
-    book: &mut Book,
-    day: Day,
-    caller: u32,
-    application: &Application,
-    steps: &mut Steps<L>,
-) -> (Reply, Reply)
-    requires roads { IsRoads base.now.roads }
-    requires of_base { AreOf base.now.roads state.now }
-    requires log { AreTaken base.now.roads log.now }
-    requires state { state.now ≡ state_of base.now.roads log.now }
-    requires sound { Sound base.now application.now }
-    requires known { AreKnown base.now state.now analyst.old }
-    ensures known { AreKnown base.now state.now analyst.new }
-    ensures same { result.1 ≡ result.0 }
-    ensures answer { IsAnswer base.now (machine_at log.now book.old day) caller (call.Held application.now) result.0 }
-    ensures after { after base.now (machine_at log.now book.old day) caller (call.Held application.now) result.0 ≡ machine_at log.now book.new day }
-{
-    match answer_finding(
-        alloc,
-        base,
-        state,
-        analyst,
-        log,
-        book,
-        day,
-        caller,
-        application,
-        steps,
-    ) {
-        Ok(replies) => replies,
-        Err(NoMemory) => (Reply::NoMemory, Reply::NoMemory),
-    }
+    None
 }

@@ -49,7 +49,7 @@ pub enum Cause {
 }
 
 /// What the office answers.
-#[derive(Debug, Drop)]
+#[derive(Clone, Debug, Drop)]
 pub enum Reply {
     /// The current version.
     SnapshotAt {

@@ -1,30 +1,27 @@
 // The office of one thread.
 
-ghost use Rattle.std.specs.Prelude.{◌≡◌, ◌<◌, ◌≤◌, ◌++◌, [], length, All, IfOk, IfSome, is_some};
+ghost use Rattle.std.specs.Prelude.{◌≡◌, ◌<◌, ◌≤◌, All, IfOk, IfSome, false, is_some};
 ghost use Rattle.std.specs.Arc.{arc_value};
-ghost use Rattle.road_graph.specs.Roads.{IsRoads};
-ghost use Rattle.restriction_log.specs.States.{AreOf, state_of};
-ghost use Rattle.restriction_log.specs.Changes.{AreTaken};
-ghost use Rattle.trip_analysis.specs.Known.{AreKnown};
+ghost use Rattle.restriction_log.specs.States.{AreOf};
 ghost use Rattle.permit_book.specs.Permits.{is_issued, permit_of};
-ghost use Rattle.office_core.specs.Machine.{IsAnswer, IsGood, IsLegal, MayAsk, after, machine_at, state_in, version_of};
-ghost use Rattle.office_core.specs.Offices.{Stepped, machine_in};
+ghost use Rattle.office_core.specs.declared.entry.Reply.TheVariants as reply;
+ghost use Rattle.office_core.specs.Replies.{is_full};
+ghost use Rattle.office_core.specs.Machine.{IsLegal, MayAsk, state_in, version_of};
+ghost use Rattle.office_core.specs.Offices.{HasPlace, IsFull, IsStep, entry, grown, machine_in, newly_opened};
 ghost use Rattle.office_core.specs.Promises.{KeepsPromises};
 
-use crate::applying::{answer_held, answer_submit};
 use crate::entry::{Call, Entry, Reply};
-use crate::permits::{answer_day, answer_show, answer_surrender};
-use crate::posting::answer_post;
+use crate::register::Register;
 use clearance_rules::Steps;
 use office_io::NoMemory;
-use permit_book::{Book, Permit};
+use permit_book::Permit;
 use permit_days::Day;
-use restriction_log::{Log, State};
+use restriction_log::State;
 use std::alloc::Global;
 use std::marker::Model;
 use std::sync::Arc;
 use std::sync::ledger::Ledger;
-use trip_analysis::{Analyst, Base};
+use trip_analysis::Base;
 
 /// A permit office that one thread calls.
 ///
@@ -32,15 +29,9 @@ use trip_analysis::{Analyst, Base};
 /// Its version, its day and its permits are those that the history leaves.
 #[derive(Drop)]
 pub struct Office {
-    alloc: Global,
-    base: Arc<Base, Global>,
+    register: Register,
     opening: Day,
     most: u32,
-    day: Day,
-    state: State,
-    analyst: Analyst,
-    log: Log,
-    book: Book,
     // with room for `most` entries
     history: Vec<Entry>,
 }
@@ -66,23 +57,14 @@ impl Office {
     ) -> Result<Office, NoMemory>
         requires some { 1 ≤ most }
         requires bounded { most ≤ 1000000 }
-        ensures { IfOk result (λ o. o ≡ record { base = arc_value base; opening = day; most = most; history = [] }) }
+        ensures { IfOk result (λ office. office ≡ newly_opened (arc_value base) day most) }
     {
-        base.lists_are_in_order();
-        let state = State::base(alloc, base.network())?;
-        let analyst = Analyst::new(alloc, &base)?;
-        let log = Log::start(alloc, base.network())?;
+        let register = Register::open(alloc, base, day)?;
         let history = Vec::with_capacity(alloc, most as usize)?;
         Ok(Office {
-            alloc,
-            base,
+            register,
             opening: day,
             most,
-            day,
-            state,
-            analyst,
-            log,
-            book: Book::new(alloc),
             history,
         })
     }
@@ -92,28 +74,24 @@ impl Office {
     pub fn step<L: Ledger>(&mut self, caller: u32, call: Call, steps: &mut Steps<L>) -> Reply
         requires caller { caller < 65536 }
         requires asked { MayAsk self.old.base (machine_in self.old) call }
-        ensures { Stepped self.old caller call result self.new }
+        ensures full { IsFull self.old → result ≡ reply.Full self.old.most }
+        ensures unchanged { IsFull self.old → self.new ≡ self.old }
+        ensures not_full { HasPlace self.old → is_full result ≡ false }
+        ensures grown { HasPlace self.old → self.new ≡ grown self.old (entry caller call result) }
+        ensures step { HasPlace self.old → IsStep self.old (entry caller call result) self.new }
+        ensures legal { IsLegal self.new.base self.new.opening self.new.history }
     {
         if self.history.len() >= self.most as usize {
             return Reply::Full { entries: self.most };
         }
-        let (kept, told) = answer(
-            self.alloc,
-            &self.base,
-            &mut self.state,
-            &mut self.analyst,
-            &mut self.log,
-            &mut self.book,
-            &mut self.day,
-            caller,
-            &call,
-            steps,
-        );
-        self.history.push_reserved(Entry {
+        let answer = self.register.answer(caller, &call, steps);
+        let (reply, told) = answer.into_replies();
+        let entry = Entry {
             caller,
             call,
-            reply: kept,
-        });
+            reply,
+        };
+        self.history.push_reserved(entry);
         told
     }
 
@@ -131,7 +109,7 @@ impl Office {
     pub fn base(&self) -> &Base
         ensures { result.now ≡ self.now.base }
     {
-        &self.base
+        self.register.base()
     }
 
     /// What is in force on the roads. Takes no memory.
@@ -139,97 +117,28 @@ impl Office {
         ensures value { result.now ≡ state_in self.now.base (machine_in self.now) }
         ensures of_base { AreOf self.now.base.roads result.now }
     {
-        &self.state
+        self.register.state()
     }
 
     /// The number of the last posting. Takes no memory.
     pub fn version(&self) -> u32
         ensures { result ≡ version_of (machine_in self.now) }
     {
-        self.log.version()
+        self.register.version()
     }
 
     /// The day that it is. Takes no memory.
     pub fn today(&self) -> Day
         ensures { result ≡ (machine_in self.now).day }
     {
-        self.day
+        self.register.today()
     }
 
     /// The permit of this number, or none where no such permit was issued. Takes no memory.
     pub fn permit(&self, number: u32) -> Option<&Permit>
         ensures issued { is_some result ≡ is_issued (machine_in self.now).permits number }
-        ensures permit { IfSome result (λ permit. permit.now ≡ permit_of (machine_in self.now).permits number) }
+        ensures permit { IfSome result (λ p. p.now ≡ permit_of (machine_in self.now).permits number) }
     {
-        self.book.get(number)
-    }
-}
-
-// Answers a call twice, for the history and for the caller.
-fn answer<L: Ledger>(
-    alloc: Global,
-    base: &Base,
-    state: &mut State,
-    analyst: &mut Analyst,
-    log: &mut Log,
-    book: &mut Book,
-    day: &mut Day,
-    caller: u32,
-    call: &Call,
-    steps: &mut Steps<L>,
-) -> (Reply, Reply)
-    requires roads { IsRoads base.now.roads }
-    requires of_base { AreOf base.now.roads state.old }
-    requires log { AreTaken base.now.roads log.old }
-    requires state { state.old ≡ state_of base.now.roads log.old }
-    requires good { IsGood base.now (machine_at log.old book.old day.old) }
-    requires known { AreKnown base.now state.old analyst.old }
-    requires asked { MayAsk base.now (machine_at log.old book.old day.old) call.now }
-    ensures same { result.1 ≡ result.0 }
-    ensures answer { IsAnswer base.now (machine_at log.old book.old day.old) caller call.now result.0 }
-    ensures after { after base.now (machine_at log.old book.old day.old) caller call.now result.0 ≡ machine_at log.new book.new day.new }
-    ensures state { state.new ≡ state_of base.now.roads log.new }
-    ensures log { AreTaken base.now.roads log.new }
-    ensures known { AreKnown base.now state.new analyst.new }
-{
-    match call {
-        Call::Snapshot => {
-            let version = log.version();
-            (Reply::SnapshotAt { version }, Reply::SnapshotAt { version })
-        }
-        Call::Submit {
-            application,
-            proposal,
-        } => answer_submit(
-            alloc,
-            base,
-            state,
-            analyst,
-            log,
-            book,
-            *day,
-            caller,
-            application,
-            proposal,
-            steps,
-        ),
-        Call::Held { application } => answer_held(
-            alloc,
-            base,
-            state,
-            analyst,
-            log,
-            book,
-            *day,
-            caller,
-            application,
-            steps,
-        ),
-        Call::Post { change } => answer_post(
-            alloc, base, state, analyst, log, book, *day, caller, change, steps,
-        ),
-        Call::Day { day: new } => answer_day(day, *new),
-        Call::Surrender { number } => answer_surrender(book, *day, caller, *number),
-        Call::Show { number } => answer_show(book, *day, *number),
+        self.register.permit(number)
     }
 }

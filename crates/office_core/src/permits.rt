@@ -1,36 +1,60 @@
-// Answers to a day, a look at a permit and a surrender. Each comes twice: for the history, and for the caller.
+// Answers to a day, a look at a permit and a surrender.
 
-ghost use Rattle.std.specs.Prelude.{◌≡◌, List};
-ghost use Rattle.restriction_log.specs.declared.change.Change.{Change};
-ghost use Rattle.permit_book.specs.declared.permit.Permit.{Permit};
-ghost use Rattle.office_core.specs.Replies.{day_reply, show_reply, shown, surrender_reply};
-ghost use Rattle.office_core.specs.Machine.{machine_at, with_day, with_surrender};
+ghost use Rattle.std.specs.Prelude.{◌≡◌};
+ghost use Rattle.office_core.specs.declared.entry.Call.TheVariants as call;
+ghost use Rattle.office_core.specs.Replies.{day_reply, show_reply, shown};
+ghost use Rattle.office_core.specs.Machine.{with_day};
+ghost use Rattle.office_core.specs.Registers.{Gives, Leaves};
 
+use crate::answer::Answer;
 use crate::entry::Reply;
-use permit_book::{Book, Permit};
+use crate::register::Register;
+use permit_book::Permit;
 use permit_days::Day;
 
-/// Takes a day that is not before the kept one.
-pub(crate) fn answer_day(kept: &mut Day, day: Day) -> (Reply, Reply)
-    ensures same { result.1 ≡ result.0 }
-    ensures reply { result.0 ≡ day_reply kept.old day }
-    ensures after { (postings : List Change) (permits : List Permit) → with_day (machine_at postings permits kept.old) result.0 ≡ machine_at postings permits kept.new }
-{
-    if day < *kept {
-        return (Reply::DayBack { day: *kept }, Reply::DayBack { day: *kept });
+impl Register {
+    /// Takes a day that is not before the kept one. Takes no memory.
+    pub(crate) fn set_day(&mut self, day: Day) -> Answer
+        ensures base { self.new.base ≡ self.old.base }
+        ensures given { result ≡ day_reply self.old.machine.day day }
+        ensures after { self.new.machine ≡ with_day self.old.machine result }
+    {
+        if day < self.day {
+            return Answer::plain(Reply::DayBack { day: self.day });
+        }
+        self.day = day;
+        Answer::plain(Reply::DayIs { day })
     }
-    *kept = day;
-    (Reply::DayIs { day }, Reply::DayIs { day })
-}
 
-/// Tells what a permit says.
-pub(crate) fn answer_show(book: &Book, day: Day, number: u32) -> (Reply, Reply)
-    ensures same { result.1 ≡ result.0 }
-    ensures reply { result.0 ≡ show_reply book.now day number }
-{
-    match book.get(number) {
-        Some(permit) => (shown(permit, number, day), shown(permit, number, day)),
-        None => (Reply::Unknown, Reply::Unknown),
+    /// Tells what a permit says. Takes no memory.
+    pub(crate) fn show(&self, number: u32) -> Answer
+        ensures { result ≡ show_reply self.now.machine.permits self.now.machine.day number }
+    {
+        match self.permit(number) {
+            Some(permit) => Answer::plain(shown(permit, number, self.today())),
+            None => Answer::plain(Reply::Unknown),
+        }
+    }
+
+    /// Takes back a permit in force of this caller. Takes no memory.
+    #[tactic(auto, using(crate::proofs::Forces::live_in_force))]
+    pub(crate) fn surrender(&mut self, caller: u32, number: u32) -> Answer
+        ensures base { self.new.base ≡ self.old.base }
+        ensures given { Gives self.old caller (call.Surrender number) result }
+        ensures after { Leaves self.old caller (call.Surrender number) self.new result }
+    {
+        let Some(permit) = self.book.get(number) else {
+            return Answer::plain(Reply::Unknown);
+        };
+        if permit.caller != caller {
+            return Answer::plain(Reply::NotYours);
+        }
+        let status = permit.status(self.day);
+        if !status.is_in_force() {
+            return Answer::plain(Reply::NotInForce { status });
+        }
+        self.book.surrender(number);
+        Answer::plain(Reply::Surrendered)
     }
 }
 
@@ -48,30 +72,4 @@ fn shown(permit: &Permit, number: u32, day: Day) -> Reply
         seen: permit.seen,
         status: permit.status(day),
     }
-}
-
-/// Takes back a permit in force of this caller.
-#[tactic(auto, using(crate::proofs::Forces::live_in_force))]
-pub(crate) fn answer_surrender(
-    book: &mut Book,
-    day: Day,
-    caller: u32,
-    number: u32,
-) -> (Reply, Reply)
-    ensures same { result.1 ≡ result.0 }
-    ensures reply { result.0 ≡ surrender_reply book.old day caller number }
-    ensures after { (postings : List Change) → with_surrender (machine_at postings book.old day) number result.0 ≡ machine_at postings book.new day }
-{
-    let Some(permit) = book.get(number) else {
-        return (Reply::Unknown, Reply::Unknown);
-    };
-    if permit.caller != caller {
-        return (Reply::NotYours, Reply::NotYours);
-    }
-    let status = permit.status(day);
-    if !status.is_in_force() {
-        return (Reply::NotInForce { status }, Reply::NotInForce { status });
-    }
-    book.surrender(number);
-    (Reply::Surrendered, Reply::Surrendered)
 }

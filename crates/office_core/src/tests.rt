@@ -103,7 +103,8 @@ fn application(rt: &impl Abort, base: &Base, truck: u32) -> Application
 #[tactic(auto, using(crate::proofs::Founds::found_now))]
 fn proposed(alloc: Global, office: &Office, application: &Application) -> Result<Proposal, NoMemory>
     requires { Sound office.now.base application.now }
-    ensures { IfOk result (λ p. MayAsk office.now.base (machine_in office.now) (calls.Submit application.now p)) }
+    ensures { IfOk result (λ p.
+        MayAsk office.now.base (machine_in office.now) (calls.Submit application.now p)) }
 {
     let what = find(alloc, office.base(), office.state(), application)?;
     Ok(Proposal {
@@ -113,7 +114,6 @@ fn proposed(alloc: Global, office: &Office, application: &Application) -> Result
 }
 
 // Makes a call, which is answered by this.
-#[tactic(auto, using(crate::proofs::Later::base_stays))]
 fn tell<L: Ledger>(
     rt: &impl Abort,
     alloc: Global,
@@ -126,7 +126,9 @@ fn tell<L: Ledger>(
     requires caller { caller < 65536 }
     requires asked { MayAsk office.old.base (machine_in office.old) call }
     ensures base { office.new.base ≡ office.old.base }
-    ensures later { (a : Application) (p : Proposal) → MayAsk office.old.base (machine_in office.old) (calls.Submit a p) → MayAsk office.new.base (machine_in office.new) (calls.Submit a p) }
+    ensures later { (a : Application) (p : Proposal)
+        → MayAsk office.old.base (machine_in office.old) (calls.Submit a p)
+        → MayAsk office.new.base (machine_in office.new) (calls.Submit a p) }
 {
     let reply = office.step(caller, call, steps);
     assert_eq!(rt; format!(in alloc; "{reply:?}")?.as_str(), text);
@@ -258,7 +260,9 @@ fn close<L: Ledger>(
     text: &str,
 ) -> Result<(), Fail>
     ensures base { office.new.base ≡ office.old.base }
-    ensures later { (a : Application) (p : Proposal) → MayAsk office.old.base (machine_in office.old) (calls.Submit a p) → MayAsk office.new.base (machine_in office.new) (calls.Submit a p) }
+    ensures later { (a : Application) (p : Proposal)
+        → MayAsk office.old.base (machine_in office.old) (calls.Submit a p)
+        → MayAsk office.new.base (machine_in office.new) (calls.Submit a p) }
 {
     let change = Change::Closed { segment: 0, closed };
     tell(rt, alloc, office, steps, 1, Call::Post { change }, text)

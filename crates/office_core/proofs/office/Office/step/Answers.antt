@@ -1,56 +1,53 @@
-use Rattle.std.proofs.Common.{rules, ◌+◌, ◌<◌, ap, sym, subst, ◌∙◌, ◌≡◌, ◌∷◌, [], length, arith}
+use Rattle.std.proofs.Common.{rules, ◌+◌, ◌<◌, ◌≡◌, ◌∷◌, [], ap, sym, subst, ◌∙◌, length, arith}
 use Rattle.std.specs.List.{All}
-use Rattle.std.specs.Arc.{arc_value}
 use Rattle.std.proofs.lemmas.List.{length-append}
 use Rattle.std.proofs.lemmas.List.Elements.{All-append, All-cons, All-nil}
-use Rattle.restriction_log.specs.States.{AreOf}
-use Rattle.trip_analysis.specs.Bases.{BaseLists}
+use Rattle.road_graph.specs.Roads.{IsRoads}
+use Rattle.trip_analysis.specs.Bases.{AreTrains, BaseLists}
 use Rattle.office_core.specs.declared.entry.Entry.{Entry}
-use Rattle.office_core.specs.Machine.{IsGood, Machine, MayAsk, machine_at, machine_of}
-use Rattle.office_core.specs.Offices.{Opened, entry, machine_in}
-use Rattle.office_core.proofs.Founds.{of_base}
-use Rattle.office_core.proofs.Goods.{good_of}
-use Rattle.office_core.proofs.Histories.{enters, stepped}
+use Rattle.office_core.specs.declared.entry.Reply.{Reply}
+use Rattle.office_core.specs.Machine.{HasRoom, MayAsk}
+use Rattle.office_core.specs.Offices.{IsStep, Opened, entry, machine_in, seen_of}
+use Rattle.office_core.specs.Replies.{is_full}
+use Rattle.office_core.proofs.Counts.{has_room}
+use Rattle.office_core.proofs.Histories.{Goes, stepped}
+use Rattle.office_core.proofs.office.Office.step.Given.{Over}
 use Rattle.office_core.proofs.office.Office.step.Goals as goal
 
-pub answer-kept-requires-clause-good : goal.answer-kept-requires-clause-good
-answer-kept-requires-clause-good g c = let i = c.self.inside in let inv = c.self.invariant in
-    let m : Machine = machine_at i.log i.book i.day in
-    subst (λ (b : BaseLists). IsGood b m) (sym c.deref.ensures) (subst (IsGood (arc_value i.base)) inv.machine (good_of (arc_value i.base) i.opening i.history.items inv.roads inv.legal))
+pub answer-answer-requires-clause-room : goal.answer-answer-requires-clause-room
+answer-answer-requires-clause-room g c = let i = c.self.inside in let inv = c.self.invariant in
+    rw inv.machine (has_room i.register.base i.opening i.history.items inv.legal (omega (arith, c.if-len-self.false, c.len.ensures, inv.bounded)))
 
-pub answer-kept-requires-clause-of_base : goal.answer-kept-requires-clause-of_base
-answer-kept-requires-clause-of_base g c = let i = c.self.inside in let inv = c.self.invariant in
-    let here : AreOf (arc_value i.base).roads i.state = rw inv.state (of_base (arc_value i.base).roads i.log inv.roads inv.log) in
-    subst (λ (b : BaseLists). AreOf b.roads i.state) (sym c.deref.ensures) here
+-- what the step leaves
+went : (g : Over) (c : goal.After-push_reserved g) → Goes c.self.inside.register c.answer-answer.new.self c.self.inside.opening c.self.inside.history.items c.push_reserved.new.self.items (entry c.args.caller c.args.call c.into_replies-reply.result.0)
+went g c = let i = c.self.inside in let inv = c.self.invariant in let a = c.answer-answer in
+    stepped i.register a.new.self i.opening i.history.items c.push_reserved.new.self.items (entry c.args.caller c.args.call c.into_replies-reply.result.0) a.result inv.legal inv.machine
+    (subst (λ (o : Opened). MayAsk o.base (machine_in o) c.args.call) (sym c.self.view_is) c.requires.asked) c.into_replies-reply.ensures.kept a.ensures.base a.ensures.answer a.ensures.after c.push_reserved.ensures.items
 
 pub invariant_of-self : goal.invariant_of-self
-invariant_of-self g c = let i = c.self.inside in let inv = c.self.invariant in let r = c.answer-kept.result.0 in let n = c.answer-kept.new in
-    let m : Machine = machine_at i.log i.book i.day in
-    let next : Machine = machine_at n.log n.book n.day in
-    let e : Entry = entry c.args.caller c.args.call r in
-    let ask : MayAsk (arc_value i.base) (machine_of (arc_value i.base) i.opening i.history.items) c.args.call = subst (λ (o : Opened). MayAsk o.base (machine_in o) c.args.call) (sym c.self.view_is) c.requires.asked in
-    let s = stepped (arc_value i.base) c.deref.result.now i.opening i.history.items c.push_reserved.new.self.items m next e c.deref.ensures inv.legal inv.machine ask c.answer-kept.ensures.answer c.answer-kept.ensures.after c.push_reserved.ensures.items in
+invariant_of-self g c = let i = c.self.inside in let inv = c.self.invariant in let a = c.answer-answer in
+    let e : Entry = entry c.args.caller c.args.call c.into_replies-reply.result.0 in
     let longer : length c.push_reserved.new.self.items ≡ length i.history.items + 1 = ap length c.push_reserved.ensures.items ∙ omega (arith, length-append i.history.items (e ∷ [])) in
     record {
-      roads = inv.roads;
-      trains = inv.trains;
-      legal = s.legal;
-      machine = s.machine;
-      state = search rules;
-      known = search rules;
-      log = search rules;
-      callers = subst (All (λ (e : Entry). e.caller < 65536)) (sym c.push_reserved.ensures.items) (All-append (λ (e : Entry). e.caller < 65536) i.history.items (e ∷ []) inv.callers (All-cons (λ (e : Entry). e.caller < 65536) e [] c.requires.caller (All-nil (λ (e : Entry). e.caller < 65536))));
+      roads = subst (λ (b : BaseLists). IsRoads b.roads) (sym a.ensures.base) inv.roads;
+      trains = subst AreTrains (sym a.ensures.base) inv.trains;
+      legal = (went g c).legal;
+      machine = (went g c).machine;
+      callers = subst (All (λ (e : Entry). e.caller < 65536)) (sym c.push_reserved.ensures.items)
+          (All-append (λ (e : Entry). e.caller < 65536) i.history.items (e ∷ []) inv.callers (All-cons (λ (e : Entry). e.caller < 65536) e [] c.requires.caller (All-nil (λ (e : Entry). e.caller < 65536))));
       room = search rules;
-      few = search rules;
+      few = omega (arith, longer, c.if-len-self.false, c.len.ensures);
       bounded = inv.bounded;
     }
 
-pub returns : goal.returns
-returns g c = let i = c.self.inside in let inv = c.self.invariant in let r = c.answer-kept.result.0 in let n = c.answer-kept.new in
-    let m : Machine = machine_at i.log i.book i.day in
-    let next : Machine = machine_at n.log n.book n.day in
-    let e : Entry = entry c.args.caller c.args.call r in
-    let ask : MayAsk (arc_value i.base) (machine_of (arc_value i.base) i.opening i.history.items) c.args.call = subst (λ (o : Opened). MayAsk o.base (machine_in o) c.args.call) (sym c.self.view_is) c.requires.asked in
-    let s = stepped (arc_value i.base) c.deref.result.now i.opening i.history.items c.push_reserved.new.self.items m next e c.deref.ensures inv.legal inv.machine ask c.answer-kept.ensures.answer c.answer-kept.ensures.after c.push_reserved.ensures.items in
-    let room : length i.history.items < i.most = omega (arith, c.if-len-self.false, c.len.ensures) in
-    enters c.args.self.now (arc_value i.base) i.opening i.most i.history.items c.push_reserved.new.self.items m next c.args.caller c.args.call r c.answer-kept.result.1 c.self.view_is room c.answer-kept.ensures.same c.push_reserved.ensures.items s
+pub returns-clause-not_full : goal.returns-clause-not_full
+returns-clause-not_full g c = λ _. ap is_full (c.into_replies-reply.ensures.told ∙ sym c.into_replies-reply.ensures.kept) ∙ (went g c).not_full
+
+pub returns-clause-step : goal.returns-clause-step
+returns-clause-step g c = let i = c.self.inside in let r = c.into_replies-reply in
+    let next : Opened = record { base = c.answer-answer.new.self.base; opening = i.opening; most = i.most; history = c.push_reserved.new.self.items } in
+    λ _. subst (λ (o : Opened). IsStep o (entry c.args.caller c.args.call r.result.1) next) c.self.view_is
+    (subst (λ (k : Reply). IsStep (seen_of i) (entry c.args.caller c.args.call k) next) (r.ensures.kept ∙ sym r.ensures.told) (went g c).step)
+
+pub returns-clause-legal : goal.returns-clause-legal
+returns-clause-legal g c = (went g c).legal

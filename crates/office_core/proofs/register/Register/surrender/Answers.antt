@@ -1,0 +1,12 @@
+use Rattle.std.specs.Arc.{arc_value}
+use Rattle.office_core.specs.Machine.{machine_at}
+use Rattle.office_core.proofs.Goods.{good_surrendered}
+use Rattle.office_core.proofs.register.Register.surrender.Goals as goal
+
+pub invariant_of-self : goal.invariant_of-self
+invariant_of-self c = let i = c.self.inside in let inv = c.self.invariant in record {
+  roads = inv.roads;
+  good = rw c.surrender.ensures (good_surrendered (arc_value i.base) (machine_at i.log i.book i.day) c.args.number inv.good);
+  state = inv.state;
+  known = inv.known;
+}

@@ -1,0 +1,105 @@
+-- What contracts see of what an office keeps, and what its answers say of it.
+use Rattle.std.specs.Prelude.{◌≡◌, ℕ, ◌+◌, true, List, length, Option}
+use Rattle.std.specs.Arc.{arc_value}
+use Rattle.road_graph.specs.Roads.{IsRoads}
+use Rattle.restriction_log.specs.declared.change.Change.{Change}
+use Rattle.restriction_log.specs.States.{InForce}
+use Rattle.permit_book.specs.declared.permit.Permit.{Permit}
+use Rattle.trip_analysis.specs.declared.application.Application.{Application}
+use Rattle.trip_analysis.specs.declared.finding.What.{What}
+use Rattle.trip_analysis.specs.Bases.{BaseLists}
+use Rattle.trip_analysis.specs.Findings.{HoldsIn, IsFinding, first_meeting, leaving}
+use Rattle.trip_analysis.specs.Known.{AreKnown}
+use Rattle.office_core.specs.declared.entry.Call.{Call}
+use Rattle.office_core.specs.declared.entry.Reply.{Reply}
+use Rattle.office_core.specs.declared.entry.Reply.TheVariants as reply
+use Rattle.office_core.specs.declared.register.Register.TheInside.{Inside}
+use Rattle.office_core.specs.Recalls.{InForceMeetElsewhere, MeetsElsewhereIfInForce, recalled_by}
+use Rattle.office_core.specs.Replies.{is_issue, what_reply}
+use Rattle.office_core.specs.Machine.{IsGiven, IsGood, Machine, after, machine_at, may_lack, posted_reply, state_at, state_in, version_of, with_permit, with_posting}
+
+-- what the office is about, and the machine
+pub record RegisterParts : Type 0 where
+  pub base : BaseLists
+  pub machine : Machine
+
+abbrev pub parts_of : Inside → RegisterParts
+parts_of r = record { base = arc_value r.base; machine = machine_at r.log r.book r.day }
+
+-- the roads are in order; the postings, the permits and the day are as every legal history leaves them; the state is that of
+-- the postings, and the analyst knows it
+pub record IsKept (r : Inside) (parts : RegisterParts) : Type 0 where
+  pub roads : IsRoads parts.base.roads
+  pub good : IsGood parts.base parts.machine
+  pub state : r.state ≡ state_in parts.base parts.machine
+  pub known : AreKnown parts.base r.state r.analyst
+
+abbrev pub IsRegister : Inside → Type 0
+IsRegister r = IsKept r (parts_of r)
+
+-- what is in force on the roads, and what was at an earlier version
+abbrev pub state_now : RegisterParts → InForce
+state_now r = state_in r.base r.machine
+
+abbrev pub state_seen : RegisterParts → ℕ → InForce
+state_seen r seen = state_at r.base r.machine seen
+
+-- this is the answer to the call, where memory suffices
+abbrev pub Gives : RegisterParts → ℕ → Call → Reply → Type 0
+Gives r caller c given = IsGiven r.base r.machine caller c given
+
+-- this is what the call and its answer leave
+abbrev pub Leaves : RegisterParts → ℕ → Call → RegisterParts → Reply → Type 0
+Leaves r caller c next given = next.machine ≡ after r.base r.machine caller c given
+
+-- want of memory may be the answer to the call
+abbrev pub MayLack : RegisterParts → Call → Type 0
+MayLack r c = may_lack r.base r.machine c ≡ true
+
+-- the answer to what was found for a truck
+abbrev pub found_reply : RegisterParts → ℕ → What → Reply
+found_reply r truck w = what_reply r.base (state_now r) (version_of r.machine) (length r.machine.permits + 1) truck w
+
+abbrev pub IsReplyTo : RegisterParts → ℕ → What → Reply → Type 0
+IsReplyTo r truck w given = given ≡ found_reply r truck w
+
+-- that answer issues a permit
+abbrev pub Issues : RegisterParts → ℕ → What → Type 0
+Issues r truck w = is_issue (found_reply r truck w) ≡ true
+
+-- this is found now, and what was found held at this version
+abbrev pub IsFoundNow : RegisterParts → Application → What → Type 0
+IsFoundNow r a w = IsFinding r.base (state_now r) a w
+
+abbrev pub HeldAt : RegisterParts → ℕ → ℕ → What → Type 0
+HeldAt r seen truck w = HoldsIn r.base (state_seen r seen) truck w
+
+-- the answer that issues the next permit
+abbrev pub next_issue : RegisterParts → List ℕ → Reply
+next_issue r route = reply.Issued (length r.machine.permits + 1) (version_of r.machine) route
+
+-- this is what an answer to an application leaves, for which something was found at this version
+abbrev pub Permits : RegisterParts → ℕ → Application → ℕ → RegisterParts → Reply → Type 0
+Permits r caller a seen next given = next.machine ≡ with_permit r.machine caller a seen given
+
+-- the answer to a posting, and what it leaves
+abbrev pub posting_reply : RegisterParts → Change → Reply
+posting_reply r change = posted_reply r.base r.machine change
+
+abbrev pub Posts : RegisterParts → Change → RegisterParts → Reply → Type 0
+Posts r change next given = next.machine ≡ with_posting r.base r.machine change given
+
+-- the least segment out of these nodes that a truck may pass
+abbrev pub least_out : BaseLists → InForce → ℕ → List ℕ → Option ℕ
+least_out base state truck nodes = first_meeting base state truck (leaving base.roads nodes)
+
+-- the permits that a state recalls
+abbrev pub recalls_of : RegisterParts → InForce → List ℕ
+recalls_of r state = recalled_by r.base state r.machine.day r.machine.permits
+
+-- the permit, or each permit, if it is in force, meets its truck in a state at all of its segments but this one
+abbrev pub PermitMeetsElsewhere : RegisterParts → InForce → ℕ → Permit → Type 0
+PermitMeetsElsewhere r state segment p = MeetsElsewhereIfInForce r.base state segment r.machine.day p
+
+abbrev pub MeetElsewhere : RegisterParts → InForce → ℕ → Type 0
+MeetElsewhere r state segment = InForceMeetElsewhere r.base state segment r.machine.day r.machine.permits
