@@ -10,6 +10,7 @@ use Rattle.axle_limits.specs.declared.finding.Finding.{Finding}
 use Rattle.axle_limits.specs.declared.group.Rule.{Rule}
 use Rattle.axle_limits.specs.declared.group.Rule.TheVariants.{Single, Tandem, Formula, TwoTandem, Gross}
 use Rattle.axle_limits.specs.Findings.{findings_of}
+use Rattle.axle_limits.specs.declared.legal.TheConstants.{LEGAL_HEIGHT, LEGAL_WIDTH}
 use Rattle.influence_line.specs.Fractions.{ratio_text}
 use Rattle.influence_line.specs.declared.placing.End.{End}
 use Rattle.influence_line.specs.declared.placing.End.TheVariants.{Left, Right}
@@ -49,13 +50,19 @@ abbrev pub over_line : Finding → List ℕ
 over_line f =
     codes "over " ++ (decimal (f.i + 1) ++ (codes "-" ++ (decimal (f.j + 1) ++ (codes " " ++ (decimal f.weight ++ (codes " " ++ (decimal f.limit ++ (codes " " ++ (rule_name f.rule ++ (10 ∷ []))))))))))
 
--- high H 162, where the height is over 162 in
+-- high H 162, where the height is over the legal one
 abbrev pub high_line : LoadParts → List ℕ
-high_line load = if nat_lt 162 load.height then codes "high " ++ (decimal load.height ++ (codes " 162" ++ (10 ∷ []))) else []
+high_line load =
+    if nat_lt LEGAL_HEIGHT load.height
+    then codes "high " ++ (decimal load.height ++ (codes " " ++ (decimal LEGAL_HEIGHT ++ (10 ∷ []))))
+    else []
 
--- wide W 102, where the width is over 102 in (23 CFR 658.15)
+-- wide W 102, where the width is over the legal one
 abbrev pub wide_line : LoadParts → List ℕ
-wide_line load = if nat_lt 102 load.width then codes "wide " ++ (decimal load.width ++ (codes " 102" ++ (10 ∷ []))) else []
+wide_line load =
+    if nat_lt LEGAL_WIDTH load.width
+    then codes "wide " ++ (decimal load.width ++ (codes " " ++ (decimal LEGAL_WIDTH ++ (10 ∷ []))))
+    else []
 
 -- whether the load is legal
 abbrev pub legal_line : LoadParts → List ℕ

@@ -7,7 +7,7 @@ ghost use Rattle.span_rating.specs.Loading.{AreSmall};
 ghost use Rattle.day_text.specs.Spans.{AreSpans, IsSpan};
 ghost use Rattle.check_report.specs.Reports.{AddsProbe, AddsProbes, Grew, HasOneReport, IsOnlyReport, IsReport, ReportIsOne, design_line, end_name, fit_name, high_line, judgement_text, legal_line, moment_line, over_line, peaks_text, rating_line, rule_name, shear_line, truck_line, truck_text, wide_line};
 
-use axle_limits::{Finding, Rule, findings};
+use axle_limits::{Finding, LEGAL_HEIGHT, LEGAL_WIDTH, Rule, findings};
 use axle_train::Train;
 use clearance_rules::Load;
 use day_text::{CheckFile, Probe};
@@ -119,8 +119,8 @@ fn add_height(text: &mut String, load: &Load) -> Result<(), AllocError>
     ensures { OnOk result (Grew text.old text.new (high_line load.now)) }
 {
     let height = load.height();
-    if height > 162 {
-        return write!(text, "high {height} 162\n");
+    if height > LEGAL_HEIGHT {
+        return write!(text, "high {height} {LEGAL_HEIGHT}\n");
     }
     Ok(())
 }
@@ -130,8 +130,8 @@ fn add_width(text: &mut String, load: &Load) -> Result<(), AllocError>
     ensures { OnOk result (Grew text.old text.new (wide_line load.now)) }
 {
     let width = load.width();
-    if width > 102 {
-        return write!(text, "wide {width} 102\n");
+    if width > LEGAL_WIDTH {
+        return write!(text, "wide {width} {LEGAL_WIDTH}\n");
     }
     Ok(())
 }
