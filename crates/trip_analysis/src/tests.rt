@@ -43,14 +43,14 @@ fn numbers(alloc: Global, text: &str) -> Result<Vec<u32>, Fail> {
     Ok(list)
 }
 
-// Nodes 0, 1 and 2, and segments of 1,000 ft, each written FROM,TO.
+// Nodes 0, 1 and 2, and segments of 1,000 ft, each written and named FROM-TO.
 fn roads(rt: &impl Abort, alloc: Global, segments: &str) -> Network {
     let mut network = Network::new(alloc);
     for name in [b"a", b"b", b"c"] {
         network.add_node(named(rt, name)).expect(rt, "a node");
     }
     for segment in segments.split_whitespace() {
-        let mut ends = segment.split(',');
+        let mut ends = segment.split('-');
         let from = number(ends.next().unwrap_or(""));
         let to = number(ends.next().unwrap_or(""));
         network
@@ -61,7 +61,7 @@ fn roads(rt: &impl Abort, alloc: Global, segments: &str) -> Network {
 }
 
 // Two ways from node 0 to node 1: segment 0, and segments 1 and 2 by node 2.
-const TWO_WAYS: &str = "0,1 0,2 2,1";
+const TWO_WAYS: &str = "0-1 0-2 2-1";
 
 // A truck of 102 in by 720 in whose axles are within the limits of 23 CFR 658.17: 20,000 lb an axle, 34,000 lb for the
 // tandem of 48 in, and by the formula 45,000 lb for the first two axles and 50,000 lb for all three.
@@ -250,13 +250,13 @@ fn finds_a_route_or_why_there_is_none(rt: HostRuntime) -> Result<(), Fail> {
 
 // Roads, an application, what is posted on segments one after another, and what is found before and after each posting.
 const TURNS: &str = "\
-0,1 0,2 2,1/0,0,1,-,2026-03-02,2026-03-02/closed,0,1/route [0]; route [1, 2]
-0,1/0,0,1,-,2026-03-02,2026-03-02/height,0,160 height,0,168/route [0]; cut [0]; route [0]
-0,2/0,0,1,-,2026-03-02,2026-03-02/closed,0,1/cut [0, 2]; cut [0, 2]
-0,2/0,0,2,-,2026-03-02,2026-03-02/closed,0,1/route [0]; cut [0]
-0,2/0,0,2,0,2026-03-02,2026-03-02/closed,0,1/route [0]; fails 0
-0,1/1,0,1,-,2026-03-02,2026-03-02/closed,0,1/not needed; not needed
-0,1 0,2 2,1/0,0,1,-,2026-03-02,2026-03-02/closed,1,1 closed,0,1 closed,1,0 closed,0,0/route [0]; route [0]; cut [0]; route [1, 2]; route [0]
+0-1 0-2 2-1/0,0,1,-,2026-03-02,2026-03-02/closed,0,1/route [0]; route [1, 2]
+0-1/0,0,1,-,2026-03-02,2026-03-02/height,0,160 height,0,168/route [0]; cut [0]; route [0]
+0-2/0,0,1,-,2026-03-02,2026-03-02/closed,0,1/cut [0, 2]; cut [0, 2]
+0-2/0,0,2,-,2026-03-02,2026-03-02/closed,0,1/route [0]; cut [0]
+0-2/0,0,2,0,2026-03-02,2026-03-02/closed,0,1/route [0]; fails 0
+0-1/1,0,1,-,2026-03-02,2026-03-02/closed,0,1/not needed; not needed
+0-1 0-2 2-1/0,0,1,-,2026-03-02,2026-03-02/closed,1,1 closed,0,1 closed,1,0 closed,0,0/route [0]; route [0]; cut [0]; route [1, 2]; route [0]
 ";
 
 // What a text posts: KIND,SEGMENT,VALUE.
