@@ -285,14 +285,10 @@ fn found_in_turn<L: Ledger>(
     base: &Base,
     application: &Application,
     postings: &str,
-    blank: Blank,
+    steps: &mut Steps<L>,
 ) -> Result<String, Fail>
-    requires sound { Sound base.now application.now }
-    requires name { blank.name ≡ L.name }
-    requires parts { blank.parts ≡ L.parts }
-    requires some { 0 < blank.parts }
+    requires { Sound base.now application.now }
 {
-    let mut steps = Steps::<L>::new(blank);
     base.network().lists_are_in_order();
     let mut state = State::base(alloc, base.network())?;
     let mut analyst = Analyst::new(alloc, base)?;
@@ -301,7 +297,7 @@ fn found_in_turn<L: Ledger>(
         let change = posted(text);
         assert!(rt; takes(base.network(), &change));
         let next = state.with(alloc, &change)?;
-        analyst.turn(base, &state, &next, &change, &mut steps);
+        analyst.turn(base, &state, &next, &change, steps);
         state = next;
         let kept = told(alloc, &analyst.find(alloc, base, &state, application)?)?;
         let anew = told(alloc, &find(alloc, base, &state, application)?)?;
@@ -312,19 +308,28 @@ fn found_in_turn<L: Ledger>(
     Ok(all)
 }
 
-#[test]
-fn goes_on_from_posting_to_posting(rt: HostRuntime) -> Result<(), Fail> {
+// The same for each line, with one counter.
+fn found_in_each<L: Ledger>(rt: &impl Abort, alloc: Global, blank: Blank) -> Result<(), Fail>
+    requires name { blank.name ≡ L.name }
+    requires parts { blank.parts ≡ L.parts }
+    requires some { 0 < blank.parts }
+{
+    let mut steps = Steps::<L>::new(blank);
     for line in TURNS.lines() {
         let mut parts = line.split('/');
-        let base = base(&rt, rt.alloc(), parts.next().unwrap_or(""))?;
+        let base = base(rt, alloc, parts.next().unwrap_or(""))?;
         let text = parts.next().unwrap_or("");
-        let application = applied(&rt, rt.alloc(), &base, text)?.expect(&rt, "an application");
+        let application = applied(rt, alloc, &base, text)?.expect(rt, "an application");
         let postings = parts.next().unwrap_or("");
-        let blank = Blank::new(1);
-        let all = found_in_turn::<Brand>(&rt, rt.alloc(), &base, &application, postings, blank)?;
+        let all = found_in_turn(rt, alloc, &base, &application, postings, &mut steps)?;
         assert_eq!(rt; all.as_str(), parts.next().unwrap_or(""), "{line}");
     }
     Ok(())
+}
+
+#[test]
+fn goes_on_from_posting_to_posting(rt: HostRuntime) -> Result<(), Fail> {
+    found_in_each::<Brand>(&rt, rt.alloc(), Blank::new(1))
 }
 
 // Whether the limit is that of segment 1, which at 167 in is too low for truck 0.
