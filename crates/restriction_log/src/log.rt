@@ -33,7 +33,7 @@ impl Model for Log {
 }
 
 impl Log {
-    ghost use Rattle.std.specs.Prelude.{◌≡◌, ◌+◌, ◌<◌, ◌≤◌, ◌++◌, ◌∷◌, [], length, drop, false, None, IfOk, IfErr, OnOk, OnErr};
+    ghost use Rattle.std.specs.Prelude.{◌≡◌, ◌+◌, ◌<◌, ◌≤◌, ◌++◌, ◌∷◌, [], length, drop, false, nat_le, None, IfOk, IfErr, OnOk, OnErr};
     ghost use Rattle.restriction_log.specs.Changes.{AreTaken, is_touched};
     ghost use Rattle.restriction_log.specs.States.{AgreeSince};
     ghost use Rattle.restriction_log.specs.Logs.{post_refusal, IsPostCause};
@@ -64,10 +64,10 @@ impl Log {
         if !takes(network, &change) {
             return Err(PostRefusal::Range);
         }
-        let version = self.changes.len();
-        if version >= MOST_POSTINGS {
+        if self.is_full() {
             return Err(PostRefusal::Full);
         }
+        let version = self.changes.len();
         self.changes.reserve(1)?;
         self.changes.push_reserved(change);
         Ok(version as u32 + 1)
@@ -79,6 +79,13 @@ impl Log {
         ensures few { result ≤ 1000000 }
     {
         self.changes.len() as u32
+    }
+
+    /// Whether there is no number left for a posting. Takes no memory.
+    pub fn is_full(&self) -> bool
+        ensures { result ≡ nat_le 1000000 (length self.now) }
+    {
+        self.changes.len() >= MOST_POSTINGS
     }
 
     /// Whether a posting numbered above `after` names the segment or one of its spans. Takes no memory.

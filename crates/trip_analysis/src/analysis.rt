@@ -8,7 +8,7 @@ ghost use Rattle.trip_analysis.specs.Findings.{IsFinding, IsFoundBy, IsSearched,
 
 use crate::application::Application;
 use crate::base::Base;
-use crate::finding::{Failing, What};
+use crate::finding::{Failing, Proposal, What};
 use crate::passing::{first_on_by, flags, train_of};
 use clearance_rules::Steps;
 use hs20_truck::Live;
@@ -16,6 +16,7 @@ use office_io::NoMemory;
 use restriction_log::State;
 use road_graph::{Network, Numbers};
 use route_search::{Found, search};
+use snapshot_store::Snapshot;
 use span_rating::SpanStudy;
 use std::alloc::Global;
 use std::marker::Brand;
@@ -40,6 +41,26 @@ pub fn find(
         train: train_of(base, application.truck()),
     };
     find_by(alloc, base, state, application, &study)
+}
+
+/// What is found for the application in the state of a snapshot, with the snapshot's version. `NoMemory` where no memory was
+/// left.
+pub fn analyse(
+    alloc: Global,
+    base: &Base,
+    snapshot: &Snapshot,
+    application: &Application,
+) -> Result<Proposal, NoMemory>
+    requires state { AreOf base.now.roads snapshot.now.state }
+    requires sound { Sound base.now application.now }
+    ensures seen { IfOk result (λ proposal. proposal.seen ≡ snapshot.now.version) }
+    ensures found { IfOk result (λ proposal. IsFinding base.now snapshot.now.state application.now proposal.what) }
+{
+    let what = find(alloc, base, snapshot.state(), application)?;
+    Ok(Proposal {
+        seen: snapshot.version(),
+        what,
+    })
 }
 
 /// The same by a study of the truck's axles.

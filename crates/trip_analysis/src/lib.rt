@@ -21,7 +21,7 @@ mod leaving;
 mod passing;
 mod refusal;
 
-pub use analysis::{find, find_by};
+pub use analysis::{analyse, find, find_by};
 pub use analyst::{Analyst, Known};
 pub use application::Application;
 pub use base::{Base, Truck};

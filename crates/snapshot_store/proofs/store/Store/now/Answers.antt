@@ -1,0 +1,5 @@
+use Rattle.snapshot_store.proofs.Keeping.{now_is_of}
+use Rattle.snapshot_store.proofs.store.Store.now.Goals as goal
+
+pub returns-clause-of_network : goal.returns-clause-of_network
+returns-clause-of_network c = rw c.deref.ensures (now_is_of c.self.inside _ c.self.view_is c.self.invariant)

@@ -1,0 +1,4 @@
+pub mod Stores
+pub use Rattle.restriction_log.specs.Changes
+pub use Rattle.restriction_log.specs.States
+pub use Rattle.restriction_log.specs.Logs

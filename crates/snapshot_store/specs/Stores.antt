@@ -1,0 +1,57 @@
+-- What contracts see of a store, of a snapshot, and of a posting that is not in force yet.
+use Rattle.std.specs.Prelude.{◌≡◌, ◌<◌, ◌++◌, ◌∷◌, [], ℕ, true, List, length}
+use Rattle.std.specs.Arc.{arc_value}
+use Rattle.road_graph.specs.Roads.{IsRoads, Roads}
+use Rattle.restriction_log.specs.declared.change.Change.{Change}
+use Rattle.restriction_log.specs.Changes.{AreTaken, takes}
+use Rattle.restriction_log.specs.States.{InForce, state_of}
+use Rattle.snapshot_store.specs.declared.store.Store.TheInside.{Inside}
+
+-- the network that a store is of, and what was posted on it
+pub record Stored : Type 0 where
+  pub roads : Roads
+  pub postings : List Change
+
+-- a version, and what was in force at it
+pub record Versioned : Type 0 where
+  pub version : ℕ
+  pub state : InForce
+
+-- a change, and what would be in force
+pub record NextState : Type 0 where
+  pub change : Change
+  pub state : InForce
+
+-- a store of this network on which nothing is posted
+abbrev pub newly_stored : Roads → Stored
+newly_stored roads = record { roads = roads; postings = [] }
+
+-- the version is the number of the last posting
+abbrev pub version_of : Stored → ℕ
+version_of s = length s.postings
+
+-- what is in force
+abbrev pub state_now : Stored → InForce
+state_now s = state_of s.roads s.postings
+
+-- the store with one posting more
+abbrev pub with_change : Stored → Change → Stored
+with_change s change = record s { postings = s.postings ++ change ∷ [] }
+
+-- the network takes the change, there is a number left for it, and this is the state that it makes
+pub record IsNextOf (s : Stored) (next : NextState) : Type 0 where
+  pub takes : takes s.roads next.change ≡ true
+  pub room : version_of s < 1000000
+  pub state : next.state ≡ state_now (with_change s next.change)
+
+abbrev pub stored_in : Inside → Stored
+stored_in s = record { roads = s.network.value; postings = s.log }
+
+-- the lists of the network are in order, it takes each posting, and the state is that of the postings
+pub record IsKept (s : Stored) (kept : InForce) : Type 0 where
+  pub roads : IsRoads s.roads
+  pub taken : AreTaken s.roads s.postings
+  pub state : kept ≡ state_now s
+
+abbrev pub IsStore : Inside → Type 0
+IsStore s = IsKept (stored_in s) (arc_value s.state)
