@@ -1,7 +1,7 @@
 -- What the calls of one caller leave. Others may call the same office between them.
 use Rattle.std.specs.Prelude.{◌≡◌, ◌≤◌, ◌++◌, ◌∷◌, [], ℕ, List, length, Option, Some, None, Bool, false, if◌then◌else◌, nat_le}
 use Rattle.std.specs.Borrow.{GName}
-use Rattle.snapshot_store.specs.Stores.{Versioned}
+use Rattle.snapshot_store.specs.Stores.{Stored, version_of}
 use Rattle.trip_analysis.specs.Bases.{BaseLists}
 use Rattle.office_core.specs.declared.entry.Call.{Call}
 use Rattle.office_core.specs.declared.entry.Call.TheVariants as call
@@ -10,7 +10,7 @@ use Rattle.office_core.specs.declared.entry.Reply.{Reply}
 use Rattle.office_core.specs.declared.entry.Reply.TheVariants as reply
 use Rattle.office_core.specs.declared.calls.Looked.{Looked}
 use Rattle.office_core.specs.declared.calls.Looked.TheVariants as looked
-use Rattle.office_core.specs.Machine.{IsLegal, Machine, entries_by, machine_of, state_in, version_of}
+use Rattle.office_core.specs.Machine.{IsLegal, Machine, entries_by, machine_of}
 use Rattle.office_core.specs.Offices.{Opened, entry}
 use Rattle.office_core.specs.Replies.{is_full}
 
@@ -62,14 +62,13 @@ module _ {P : Type 0} where
     pub full : (most : ℕ) → r ≡ reply.Full most → Stopped v most w
     pub entry : is_full r ≡ false → Added v (entry v.who.caller c r) w
 
-  -- the snapshot is of the version and the state that the history seen leaves
-  pub record IsSnapshotOf (v : Calling P) (s : Versioned) : Type 0 where
-    pub version : s.version ≡ version_of (machine_seen v)
-    pub state : s.state ≡ state_in v.who.base (machine_seen v)
+  -- what the history seen has posted on the roads of the office
+  abbrev pub stored_seen : Calling P → Stored
+  stored_seen v = record { roads = v.who.base.roads; postings = (machine_seen v).postings }
 
-  -- A look at the office was answered. It has its entry also where no memory was left for the snapshot.
+  -- A look at the office was answered: by a snapshot of what is then posted. It has its entry also where no memory was left for the snapshot.
   abbrev pub Looks : Calling P → Looked → Calling P → Type 0
-  Looks v (looked.At s) w = Answered v call.Snapshot (reply.SnapshotAt s.version) w × IsSnapshotOf w s
+  Looks v (looked.At s) w = Answered v call.Snapshot (reply.SnapshotAt (version_of s)) w × (s ≡ stored_seen w)
   Looks v looked.NoMemory w = (version : ℕ) × Answered v call.Snapshot (reply.SnapshotAt version) w
   Looks v (looked.Full most) w = Answered v call.Snapshot (reply.Full most) w
 

@@ -8,7 +8,7 @@ use Rattle.restriction_log.proofs.Standing.{named_of, state_is_of, stays_of}
 use Rattle.snapshot_store.specs.declared.store.Store.TheInside.{Inside}
 use Rattle.snapshot_store.specs.Stores.{IsKept, IsStore, Stored, stored_in}
 
-kept_is_of : (s : Stored) (kept : InForce) → IsKept s kept → AreOf s.roads kept
+pub kept_is_of : (s : Stored) (kept : InForce) → IsKept s kept → AreOf s.roads kept
 kept_is_of s kept is = rw is.state (state_is_of s.roads s.postings is.roads is.taken)
 
 -- what is in force is of the network, and has what the network takes

@@ -1,5 +1,5 @@
 -- What contracts see of a store, of a snapshot, and of a posting that is not in force yet.
-use Rattle.std.specs.Prelude.{◌≡◌, ◌<◌, ◌++◌, ◌∷◌, [], ℕ, true, List, length}
+use Rattle.std.specs.Prelude.{◌≡◌, ◌<◌, ◌≤◌, ◌++◌, ◌∷◌, [], ℕ, true, List, length}
 use Rattle.std.specs.Arc.{arc_value}
 use Rattle.road_graph.specs.Roads.{IsRoads, Roads}
 use Rattle.restriction_log.specs.declared.change.Change.{Change}
@@ -11,11 +11,6 @@ use Rattle.snapshot_store.specs.declared.store.Store.TheInside.{Inside}
 pub record Stored : Type 0 where
   pub roads : Roads
   pub postings : List Change
-
--- a version, and what was in force at it
-pub record Versioned : Type 0 where
-  pub version : ℕ
-  pub state : InForce
 
 -- a change, and what would be in force
 pub record NextState : Type 0 where
@@ -47,10 +42,12 @@ pub record IsNextOf (s : Stored) (next : NextState) : Type 0 where
 abbrev pub stored_in : Inside → Stored
 stored_in s = record { roads = s.network.value; postings = s.log }
 
--- the lists of the network are in order, it takes each posting, and the state is that of the postings
+-- the lists of the network are in order, it takes each posting, of which there are not too many, and the state that is kept
+-- is that of the postings
 pub record IsKept (s : Stored) (kept : InForce) : Type 0 where
   pub roads : IsRoads s.roads
   pub taken : AreTaken s.roads s.postings
+  pub few : version_of s ≤ 1000000
   pub state : kept ≡ state_now s
 
 abbrev pub IsStore : Inside → Type 0

@@ -1,40 +1,52 @@
 // A version and its state.
 
+use crate::store::Store;
 use restriction_log::State;
 use std::alloc::Global;
 use std::marker::Model;
+use std::snapshot::Snapshot as Told;
 use std::sync::Arc;
 
-/// A version, and the state that was in force at it. It has the state in common with the store and with the other snapshots
-/// of the version.
+/// A version of what is posted on a network, and its state, which it has in common with the store and with the other
+/// snapshots of the version.
+///
+/// Contracts see the network and the postings of the version, as those of a store.
 #[derive(Drop)]
 pub struct Snapshot {
+    // has no bytes: it tells contracts what the store had when the snapshot was taken
+    pub(crate) store: Told<Store>,
     pub(crate) version: u32,
     pub(crate) state: Arc<State, Global>,
 }
 
 impl Model for Snapshot {
-    ghost use Rattle.std.specs.Arc.{arc_value};
-    ghost use Rattle.snapshot_store.specs.Stores.{Versioned};
+    ghost use Rattle.snapshot_store.specs.Stores.{Stored};
+    ghost use Rattle.snapshot_store.specs.Snapshots.{IsSnapshot};
 
-    ghost Value = { Versioned };
+    ghost Value = { Stored };
 
-    ghost view = { λ s. record { version = s.version; state = arc_value s.state } };
+    ghost view = { λ s. s.store.value };
+
+    ghost invariant = { IsSnapshot };
 }
 
 impl Snapshot {
-    ghost use Rattle.std.specs.Prelude.{◌≡◌};
+    ghost use Rattle.std.specs.Prelude.{◌≡◌, ◌≤◌};
+    ghost use Rattle.restriction_log.specs.States.{AreOf};
+    ghost use Rattle.snapshot_store.specs.Stores.{state_now, version_of};
 
     /// The number of the last posting before it was taken. Takes no memory.
     pub fn version(&self) -> u32
-        ensures { result ≡ self.now.version }
+        ensures count { result ≡ version_of self.now }
+        ensures few { result ≤ 1000000 }
     {
         self.version
     }
 
     /// What was in force then. Takes no memory.
     pub fn state(&self) -> &State
-        ensures { result.now ≡ self.now.state }
+        ensures value { result.now ≡ state_now self.now }
+        ensures of_network { AreOf self.now.roads result.now }
     {
         &self.state
     }

@@ -74,11 +74,10 @@ impl Store {
 
     /// The current version, as one more owner of its state. `NoMemory` where no further owner can be had.
     pub fn snapshot(&self) -> Result<Snapshot, NoMemory>
-        ensures version { IfOk result (λ snapshot. snapshot.version ≡ version_of self.now) }
-        ensures state { IfOk result (λ snapshot. snapshot.state ≡ state_now self.now) }
-        ensures of_network { IfOk result (λ snapshot. AreOf self.now.roads snapshot.state) }
+        ensures { IfOk result (λ snapshot. snapshot ≡ self.now) }
     {
         Ok(Snapshot {
+            store: Told::of(self),
             version: self.log.version(),
             state: Arc::try_clone(&self.state)?,
         })

@@ -3,6 +3,7 @@ use Rattle.std.specs.Prelude.{◌≡◌, ℕ, ◌+◌, ◌-◌, ◌<◌, ◌≤�
 use Rattle.std.specs.List.{list_any, range_with_len}
 use Rattle.restriction_log.specs.States.{InForce}
 use Rattle.road_graph.specs.Roads.{Roads, segment_at}
+use Rattle.snapshot_store.specs.Stores.{Stored, state_now}
 use Rattle.clearance_rules.specs.declared.limit.Limit.{Limit}
 use Rattle.clearance_rules.specs.Loads.{is_legal}
 use Rattle.clearance_rules.specs.Limits.{limit_of}
@@ -94,6 +95,10 @@ IsFoundBy base state a None w = IsSearched base.roads (flags_of base state a.tru
 pub record IsFinding (base : BaseLists) (state : InForce) (a : Application) (w : What) : Type 0 where
   pub legal : needs_none base a.truck ≡ true → w ≡ what.NotNeeded
   pub found : needs_none base a.truck ≡ false → IsFoundBy base state a a.asked w
+
+-- the same in what was in force with these postings
+abbrev pub IsFoundAt : BaseLists → Stored → Application → What → Type 0
+IsFoundAt base stored a w = IsFinding base (state_now stored) a w
 
 -- the segments that are found are there, and the nodes of a cut rise
 abbrev pub InRange : BaseLists → What → Type 0

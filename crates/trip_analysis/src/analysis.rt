@@ -2,9 +2,10 @@
 
 ghost use Rattle.std.specs.Prelude.{◌≡◌, ◌<◌, length, None, IfOk};
 ghost use Rattle.restriction_log.specs.States.{AreOf};
+ghost use Rattle.snapshot_store.specs.Stores.{version_of};
 ghost use Rattle.trip_analysis.specs.Applications.{Sound};
 ghost use Rattle.trip_analysis.specs.Bases.{train_of};
-ghost use Rattle.trip_analysis.specs.Findings.{IsFinding, IsFoundBy, IsSearched, asked_finding, what_of};
+ghost use Rattle.trip_analysis.specs.Findings.{IsFinding, IsFoundAt, IsFoundBy, IsSearched, asked_finding, what_of};
 
 use crate::application::Application;
 use crate::base::Base;
@@ -51,10 +52,10 @@ pub fn analyse(
     snapshot: &Snapshot,
     application: &Application,
 ) -> Result<Proposal, NoMemory>
-    requires state { AreOf base.now.roads snapshot.now.state }
+    requires roads { snapshot.now.roads ≡ base.now.roads }
     requires sound { Sound base.now application.now }
-    ensures seen { IfOk result (λ proposal. proposal.seen ≡ snapshot.now.version) }
-    ensures found { IfOk result (λ proposal. IsFinding base.now snapshot.now.state application.now proposal.what) }
+    ensures seen { IfOk result (λ proposal. proposal.seen ≡ version_of snapshot.now) }
+    ensures found { IfOk result (λ proposal. IsFoundAt base.now snapshot.now application.now proposal.what) }
 {
     let what = find(alloc, base, snapshot.state(), application)?;
     Ok(Proposal {
