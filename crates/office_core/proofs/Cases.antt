@@ -1,6 +1,5 @@
 -- What holds of each case of an answer to an application holds of the answer.
-use Rattle.std.proofs.Common.{◌≡◌, ◌∷◌, [], List, ℕ, ◌+◌, ◌⊎◌, inl, inr, true, false, ap, sym, subst, refl, ◌∙◌, Option, Some, None, length, not, nat_eq, if◌then◌else◌, is_none, unwrap_or, arith}
-use Rattle.road_graph.specs.Roads.{IsRoads}
+use Rattle.std.proofs.Common.{◌≡◌, ◌∷◌, [], List, ℕ, ◌+◌, ◌⊎◌, inl, inr, true, false, ap, sym, refl, ◌∙◌, Option, Some, None, length, not, nat_eq, if◌then◌else◌, unwrap_or, arith}
 use Rattle.restriction_log.specs.States.{InForce}
 use Rattle.restriction_log.specs.Changes.{takes}
 use Rattle.clearance_rules.specs.declared.limit.Limit.{Limit}
@@ -11,8 +10,7 @@ use Rattle.trip_analysis.specs.declared.application.Application.{Application}
 use Rattle.trip_analysis.specs.declared.finding.Failing.{Failing}
 use Rattle.trip_analysis.specs.declared.finding.What.{What}
 use Rattle.trip_analysis.specs.Bases.{BaseLists}
-use Rattle.trip_analysis.specs.Applications.{Sound}
-use Rattle.trip_analysis.specs.Findings.{limit_for, first_on, first_meeting, leaving, HoldsIn}
+use Rattle.trip_analysis.specs.Findings.{limit_for, first_on, first_meeting, leaving}
 use Rattle.office_core.specs.declared.entry.Call.{Call}
 use Rattle.office_core.specs.declared.entry.Reply.{Reply}
 use Rattle.office_core.specs.Replies.{route_reply, fails_reply, refused_or, cut_reply, what_reply, is_late, is_free, early_reply, apply_reply, day_reply, surrender_reply, shown, show_reply, is_full}
@@ -21,7 +19,6 @@ use Rattle.office_core.specs.declared.entry.Call.TheVariants as call
 use Rattle.office_core.specs.declared.entry.Reply.TheVariants as reply
 use Rattle.office_core.specs.declared.entry.Cause.TheVariants as cause
 use Rattle.trip_analysis.specs.declared.finding.What.TheVariants as what
-use Rattle.trip_analysis.proofs.Found.{found_holds}
 use Rattle.office_core.proofs.Lists.{pick}
 
 module _ (base : BaseLists) (state : InForce) (v : ℕ) (day : List ℕ) (number : ℕ) (a : Application) (w : What) where

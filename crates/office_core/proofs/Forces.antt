@@ -6,15 +6,14 @@ use Rattle.restriction_log.specs.States.{InForce, state_of}
 use Rattle.permit_days.specs.Days.{is_before}
 use Rattle.permit_book.specs.declared.permit.Permit.{Permit}
 use Rattle.permit_book.specs.declared.permit.Mark.{Mark}
-use Rattle.permit_book.specs.Permits.{in_force, is_in_force, status_of, status_by, is_live}
+use Rattle.permit_book.specs.Permits.{is_in_force, status_of, status_by, is_live}
 use Rattle.trip_analysis.specs.declared.application.Application.{Application}
 use Rattle.trip_analysis.specs.Bases.{BaseLists}
 use Rattle.office_core.specs.declared.entry.Call.{Call}
 use Rattle.office_core.specs.declared.entry.Reply.{Reply}
-use Rattle.office_core.specs.declared.entry.Entry.{Entry}
 use Rattle.office_core.specs.Recalls.{InForceMeet, MeetsIfInForce, is_recalled, recalled_if}
 use Rattle.office_core.specs.Replies.{day_reply}
-use Rattle.office_core.specs.Machine.{Machine, opened, version_of, state_in, reply_in, IsAnswer, with_permit, with_posting, with_day, with_surrender, after, after_entry, after_all, IsLegalFrom, IsLegal, machine_of}
+use Rattle.office_core.specs.Machine.{Machine, version_of, state_in, reply_in, IsAnswer, with_permit, with_posting, with_day, with_surrender, after}
 use Rattle.permit_book.specs.declared.permit.Status.TheVariants as status
 use Rattle.permit_book.specs.declared.permit.Mark.TheVariants as mark
 use Rattle.office_core.specs.declared.entry.Call.TheVariants as call

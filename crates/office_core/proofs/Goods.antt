@@ -11,7 +11,7 @@ use Rattle.restriction_log.specs.Changes.{takes, AreTaken}
 use Rattle.permit_days.specs.Days.{is_before}
 use Rattle.permit_book.specs.declared.permit.Permit.{Permit}
 use Rattle.permit_book.specs.declared.permit.Mark.{Mark}
-use Rattle.permit_book.specs.Permits.{no_permit, in_force, AreNumbered}
+use Rattle.permit_book.specs.Permits.{no_permit, AreNumbered}
 use Rattle.trip_analysis.specs.declared.application.Application.{Application}
 use Rattle.trip_analysis.specs.declared.finding.What.{What}
 use Rattle.trip_analysis.specs.Bases.{BaseLists}

@@ -1,5 +1,5 @@
 -- What may be asked of what was seen may be asked of what goes on from it.
-use Rattle.std.proofs.Common.{◌≡◌, ◌∷◌, ◌++◌, [], List, ℕ, ◌≤◌, ◌<◌, ◌⊎◌, inl, inr, length, take, refl, ap, sym, subst, ◌∙◌, append_assoc, arith}
+use Rattle.std.proofs.Common.{◌≡◌, ◌∷◌, ◌++◌, [], List, ℕ, ◌≤◌, ◌⊎◌, inl, inr, length, take, refl, ap, sym, subst, ◌∙◌, append_assoc, arith}
 use Rattle.std.proofs.lemmas.List.{append-nil, length-append, take-append-le}
 use Rattle.std.proofs.lemmas.Bool.{cases_lt}
 use Rattle.restriction_log.specs.declared.change.Change.{Change}

@@ -1,5 +1,5 @@
 -- What an office keeps stays in order.
-use Rattle.std.proofs.Common.{◌≡◌, ◌∷◌, ◌++◌, [], List, ℕ, ◌+◌, ◌<◌, true, length, ap, sym, subst, refl, ◌∙◌, arith, Result, Ok, Err, OnOk, OnErr, None}
+use Rattle.std.proofs.Common.{◌≡◌, ◌∷◌, ◌++◌, [], List, ℕ, ◌+◌, ◌<◌, true, length, ap, sym, subst, refl, ◌∙◌, Result, Ok, Err, OnOk, OnErr, None}
 use Rattle.std.specs.List.{All}
 use Rattle.std.specs.Arc.{arc_value}
 use Rattle.std.proofs.lemmas.List.Elements.{All-append, All-cons, All-nil}
@@ -18,8 +18,8 @@ use Rattle.trip_analysis.specs.Known.{AreKnown}
 use Rattle.office_core.specs.declared.register.Register.TheInside.{Inside}
 use Rattle.office_core.specs.declared.entry.Reply.TheVariants as reply
 use Rattle.office_core.specs.Recalls.{AreLive, IsRanged, marked_all, recalled_by, recalled_now}
-use Rattle.office_core.specs.Machine.{IsGood, Machine, machine_at, posted_reply, state_with, version_of, with_posting}
-use Rattle.office_core.specs.Registers.{HeldAt, IsKept, IsRegister, RegisterParts, parts_of, recalls_of, state_now}
+use Rattle.office_core.specs.Machine.{IsGood, Machine, machine_at, posted_reply, state_with, with_posting}
+use Rattle.office_core.specs.Registers.{HeldAt, IsRegister, RegisterParts, parts_of, recalls_of, state_now}
 use Rattle.office_core.proofs.Founds.{found_in_range, holds_now, of_base}
 use Rattle.office_core.proofs.Goods.{good_entered, good_posted}
 use Rattle.office_core.proofs.Recalls.{recalled_live, recalled_marked}

@@ -1,5 +1,5 @@
 -- What the calls of one caller leave. Others may call the same office between them.
-use Rattle.std.specs.Prelude.{◌≡◌, ◌≤◌, ◌++◌, ◌∷◌, [], ℕ, List, length, Option, Some, None, Bool, false, if◌then◌else◌, nat_le}
+use Rattle.std.specs.Prelude.{◌≡◌, ◌++◌, ◌∷◌, [], ℕ, List, length, Option, Some, None, false, if◌then◌else◌, nat_le}
 use Rattle.std.specs.Borrow.{GName}
 use Rattle.snapshot_store.specs.Stores.{Stored, version_of}
 use Rattle.trip_analysis.specs.Bases.{BaseLists}
@@ -14,8 +14,8 @@ use Rattle.office_core.specs.Machine.{IsLegal, Machine, entries_by, machine_of}
 use Rattle.office_core.specs.Offices.{Opened, entry}
 use Rattle.office_core.specs.Replies.{is_full}
 
--- what never changes: where the calls belong, if to anything that others call too; which reference they hold, if any; whose
--- they are; what the office is about, and the day on which it opened
+-- what never changes: where the calls belong, if to anything that others call too; which reference they
+-- hold, if any; whose they are; what the office is about, and the day on which it opened
 pub record Who (P : Type 0) : Type 0 where
   pub place : Option P
   pub reference : Option GName
@@ -23,8 +23,8 @@ pub record Who (P : Type 0) : Type 0 where
   pub base : BaseLists
   pub opening : List ℕ
 
--- the calls of one caller: the history that the caller has seen, the caller's own entries of it, and the most entries of the
--- history, once it was answered that they are reached
+-- the calls of one caller: the history that the caller has seen, the caller's own entries of it, and the most
+-- entries of the history, once it was answered that they are reached
 pub record Calling (P : Type 0) : Type 0 where
   pub who : Who P
   pub seen : List Entry
@@ -36,13 +36,15 @@ module _ {P : Type 0} where
   abbrev pub machine_seen : Calling P → Machine
   machine_seen v = machine_of v.who.base v.who.opening v.seen
 
-  -- What is seen next: what others entered meanwhile, which is nothing where nobody else calls, and then this entry.
+  -- What is seen next: what others entered meanwhile, which is nothing where nobody else calls, and then this
+  -- entry.
   pub record Sees (v : Calling P) (e : Entry) (w : Calling P) : Type 0 where
     pub between : List Entry
     pub seen : w.seen ≡ (v.seen ++ between) ++ e ∷ []
     pub alone : v.who.place ≡ None → between ≡ []
 
-  -- The entry was added to a legal history that goes on from the one seen, and it alone to the caller's own entries.
+  -- The entry was added to a legal history that goes on from the one seen, and it alone to the caller's own
+  -- entries.
   pub record Added (v : Calling P) (e : Entry) (w : Calling P) : Type 0 where
     pub own : w.own ≡ v.own ++ e ∷ []
     pub sees : Sees v e w
@@ -66,7 +68,8 @@ module _ {P : Type 0} where
   abbrev pub stored_seen : Calling P → Stored
   stored_seen v = record { roads = v.who.base.roads; postings = (machine_seen v).postings }
 
-  -- A look at the office was answered: by a snapshot of what is then posted. It has its entry also where no memory was left for the snapshot.
+  -- A look at the office was answered: by a snapshot of what is then posted. It has its entry also where no
+  -- memory was left for the snapshot.
   abbrev pub Looks : Calling P → Looked → Calling P → Type 0
   Looks v (looked.At s) w = Answered v call.Snapshot (reply.SnapshotAt (version_of s)) w × (s ≡ stored_seen w)
   Looks v looked.NoMemory w = (version : ℕ) × Answered v call.Snapshot (reply.SnapshotAt version) w

@@ -1,5 +1,5 @@
 -- The office as a machine: each entry of a history is a step, from what the entries before it leave.
-use Rattle.std.specs.Prelude.{◌≡◌, ℕ, ◌+◌, ◌<◌, ◌≤◌, ◌⊎◌, Bool, true, false, IsTrue, List, [], ◌∷◌, ◌++◌, length, filter, take, if◌then◌else◌, ◌==◌, All, None, is_none}
+use Rattle.std.specs.Prelude.{◌≡◌, ℕ, ◌+◌, ◌<◌, ◌≤◌, ◌⊎◌, Bool, false, IsTrue, List, [], ◌∷◌, ◌++◌, length, filter, take, if◌then◌else◌, ◌==◌, All, None, is_none}
 use Rattle.restriction_log.specs.declared.change.Change.{Change}
 use Rattle.restriction_log.specs.Changes.{takes, AreTaken}
 use Rattle.restriction_log.specs.States.{InForce, state_of}

@@ -6,7 +6,7 @@ use Rattle.road_graph.specs.Roads.{IsRoads}
 use Rattle.trip_analysis.specs.Bases.{AreTrains, BaseLists}
 use Rattle.office_core.specs.declared.entry.Entry.{Entry}
 use Rattle.office_core.specs.declared.entry.Reply.{Reply}
-use Rattle.office_core.specs.Machine.{HasRoom, MayAsk}
+use Rattle.office_core.specs.Machine.{MayAsk}
 use Rattle.office_core.specs.Offices.{IsStep, Opened, entry, machine_in, seen_of}
 use Rattle.office_core.specs.Replies.{is_full}
 use Rattle.office_core.proofs.Counts.{has_room}

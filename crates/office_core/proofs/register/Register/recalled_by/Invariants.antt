@@ -1,5 +1,4 @@
 use Rattle.std.proofs.Common.{◌≡◌, ◌++◌, drop}
-use Rattle.office_core.specs.Registers.{RegisterParts}
 use Rattle.office_core.specs.Recalls.{recalled_by}
 use Rattle.office_core.proofs.register.Register.recalled_by.Given as goal
 
