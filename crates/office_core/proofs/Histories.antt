@@ -7,7 +7,7 @@ use Rattle.office_core.specs.Machine.{Machine, opened, MayAsk, IsAnswer, after, 
 use Rattle.office_core.specs.Replies.{is_full}
 use Rattle.office_core.specs.Registers.{Leaves, RegisterParts}
 use Rattle.office_core.proofs.Cases.{never_full}
-use Rattle.office_core.proofs.Prefixes.{legal_join, after_all-append}
+use Rattle.office_core.proofs.Prefixes.{legal_join, legal_later, after_all-append}
 
 pub legal_more : (base : BaseLists) (day : List ℕ) (es : List Entry) (e : Entry) → IsLegal base day es → MayAsk base (machine_of base day es) e.call → IsAnswer base (machine_of base day es) e.caller e.call e.reply → IsLegal base day (es ++ e ∷ [])
 legal_more base day es e legal ask answer = legal_join base (opened day) es (e ∷ []) legal (record { asked = ask; answer = answer; next_is = refl }, tt)
@@ -17,6 +17,10 @@ machine_more base day es e = after_all-append base (opened day) es (e ∷ [])
 
 pub step_more : (base : BaseLists) (day : List ℕ) (es : List Entry) (e : Entry) → MayAsk base (machine_of base day es) e.call → IsAnswer base (machine_of base day es) e.caller e.call e.reply → Step base (machine_of base day es) e (machine_of base day (es ++ e ∷ []))
 step_more base day es e ask answer = record { asked = ask; answer = answer; next_is = machine_more base day es e }
+
+-- the last entry of a legal history is a step from what the entries before it leave
+pub last_step : (base : BaseLists) (day : List ℕ) (es : List Entry) (e : Entry) → IsLegal base day (es ++ e ∷ []) → Step base (machine_of base day es) e (machine_of base day (es ++ e ∷ []))
+last_step base day es e legal = let (step, _) = legal_later base (opened day) es (e ∷ []) legal in step_more base day es e step.asked step.answer
 
 -- all that a step leaves: a legal history, its machine, and the step
 pub record Goes (r next : RegisterParts) (day : List ℕ) (old new : List Entry) (e : Entry) : Type 0 where

@@ -16,7 +16,7 @@ use Rattle.office_core.specs.declared.entry.Reply.TheVariants as reply
 use Rattle.office_core.proofs.Prefixes.{after_all-append}
 
 -- the postings go on
-abbrev GoOn : Machine → Machine → Type 0
+abbrev pub GoOn : Machine → Machine → Type 0
 GoOn m next = (more : List Change) × (next.postings ≡ m.postings ++ more)
 
 same : (m : Machine) → GoOn m m
@@ -43,10 +43,14 @@ go_on base m caller (call.Day day) r = day_on m r
 go_on base m caller (call.Surrender number) r = surrender_on m number r
 go_on base m caller (call.Show number) r = same m
 
-all_on : (base : BaseLists) (m : Machine) (es : List Entry) → GoOn m (after_all base m es)
+pub all_on : (base : BaseLists) (m : Machine) (es : List Entry) → GoOn m (after_all base m es)
 all_on base m [] = same m
 all_on base m (e ∷ es) = let one = go_on base m e.caller e.call e.reply in let rest = all_on base (after_entry base m e) es in
     (one.0 ++ rest.0, rest.1 ∙ (ap (λ l. l ++ rest.0) one.1 ∙ append_assoc m.postings one.0 rest.0))
+
+-- the postings of a history that goes on go on
+pub postings_on : (base : BaseLists) (day : List ℕ) (es more : List Entry) → GoOn (machine_of base day es) (machine_of base day (es ++ more))
+postings_on base day es more = subst (GoOn (machine_of base day es)) (sym (after_all-append base (opened day) es more)) (all_on base (machine_of base day es) more)
 
 take_on : {A : Type 0} (n : ℕ) (xs ys : List A) → n ≤ length xs → take n (xs ++ ys) ≡ take n xs
 take_on n xs ys h = take-append-le n xs ys h

@@ -106,3 +106,8 @@ is_issue _ = false
 abbrev pub is_full : Reply → Bool
 is_full (reply.Full entries) = true
 is_full _ = false
+
+-- whether a proposal was out of date
+abbrev pub is_outdated : Reply → Bool
+is_outdated (reply.Outdated version cause) = true
+is_outdated _ = false
