@@ -22,6 +22,7 @@ pub record Who (P : Type 0) : Type 0 where
   pub caller : ℕ
   pub base : BaseLists
   pub opening : List ℕ
+  pub most : ℕ
 
 -- the calls of one caller: the history that the caller has seen, the caller's own entries of it, and the most
 -- entries of the history, once it was answered that they are reached
@@ -82,7 +83,7 @@ full_in o = if nat_le o.most (length o.history) then Some o.most else None
 -- the calls of one caller of an office that nobody else calls meanwhile
 abbrev pub one_seat : {P : Type 0} → GName → ℕ → Opened → Calling P
 one_seat reference caller o = record {
-  who = record { place = None; reference = Some reference; caller = caller; base = o.base; opening = o.opening };
+  who = record { place = None; reference = Some reference; caller = caller; base = o.base; opening = o.opening; most = o.most };
   seen = o.history;
   own = entries_by caller o.history;
   full = full_in o;
