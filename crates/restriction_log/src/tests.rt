@@ -1,11 +1,21 @@
 ghost use Rattle.std.specs.Prelude.{◌≡◌, length, IfOk};
+ghost use Rattle.restriction_log.specs.Changes.{AreTaken};
 
 use crate::{Change, Log, PostRefusal, State, states_are_of_their_network, takes, touched};
 use office_io::Name;
-use road_graph::{Network, Values};
+use road_graph::{Network, Values, What};
 use std::alloc::Global;
+use std::fmt::Debug;
 use std::process::Abort;
 use std::test::Fail;
+
+// Each table goes to a function that takes the network by reference, and what was built is let go by a call of `drop`:
+// where a scope lets it go, the proof of the whole function goes through its parts.
+
+// What was found is what a row of a table says.
+fn same<T: PartialEq + Debug>(rt: &impl Abort, row: usize, found: &T, wanted: &T) {
+    assert_eq!(rt; found, wanted, "row {row}");
+}
 
 // A name of these bytes, which are one.
 fn named(rt: &impl Abort, bytes: &[u8]) -> Name {
@@ -15,360 +25,303 @@ fn named(rt: &impl Abort, bytes: &[u8]) -> Name {
 // Segments 0 and 1 between two nodes, with the spans 0 and 2 on segment 0 and span 1 on segment 1.
 fn roads(rt: &impl Abort, alloc: Global) -> Network {
     let mut network = Network::new(alloc);
-    network.add_node(named(rt, b"a")).expect(rt, "a node");
-    network.add_node(named(rt, b"b")).expect(rt, "a node");
-    network
-        .add_segment(named(rt, b"ab"), 0, 1, 5_280)
-        .expect(rt, "a segment");
-    network
-        .add_segment(named(rt, b"ba"), 1, 0, 5_280)
-        .expect(rt, "a segment");
+    for name in [b"a", b"b"] {
+        let added = network.add_node(named(rt, name));
+        assert!(rt; added.is_ok());
+    }
+    for (name, from, to) in [(b"ab", 0, 1), (b"ba", 1, 0)] {
+        let added = network.add_segment(named(rt, name), from, to, 5_280);
+        assert!(rt; added.is_ok());
+    }
     for (name, segment, rating) in [(b"s", 0, 1_000), (b"t", 1, 900), (b"u", 0, 800)] {
-        network
-            .add_span(named(rt, name), segment, 360, rating)
-            .expect(rt, "a span");
+        let added = network.add_span(named(rt, name), segment, 360, rating);
+        assert!(rt; added.is_ok());
     }
     network
+}
+
+// A change of a limit of a segment, or of the rating of a span.
+fn change(what: Option<What>, of: u32, value: u32) -> Change {
+    match what {
+        Some(What::Closed) => Change::Closed {
+            segment: of,
+            closed: value == 1,
+        },
+        Some(What::Height) => Change::Height {
+            segment: of,
+            inches: value,
+        },
+        Some(What::Width) => Change::Width {
+            segment: of,
+            inches: value,
+        },
+        Some(What::Length) => Change::Length {
+            segment: of,
+            inches: value,
+        },
+        Some(What::Gross) => Change::Gross {
+            segment: of,
+            pounds: value,
+        },
+        Some(What::Allowance) => Change::Allowance {
+            segment: of,
+            permille: value,
+        },
+        None => Change::Rating {
+            span: of,
+            permille: value,
+        },
+    }
+}
+
+// Which limit of a segment, or none for the rating of a span; the segment or the span; the value; whether the network
+// takes the change.
+type Posting = (Option<What>, u32, u32, bool);
+
+// Posts a change, of which the network takes it or not.
+fn post(rt: &impl Abort, network: &Network, log: &mut Log, row: usize, change: Change, taken: bool)
+    requires { AreTaken network.now log.old }
+    ensures { AreTaken network.now log.new }
+{
+    same(rt, row, &takes(network, &change), &taken);
+    let version = log.version();
+    let (answer, next) = if taken {
+        (Ok(version + 1), version + 1)
+    } else {
+        (Err(PostRefusal::Range), version)
+    };
+    same(rt, row, &log.post(network, change), &answer);
+    same(rt, row, &log.version(), &next);
+}
+
+// Posts each of the changes.
+fn post_each(rt: &impl Abort, network: &Network, log: &mut Log, postings: &[Posting])
+    requires { AreTaken network.now log.old }
+    ensures { AreTaken network.now log.new }
+{
+    'changes: for (row, &(what, of, value, taken)) in postings.iter().enumerate() {
+        post(rt, network, log, row, change(what, of, value), taken);
+    }
+}
+
+fn post_on(
+    rt: &impl Abort,
+    alloc: Global,
+    network: &Network,
+    postings: &[Posting],
+) -> Result<(), Fail> {
+    let mut log = Log::start(alloc, network)?;
+    post_each(rt, network, &mut log, postings);
+    drop(log);
+    Ok(())
 }
 
 #[test]
 fn takes_what_is_there_and_in_range(rt: HostRuntime) -> Result<(), Fail> {
     let network = roads(&rt, rt.alloc());
-    let cases = [
-        (
-            Change::Closed {
-                segment: 1,
-                closed: true,
-            },
-            true,
-        ),
-        (
-            Change::Closed {
-                segment: 2,
-                closed: true,
-            },
-            false,
-        ),
-        (
-            Change::Height {
-                segment: 1,
-                inches: 1,
-            },
-            true,
-        ),
-        // a height of nothing
-        (
-            Change::Height {
-                segment: 1,
-                inches: 0,
-            },
-            false,
-        ),
-        (
-            Change::Height {
-                segment: 1,
-                inches: 999,
-            },
-            true,
-        ),
-        (
-            Change::Height {
-                segment: 1,
-                inches: 1_000,
-            },
-            false,
-        ),
-        (
-            Change::Height {
-                segment: 2,
-                inches: 999,
-            },
-            false,
-        ),
-        (
-            Change::Width {
-                segment: 0,
-                inches: 999,
-            },
-            true,
-        ),
-        (
-            Change::Width {
-                segment: 0,
-                inches: 1_000,
-            },
-            false,
-        ),
-        (
-            Change::Length {
-                segment: 0,
-                inches: 9_999,
-            },
-            true,
-        ),
-        (
-            Change::Length {
-                segment: 0,
-                inches: 10_000,
-            },
-            false,
-        ),
-        (
-            Change::Gross {
-                segment: 0,
-                pounds: 2_000_000,
-            },
-            true,
-        ),
-        (
-            Change::Gross {
-                segment: 0,
-                pounds: 2_000_001,
-            },
-            false,
-        ),
-        (
-            Change::Gross {
-                segment: 0,
-                pounds: 0,
-            },
-            false,
-        ),
-        (
-            Change::Allowance {
-                segment: 0,
-                permille: 0,
-            },
-            true,
-        ),
-        (
-            Change::Allowance {
-                segment: 0,
-                permille: 100_000,
-            },
-            true,
-        ),
-        (
-            Change::Allowance {
-                segment: 0,
-                permille: 100_001,
-            },
-            false,
-        ),
-        (
-            Change::Rating {
-                span: 2,
-                permille: 0,
-            },
-            true,
-        ),
-        (
-            Change::Rating {
-                span: 2,
-                permille: 100_000,
-            },
-            true,
-        ),
-        (
-            Change::Rating {
-                span: 2,
-                permille: 100_001,
-            },
-            false,
-        ),
-        (
-            Change::Rating {
-                span: 3,
-                permille: 0,
-            },
-            false,
-        ),
-    ];
-    post_each(&rt, rt.alloc(), &network, &cases)
+    let posted = post_on(
+        &rt,
+        rt.alloc(),
+        &network,
+        &[
+            (Some(What::Closed), 1, 1, true),
+            (Some(What::Closed), 2, 1, false),
+            (Some(What::Height), 1, 1, true),
+            // a height of nothing
+            (Some(What::Height), 1, 0, false),
+            (Some(What::Height), 1, 999, true),
+            (Some(What::Height), 1, 1_000, false),
+            (Some(What::Height), 2, 999, false),
+            (Some(What::Width), 0, 999, true),
+            (Some(What::Width), 0, 1_000, false),
+            (Some(What::Length), 0, 9_999, true),
+            (Some(What::Length), 0, 10_000, false),
+            (Some(What::Gross), 0, 2_000_000, true),
+            (Some(What::Gross), 0, 2_000_001, false),
+            (Some(What::Gross), 0, 0, false),
+            (Some(What::Allowance), 0, 0, true),
+            (Some(What::Allowance), 0, 100_000, true),
+            (Some(What::Allowance), 0, 100_001, false),
+            (None, 2, 0, true),
+            (None, 2, 100_000, true),
+            (None, 2, 100_001, false),
+            (None, 3, 0, false),
+        ],
+    );
+    drop(network);
+    posted
 }
 
-// Posts each of the changes, of which the network takes those that say so.
-fn post_each(
+// Which limit of a segment, or none for the rating of a span; the segment or the span; the value; and the segment that
+// the change is about.
+type Replacing = (Option<What>, u32, u32, u32);
+
+// The state after a change, which is about this segment.
+fn state_with(
     rt: &impl Abort,
     alloc: Global,
     network: &Network,
-    cases: &[(Change, bool)],
-) -> Result<(), Fail> {
-    let mut log = Log::start(alloc, network)?;
-    'changes: for (change, taken) in cases {
-        assert_eq!(rt; takes(network, change), *taken, "{change:?}");
-        let version = log.version();
-        let answer = log.post(network, *change);
-        if *taken {
-            assert_eq!(rt; answer, Ok(version + 1), "{change:?}");
-        } else {
-            assert_eq!(rt; answer, Err(PostRefusal::Range), "{change:?}");
-            assert_eq!(rt; log.version(), version, "{change:?}");
-        }
+    state: &State,
+    change: &Change,
+    segment: u32,
+) -> Result<State, Fail>
+    requires values { length state.now.values ≡ length network.now.segments }
+    requires ratings { length state.now.ratings ≡ length network.now.spans }
+    ensures values { IfOk result (λ state. length state.values ≡ length network.now.segments) }
+    ensures ratings { IfOk result (λ state. length state.ratings ≡ length network.now.spans) }
+{
+    assert!(rt; takes(network, change));
+    assert_eq!(rt; touched(network, change), segment, "{change:?}");
+    Ok(state.with(alloc, change)?)
+}
+
+// The state after these changes.
+fn state_after(
+    rt: &impl Abort,
+    alloc: Global,
+    network: &Network,
+    changes: &[Replacing],
+) -> Result<State, Fail>
+    ensures values { IfOk result (λ state. length state.values ≡ length network.now.segments) }
+    ensures ratings { IfOk result (λ state. length state.ratings ≡ length network.now.spans) }
+{
+    let mut state = State::base(alloc, network)?;
+    'changes: for &(what, of, value, segment) in changes {
+        state = state_with(
+            rt,
+            alloc,
+            network,
+            &state,
+            &change(what, of, value),
+            segment,
+        )?;
     }
+    Ok(state)
+}
+
+// The limits of the two segments and the ratings of the three spans.
+fn is_state(rt: &impl Abort, state: &State, values: &[Values; 2], ratings: &[u32; 3])
+    requires values { length state.now.values ≡ 2 }
+    requires ratings { length state.now.ratings ≡ 3 }
+{
+    same(rt, 0, &[state.segment(0), state.segment(1)], values);
+    same(
+        rt,
+        1,
+        &[state.rating(0), state.rating(1), state.rating(2)],
+        ratings,
+    );
+}
+
+fn replace_each(rt: &impl Abort, alloc: Global, network: &Network) -> Result<(), Fail> {
+    let changes = [
+        (Some(What::Closed), 0, 1, 0),
+        (Some(What::Height), 0, 168, 0),
+        (Some(What::Width), 0, 144, 0),
+        (Some(What::Length), 0, 1_200, 0),
+        (Some(What::Gross), 0, 120_000, 0),
+        (Some(What::Allowance), 0, 1_100, 0),
+        (None, 1, 750, 1),
+        (None, 2, 500, 0),
+    ];
+    let state = state_after(rt, alloc, network, &changes)?;
+    let values = Values {
+        closed: true,
+        height: 168,
+        width: 144,
+        length: 1_200,
+        gross: 120_000,
+        allowance: 1_100,
+    };
+    assert!(rt; network.segments() == 2);
+    assert!(rt; network.spans() == 3);
+    is_state(rt, &state, &[values, Values::default()], &[1_000, 750, 500]);
+    drop(state);
     Ok(())
 }
 
 #[test]
 fn replaces_one_value_at_each_posting(rt: HostRuntime) -> Result<(), Fail> {
     let network = roads(&rt, rt.alloc());
-    let cases = [
-        (
-            Change::Closed {
-                segment: 0,
-                closed: true,
-            },
-            0,
-        ),
-        (
-            Change::Height {
-                segment: 0,
-                inches: 168,
-            },
-            0,
-        ),
-        (
-            Change::Width {
-                segment: 0,
-                inches: 144,
-            },
-            0,
-        ),
-        (
-            Change::Length {
-                segment: 0,
-                inches: 1_200,
-            },
-            0,
-        ),
-        (
-            Change::Gross {
-                segment: 0,
-                pounds: 120_000,
-            },
-            0,
-        ),
-        (
-            Change::Allowance {
-                segment: 0,
-                permille: 1_100,
-            },
-            0,
-        ),
-        (
-            Change::Rating {
-                span: 1,
-                permille: 750,
-            },
-            1,
-        ),
-        (
-            Change::Rating {
-                span: 2,
-                permille: 500,
-            },
-            0,
-        ),
-    ];
-    let state = state_after(&rt, rt.alloc(), &network, &cases)?;
-    assert!(rt; network.segments() == 2);
-    assert!(rt; network.spans() == 3);
-    assert_eq!(rt;
-        state.segment(0),
-        Values {
-            closed: true,
-            height: 168,
-            width: 144,
-            length: 1_200,
-            gross: 120_000,
-            allowance: 1_100,
-        }
-    );
-    assert_eq!(rt; state.segment(1), Values::default());
-    assert_eq!(rt; state.rating(0), 1_000);
-    assert_eq!(rt; state.rating(1), 750);
-    assert_eq!(rt; state.rating(2), 500);
+    let replaced = replace_each(&rt, rt.alloc(), &network);
+    drop(network);
     states_are_of_their_network();
-    Ok(())
+    replaced
 }
 
-// The state after these changes, each of which names the segment beside it.
-fn state_after(
-    rt: &impl Abort,
-    alloc: Global,
-    network: &Network,
-    cases: &[(Change, u32)],
-) -> Result<State, Fail>
-    ensures values { IfOk result (λ state. length state.values ≡ length network.now.segments) }
-    ensures ratings { IfOk result (λ state. length state.ratings ≡ length network.now.spans) }
+// A segment, a version, and whether the segment was changed after it.
+type Changed = (u32, u32, bool);
+
+fn tell_each(rt: &impl Abort, network: &Network, log: &Log, cases: &[Changed])
+    requires { AreTaken network.now log.now }
 {
-    let mut state = State::base(alloc, network)?;
-    'changes: for (change, segment) in cases {
-        assert!(rt; takes(network, change));
-        assert_eq!(rt; touched(network, change), *segment, "{change:?}");
-        state = state.with(alloc, change)?;
+    for (row, &(segment, after, changed)) in cases.iter().enumerate() {
+        assert!(rt; segment < network.segments());
+        same(rt, row, &log.changed(network, segment, after), &changed);
     }
-    Ok(state)
+}
+
+fn tell_changes(rt: &impl Abort, alloc: Global, network: &Network) -> Result<(), Fail> {
+    let mut log = Log::start(alloc, network)?;
+    same(rt, 0, &log.version(), &0);
+    post_each(
+        rt,
+        network,
+        &mut log,
+        &[
+            (Some(What::Height), 0, 168, true),
+            (None, 1, 750, true),
+            // a posting that changes nothing
+            (Some(What::Closed), 0, 0, true),
+        ],
+    );
+    same(rt, 3, &log.version(), &3);
+    tell_each(
+        rt,
+        network,
+        &log,
+        &[
+            (0, 0, true),
+            (0, 1, true),
+            (0, 2, true),
+            (0, 3, false),
+            (0, 1_000_000, false),
+            (1, 0, true),
+            (1, 1, true),
+            (1, 2, false),
+            (1, 3, false),
+        ],
+    );
+    drop(log);
+    Ok(())
 }
 
 #[test]
 fn tells_what_changed_after_a_version(rt: HostRuntime) -> Result<(), Fail> {
     let network = roads(&rt, rt.alloc());
-    let mut log = Log::start(rt.alloc(), &network)?;
-    assert_eq!(rt; log.version(), 0);
-    log.post(
-        &network,
-        Change::Height {
-            segment: 0,
-            inches: 168,
-        },
-    )?;
-    log.post(
-        &network,
-        Change::Rating {
-            span: 1,
-            permille: 750,
-        },
-    )?;
-    // a posting that changes nothing
-    log.post(
-        &network,
-        Change::Closed {
-            segment: 0,
-            closed: false,
-        },
-    )?;
-    assert_eq!(rt; log.version(), 3);
-    assert!(rt; network.segments() == 2);
-    for (segment, after, changed) in [
-        (0, 0, true),
-        (0, 1, true),
-        (0, 2, true),
-        (0, 3, false),
-        (0, 1_000_000, false),
-        (1, 0, true),
-        (1, 1, true),
-        (1, 2, false),
-        (1, 3, false),
-    ] {
-        assert!(rt; segment < network.segments());
-        assert_eq!(rt;
-            log.changed(&network, segment, after),
-            changed,
-            "segment {segment} after version {after}"
-        );
+    same(&rt, 0, &network.segments(), &2);
+    let told = tell_changes(&rt, rt.alloc(), &network);
+    drop(network);
+    told
+}
+
+fn names(rt: &impl Abort, alloc: Global, cases: &[(PostRefusal, &str)]) -> Result<(), Fail> {
+    for (row, (refusal, text)) in cases.iter().enumerate() {
+        let named = format!(in alloc; "{refusal}")?;
+        same(rt, row, &named.as_str(), text);
     }
     Ok(())
 }
 
 #[test]
 fn names_each_cause(rt: HostRuntime) -> Result<(), Fail> {
-    for (refusal, text) in [
-        (PostRefusal::Range, "the network does not take the change"),
-        (PostRefusal::Full, "the log is full"),
-        (PostRefusal::NoMemory, "out of memory"),
-    ] {
-        assert_eq!(rt; format!(in rt.alloc(); "{refusal}")?.as_str(), text);
-    }
-    Ok(())
+    names(
+        &rt,
+        rt.alloc(),
+        &[
+            (PostRefusal::Range, "the network does not take the change"),
+            (PostRefusal::Full, "the log is full"),
+            (PostRefusal::NoMemory, "out of memory"),
+        ],
+    )
 }
