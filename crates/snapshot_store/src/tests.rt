@@ -1,0 +1,227 @@
+ghost use Rattle.std.specs.Prelude.{◌≡◌};
+ghost use Rattle.restriction_log.specs.States.{AreOf};
+
+use crate::Store;
+use office_io::{Name, NoMemory};
+use restriction_log::{Change, PostRefusal, State};
+use road_graph::Network;
+use std::alloc::Global;
+use std::process::Abort;
+use std::test::Fail;
+
+// A name of these bytes, which are one.
+fn named(rt: &impl Abort, bytes: &[u8]) -> Name {
+    Name::new(bytes).expect(rt, "a name")
+}
+
+fn number(text: &str) -> u32 {
+    text.parse().unwrap_or(0)
+}
+
+// Segments 0 and 1 between two nodes, with the spans 0 and 2 on segment 0 and span 1 on segment 1.
+fn roads(rt: &impl Abort, alloc: Global) -> Network {
+    let mut network = Network::new(alloc);
+    for name in [b"a", b"b"] {
+        network.add_node(named(rt, name)).expect(rt, "a node");
+    }
+    for (name, from, to) in [(b"ab", 0, 1), (b"ba", 1, 0)] {
+        network
+            .add_segment(named(rt, name), from, to, 5_280)
+            .expect(rt, "a segment");
+    }
+    for (name, segment, rating) in [(b"s", 0, 1_000), (b"t", 1, 900), (b"u", 0, 800)] {
+        network
+            .add_span(named(rt, name), segment, 360, rating)
+            .expect(rt, "a span");
+    }
+    network
+}
+
+// What a text posts: KIND,NUMBER,VALUE.
+fn posted(text: &str) -> Change {
+    let mut parts = text.split(',');
+    let kind = parts.next().unwrap_or("");
+    let named = number(parts.next().unwrap_or(""));
+    let value = number(parts.next().unwrap_or(""));
+    match kind {
+        "closed" => Change::Closed {
+            segment: named,
+            closed: value == 1,
+        },
+        "height" => Change::Height {
+            segment: named,
+            inches: value,
+        },
+        _ => Change::Rating {
+            span: named,
+            permille: value,
+        },
+    }
+}
+
+// A version and its state, in words: of each segment whether it is closed, and its height; then the rating of each span.
+fn told(alloc: Global, network: &Network, version: u32, state: &State) -> Result<String, Fail>
+    requires { AreOf network.now state.now }
+{
+    let mut all = format!(in alloc; "{version}:")?;
+    for i in 0..network.segments() {
+        let values = state.segment(i);
+        let text = format!(in alloc; " [{} {}]", values.closed, values.height)?;
+        all.push_str(text.as_str())?;
+    }
+    for i in 0..network.spans() {
+        let text = format!(in alloc; " {}", state.rating(i))?;
+        all.push_str(text.as_str())?;
+    }
+    Ok(all)
+}
+
+// What no posting has changed.
+const BASE: &str = "0: [false 999] [false 999] 1000 900 800";
+
+// Postings, what answers each, and what is in force then.
+const POSTINGS: &str = "\
+height,0,168/1/1: [false 168] [false 999] 1000 900 800
+height,0,0/0/1: [false 168] [false 999] 1000 900 800
+height,0,1000/0/1: [false 168] [false 999] 1000 900 800
+height,2,168/0/1: [false 168] [false 999] 1000 900 800
+rating,1,750/2/2: [false 168] [false 999] 1000 750 800
+rating,1,100001/0/2: [false 168] [false 999] 1000 750 800
+rating,3,750/0/2: [false 168] [false 999] 1000 750 800
+closed,1,1/3/3: [false 168] [true 999] 1000 750 800
+closed,2,1/0/3: [false 168] [true 999] 1000 750 800
+rating,2,0/4/4: [false 168] [true 999] 1000 750 0
+closed,1,0/5/5: [false 168] [false 999] 1000 750 0
+closed,1,0/6/6: [false 168] [false 999] 1000 750 0
+";
+
+// Whether a version and its state are what a text says.
+fn check_told(
+    rt: &impl Abort,
+    alloc: Global,
+    network: &Network,
+    version: u32,
+    state: &State,
+    wanted: &str,
+) -> Result<(), Fail>
+    requires { AreOf network.now state.now }
+{
+    let all = told(alloc, network, version, state)?;
+    assert_eq!(rt; all.as_str(), wanted);
+    Ok(())
+}
+
+// The number of the new version, or the refusal, of which `Range` is 0.
+fn number_of(answer: Result<u32, PostRefusal>) -> u32 {
+    match answer {
+        Ok(version) => version,
+        Err(PostRefusal::Range) => 0,
+        Err(PostRefusal::Full) => 1_000_001,
+        Err(PostRefusal::NoMemory) => 1_000_002,
+    }
+}
+
+// Posts in two steps. Between them nothing is in force yet.
+fn post_in_two_steps(network: &Network, store: &mut Store, change: Change) -> u32
+    requires { network.now ≡ store.old.roads }
+    ensures { store.new.roads ≡ store.old.roads }
+{
+    match store.next(network, change) {
+        Ok(next) if next.change() != change => 0,
+        Ok(next) => match store.commit(network, next) {
+            Ok(version) => version,
+            Err(NoMemory) => number_of(Err(PostRefusal::NoMemory)),
+        },
+        Err(refusal) => number_of(Err(refusal)),
+    }
+}
+
+// Posts a change at once or in two steps.
+fn post(network: &Network, store: &mut Store, change: Change, in_two_steps: bool) -> u32
+    requires { network.now ≡ store.old.roads }
+    ensures { store.new.roads ≡ store.old.roads }
+{
+    if in_two_steps {
+        return post_in_two_steps(network, store, change);
+    }
+    number_of(store.post(network, change))
+}
+
+// Posts what a line says, and compares what is in force then.
+fn post_line(
+    rt: &impl Abort,
+    alloc: Global,
+    network: &Network,
+    store: &mut Store,
+    line: &str,
+    in_two_steps: bool,
+) -> Result<(), Fail>
+    requires { network.now ≡ store.old.roads }
+    ensures { store.new.roads ≡ store.old.roads }
+{
+    let mut parts = line.split('/');
+    let change = posted(parts.next().unwrap_or(""));
+    let wanted = number(parts.next().unwrap_or(""));
+    let version = post(network, store, change, in_two_steps);
+    assert_eq!(rt; version, wanted, "{line}");
+    let text = parts.next().unwrap_or("");
+    check_told(rt, alloc, network, store.version(), store.now(), text)
+}
+
+// Posts each line, and compares what a snapshot says that was taken before all of them.
+fn post_each(
+    rt: &impl Abort,
+    alloc: Global,
+    network: &Network,
+    store: &mut Store,
+    in_two_steps: bool,
+) -> Result<(), Fail>
+    requires { network.now ≡ store.old.roads }
+    ensures { store.new.roads ≡ store.old.roads }
+{
+    let first = store.snapshot()?;
+    for line in POSTINGS.lines() {
+        post_line(rt, alloc, network, store, line, in_two_steps)?;
+    }
+    check_told(rt, alloc, network, first.version(), first.state(), BASE)
+}
+
+// Whether a posting above a number named the segment: numbers 1 and 4 name segment 0, the second by its span 2, and the
+// other four segment 1.
+const CHANGED: [(u32, u32, bool); 9] = [
+    (0, 0, true),
+    (0, 1, true),
+    (0, 3, true),
+    (0, 4, false),
+    (0, 1_000_000, false),
+    (1, 0, true),
+    (1, 4, true),
+    (1, 5, true),
+    (1, 6, false),
+];
+
+// Posts to a new store, and asks what changed.
+fn check_store(rt: &impl Abort, alloc: Global, in_two_steps: bool) -> Result<(), Fail> {
+    let network = roads(rt, alloc);
+    let mut store = Store::start(alloc, &network)?;
+    post_each(rt, alloc, &network, &mut store, in_two_steps)?;
+    for (segment, after, changed) in CHANGED {
+        assert!(rt; segment < network.segments());
+        assert_eq!(rt;
+            store.changed(&network, segment, after),
+            changed,
+            "{segment} {after}"
+        );
+    }
+    Ok(())
+}
+
+#[test]
+fn leaves_a_snapshot_as_it_was(rt: HostRuntime) -> Result<(), Fail> {
+    check_store(&rt, rt.alloc(), false)
+}
+
+#[test]
+fn posts_the_same_in_two_steps(rt: HostRuntime) -> Result<(), Fail> {
+    check_store(&rt, rt.alloc(), true)
+}
