@@ -9,8 +9,8 @@ use std::fmt::Debug;
 use std::process::Abort;
 use std::test::Fail;
 
-// Each table goes to a function that takes the network by reference, and what was built is let go by a call of `drop`:
-// where a scope lets it go, the proof of the whole function goes through its parts.
+// Each table goes to a function that takes the network by reference, and what was built is let go by a call
+// of `drop`: where a scope lets it go, the proof of the whole function goes through its parts.
 
 // What was found is what a row of a table says.
 fn same<T: PartialEq + Debug>(rt: &impl Abort, row: usize, found: &T, wanted: &T) {
@@ -74,8 +74,8 @@ fn change(what: Option<What>, of: u32, value: u32) -> Change {
     }
 }
 
-// Which limit of a segment, or none for the rating of a span; the segment or the span; the value; whether the network
-// takes the change.
+// Which limit of a segment, or none for the rating of a span; the segment or the span; the value; whether the
+// network takes the change.
 type Posting = (Option<What>, u32, u32, bool);
 
 // Posts a change, of which the network takes it or not.
@@ -152,8 +152,8 @@ fn takes_what_is_there_and_in_range(rt: HostRuntime) -> Result<(), Fail> {
     posted
 }
 
-// Which limit of a segment, or none for the rating of a span; the segment or the span; the value; and the segment that
-// the change is about.
+// Which limit of a segment, or none for the rating of a span; the segment or the span; the value; and the
+// segment that the change is about.
 type Replacing = (Option<What>, u32, u32, u32);
 
 // The state after a change, which is about this segment.

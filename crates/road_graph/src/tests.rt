@@ -5,8 +5,8 @@ use std::fmt::Debug;
 use std::process::Abort;
 use std::test::Fail;
 
-// Each table goes to a function that takes the network by reference, and each network is let go by a call of `drop`: where
-// a scope lets it go, the proof of the whole function goes through its parts.
+// Each table goes to a function that takes the network by reference, and each network is let go by a call of
+// `drop`: where a scope lets it go, the proof of the whole function goes through its parts.
 
 // What was found is what a row of a table says.
 fn same<T: PartialEq + Debug>(rt: &impl Abort, row: usize, found: &T, wanted: &T) {
