@@ -1,12 +1,12 @@
 -- A posting can make a permit in force fail at the segment alone that it touches.
-use Rattle.std.proofs.Common.{◌≡◌, ◌≢◌, ◌∷◌, [], ◌&&◌, ◌||◌, ◌==◌, List, ℕ, Bool, true, false, not, refl, ap, sym, ◌∙◌, Option, Some, None, is_none, is_some}
+use Rattle.std.proofs.Common.{◌≡◌, ◌≢◌, ◌∷◌, ◌++◌, [], ◌&&◌, ◌||◌, ◌==◌, List, ℕ, Bool, true, false, not, refl, ap, sym, ◌∙◌, Option, Some, None, is_none, is_some}
 use Rattle.std.specs.List.{All, list_any}
 use Rattle.std.proofs.lemmas.Bool.{eqb-false, eqb-true, or_parts}
 use Rattle.std.proofs.lemmas.List.Elements.{All-cons, All-head, All-nil, All-tail, All-weaker}
 use Rattle.restriction_log.specs.declared.change.Change.{Change}
 use Rattle.restriction_log.specs.Changes.{touched}
 use Rattle.restriction_log.specs.States.{InForce, state_after, state_of}
-use Rattle.restriction_log.proofs.Elsewhere.{agree-after}
+use Rattle.restriction_log.proofs.Elsewhere.{agree-after, state-posted}
 use Rattle.clearance_rules.specs.declared.limit.Limit.{Limit}
 use Rattle.clearance_rules.proofs.Agreeing.{limits_agree}
 use Rattle.permit_book.specs.declared.permit.Permit.{Permit}
@@ -59,10 +59,10 @@ meet_elsewhere base state change day permits had =
     All-weaker (λ p. in_force day p ≡ true → fails base state p ≡ false) (λ p. in_force day p ≡ true → MeetsElsewhere base (state_after state change) (touched base.roads change) p)
     (λ p fine on. passes_on (is_passable base state p.truck) (is_passable base (state_after state change) p.truck) (touched base.roads change) (alike_after base state change p.truck) p.route (fine on)) permits had
 
-pub met_elsewhere : (base : BaseLists) (postings : List Change) (state next : InForce) (change : Change) (segment : ℕ) (day : List ℕ) (permits : List Permit) → state ≡ state_of base.roads postings → next ≡ state_after state change → segment ≡ touched base.roads change
+pub met_elsewhere : (base : BaseLists) (postings : List Change) (next : InForce) (change : Change) (segment : ℕ) (day : List ℕ) (permits : List Permit) → next ≡ state_of base.roads (postings ++ change ∷ []) → segment ≡ touched base.roads change
     → InForceMeet base (state_of base.roads postings) day permits → InForceMeetElsewhere base next segment day permits
-met_elsewhere base postings state next change segment day permits same after there had =
-    rw (there, after, same) (meet_elsewhere base (state_of base.roads postings) change day permits had)
+met_elsewhere base postings next change segment day permits is there had =
+    rw (there, is, state-posted base.roads postings change) (meet_elsewhere base (state_of base.roads postings) change day permits had)
 
 some_or_none : (l : Option Limit) → is_some l ≡ not (is_none l)
 some_or_none (Some l) = refl

@@ -10,7 +10,7 @@ use Rattle.office_core.specs.declared.entry.Reply.{Reply}
 use Rattle.office_core.specs.declared.entry.Reply.TheVariants as reply
 use Rattle.office_core.specs.declared.calls.Looked.{Looked}
 use Rattle.office_core.specs.declared.calls.Looked.TheVariants as looked
-use Rattle.office_core.specs.Machine.{IsLegal, Machine, entries_by, machine_of}
+use Rattle.office_core.specs.Machine.{IsLegal, Machine, entries_by, machine_of, stored_of}
 use Rattle.office_core.specs.Offices.{Opened, entry}
 use Rattle.office_core.specs.Replies.{is_full}
 
@@ -67,7 +67,7 @@ module _ {P : Type 0} where
 
   -- what the history seen has posted on the roads of the office
   abbrev pub stored_seen : Calling P → Stored
-  stored_seen v = record { roads = v.who.base.roads; postings = (machine_seen v).postings }
+  stored_seen v = stored_of v.who.base (machine_seen v)
 
   -- A look at the office was answered: by a snapshot of what is then posted. It has its entry also where no
   -- memory was left for the snapshot.

@@ -3,6 +3,7 @@ use Rattle.std.specs.Prelude.{◌≡◌, ℕ, ◌+◌, ◌<◌, ◌≤◌, ◌�
 use Rattle.restriction_log.specs.declared.change.Change.{Change}
 use Rattle.restriction_log.specs.Changes.{takes, AreTaken}
 use Rattle.restriction_log.specs.States.{InForce, state_of}
+use Rattle.snapshot_store.specs.Stores.{Stored}
 use Rattle.permit_book.specs.declared.permit.Permit.{Permit}
 use Rattle.permit_book.specs.declared.permit.Mark.TheVariants as mark
 use Rattle.permit_book.specs.Permits.{new_permit, AreNumbered, marked}
@@ -36,6 +37,10 @@ opened day = machine_at [] [] day
 -- the version is the number of the last posting
 abbrev pub version_of : Machine → ℕ
 version_of m = length m.postings
+
+-- what is posted, and on which roads
+abbrev pub stored_of : BaseLists → Machine → Stored
+stored_of base m = record { roads = base.roads; postings = m.postings }
 
 -- what is in force on the roads
 abbrev pub state_in : BaseLists → Machine → InForce

@@ -1,12 +1,12 @@
 -- What contracts see of an office.
 use Rattle.std.specs.Prelude.{◌≡◌, ◌≤◌, ◌<◌, ◌++◌, ◌∷◌, [], ℕ, List, length, All, vec_capacity}
-use Rattle.road_graph.specs.Roads.{IsRoads}
-use Rattle.trip_analysis.specs.Bases.{AreTrains, BaseLists}
+use Rattle.snapshot_store.specs.Stores.{Stored}
+use Rattle.trip_analysis.specs.Bases.{BaseLists}
 use Rattle.office_core.specs.declared.entry.Call.{Call}
 use Rattle.office_core.specs.declared.entry.Reply.{Reply}
 use Rattle.office_core.specs.declared.entry.Entry.{Entry}
 use Rattle.office_core.specs.declared.office.Office.TheInside.{Inside}
-use Rattle.office_core.specs.Machine.{IsLegal, Machine, Step, machine_of}
+use Rattle.office_core.specs.Machine.{IsLegal, Machine, Step, machine_of, stored_of}
 
 -- what the office is about, the day on which it opened, the most entries that its history may hold, and the history
 pub record Opened : Type 0 where
@@ -29,6 +29,10 @@ entry caller call reply = record { caller = caller; call = call; reply = reply }
 abbrev pub machine_in : Opened → Machine
 machine_in o = machine_of o.base o.opening o.history
 
+-- what is posted, and on which roads
+abbrev pub stored_in_office : Opened → Stored
+stored_in_office o = stored_of o.base (machine_in o)
+
 -- the office with one entry more
 abbrev pub grown : Opened → Entry → Opened
 grown o e = record o { history = o.history ++ e ∷ [] }
@@ -44,11 +48,9 @@ HasPlace o = length o.history < o.most
 abbrev pub IsStep : Opened → Entry → Opened → Type 0
 IsStep o e next = Step o.base (machine_in o) e (machine_in next)
 
--- the roads are in order and the trucks have trains of axles; its history is legal, its register keeps the machine that the
--- history leaves, and there is room for the entries that are still to come
+-- the history is legal, the register keeps the machine that it leaves, and there is room for the entries that are still to
+-- come
 pub record IsOffice (o : Inside) : Type 0 where
-  pub roads : IsRoads o.register.base.roads
-  pub trains : AreTrains o.register.base
   pub legal : IsLegal o.register.base o.opening o.history.items
   pub machine : o.register.machine ≡ machine_of o.register.base o.opening o.history.items
   pub callers : All (λ e. e.caller < 65536) o.history.items

@@ -4,6 +4,7 @@ use Rattle.std.specs.Arc.{arc_value}
 use Rattle.road_graph.specs.Roads.{IsRoads}
 use Rattle.restriction_log.specs.declared.change.Change.{Change}
 use Rattle.restriction_log.specs.States.{InForce}
+use Rattle.snapshot_store.specs.Stores.{IsNextOf, NextState, Stored}
 use Rattle.permit_book.specs.declared.permit.Permit.{Permit}
 use Rattle.trip_analysis.specs.declared.application.Application.{Application}
 use Rattle.trip_analysis.specs.declared.finding.What.{What}
@@ -16,7 +17,7 @@ use Rattle.office_core.specs.declared.entry.Reply.TheVariants as reply
 use Rattle.office_core.specs.declared.register.Register.TheInside.{Inside}
 use Rattle.office_core.specs.Recalls.{InForceMeetElsewhere, MeetsElsewhereIfInForce, recalled_by}
 use Rattle.office_core.specs.Replies.{is_issue, what_reply}
-use Rattle.office_core.specs.Machine.{IsGiven, IsGood, Machine, after, machine_at, may_lack, posted_reply, state_at, state_in, version_of, with_permit, with_posting}
+use Rattle.office_core.specs.Machine.{IsGiven, IsGood, Machine, after, machine_at, may_lack, posted_reply, state_at, state_in, stored_of, version_of, with_permit, with_posting}
 
 -- what the office is about, and the machine
 pub record RegisterParts : Type 0 where
@@ -24,15 +25,15 @@ pub record RegisterParts : Type 0 where
   pub machine : Machine
 
 abbrev pub parts_of : Inside → RegisterParts
-parts_of r = record { base = arc_value r.base; machine = machine_at r.log r.book r.day }
+parts_of r = record { base = arc_value r.base; machine = machine_at r.store.postings r.book r.day }
 
--- the roads are in order; the postings, the permits and the day are as every legal history leaves them; the state is that of
--- the postings, and the analyst knows it
+-- the roads are in order; the postings, the permits and the day are as every legal history leaves them; the store is of the
+-- roads, and the analyst knows the state of its postings
 pub record IsKept (r : Inside) (parts : RegisterParts) : Type 0 where
   pub roads : IsRoads parts.base.roads
   pub good : IsGood parts.base parts.machine
-  pub state : r.state ≡ state_in parts.base parts.machine
-  pub known : AreKnown parts.base r.state r.analyst
+  pub store : r.store.roads ≡ parts.base.roads
+  pub known : AreKnown parts.base (state_in parts.base parts.machine) r.analyst
 
 abbrev pub IsRegister : Inside → Type 0
 IsRegister r = IsKept r (parts_of r)
@@ -43,6 +44,14 @@ state_now r = state_in r.base r.machine
 
 abbrev pub state_seen : RegisterParts → ℕ → InForce
 state_seen r seen = state_at r.base r.machine seen
+
+-- what is posted, and on which roads
+abbrev pub stored_now : RegisterParts → Stored
+stored_now r = stored_of r.base r.machine
+
+-- this is what a posting would make of the store
+abbrev pub IsNext : RegisterParts → NextState → Type 0
+IsNext r next = IsNextOf (stored_now r) next
 
 -- this is the answer to the call, where memory suffices
 abbrev pub Gives : RegisterParts → ℕ → Call → Reply → Type 0

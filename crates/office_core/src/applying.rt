@@ -82,9 +82,9 @@ impl Register {
     {
         let what = self
             .analyst
-            .find(self.alloc, &self.base, &self.state, application)?;
+            .find(self.alloc, &self.base, self.store.now(), application)?;
         Ok(Proposal {
-            seen: self.log.version(),
+            seen: self.store.version(),
             what,
         })
     }
@@ -110,36 +110,14 @@ impl Register {
         let (truck, seen) = (application.truck(), proposal.seen);
         match &proposal.what {
             What::NotNeeded => Ok(Answer::plain(Reply::NotNeeded)),
-            What::Route(route) => self.answer_route(caller, application, seen, route, steps),
+            What::Route(route) => match self.first_failing(truck, seen, route.as_slice(), steps) {
+                Some(failing) => Ok(self.outdated(Cause::NowFails {
+                    limit: failing.limit,
+                })),
+                None => self.issue(caller, application, seen, route),
+            },
             What::Fails { segment } => Ok(self.answer_fails(truck, *segment, steps)),
             What::Cut(nodes) => Ok(self.answer_cut(truck, seen, nodes.as_slice(), steps)),
-        }
-    }
-
-    // Answers a route that met all along at the version seen.
-    fn answer_route<L: Ledger>(
-        &mut self,
-        caller: u32,
-        application: &Application,
-        seen: u32,
-        route: &Numbers,
-        steps: &mut Steps<L>,
-    ) -> Result<Answer, NoMemory>
-        requires truck { application.now.truck < length self.old.base.fleet }
-        requires segments { All (λ s. s < length self.old.base.roads.segments) route.now }
-        requires met { HeldAt self.old seen application.now.truck (what.Route route.now) }
-        requires room { HasRoom self.old.machine }
-        ensures base { self.new.base ≡ self.old.base }
-        ensures given { IfOk result (IsReplyTo self.old application.now.truck (what.Route route.now)) }
-        ensures after { IfOk result (Permits self.old caller application.now seen self.new) }
-        ensures unchanged { OnErr result (self.new ≡ self.old) }
-        ensures lack { OnErr result (Issues self.old application.now.truck (what.Route route.now)) }
-    {
-        match self.first_failing(application.truck(), seen, route.as_slice(), steps) {
-            Some(failing) => Ok(self.outdated(Cause::NowFails {
-                limit: failing.limit,
-            })),
-            None => self.issue(caller, application, seen, route),
         }
     }
 
@@ -249,7 +227,7 @@ impl Register {
         ensures after { IfOk result (Permits self.old caller application.now seen self.new) }
         ensures unchanged { OnErr result (self.new ≡ self.old) }
     {
-        let version = self.log.version();
+        let version = self.store.version();
         let answer = Answer::new(Reply::Issued {
             number: self.book.len() + 1,
             version,

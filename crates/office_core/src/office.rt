@@ -7,7 +7,7 @@ ghost use Rattle.permit_book.specs.Permits.{is_issued, permit_of};
 ghost use Rattle.office_core.specs.declared.entry.Reply.TheVariants as reply;
 ghost use Rattle.office_core.specs.Replies.{is_full};
 ghost use Rattle.office_core.specs.Machine.{IsLegal, MayAsk, state_in, version_of};
-ghost use Rattle.office_core.specs.Offices.{HasPlace, IsFull, IsStep, entry, grown, machine_in, newly_opened};
+ghost use Rattle.office_core.specs.Offices.{HasPlace, IsFull, IsStep, entry, grown, machine_in, newly_opened, stored_in_office};
 ghost use Rattle.office_core.specs.Promises.{KeepsPromises};
 
 use crate::entry::{Call, Entry, Reply};
@@ -17,6 +17,7 @@ use office_io::NoMemory;
 use permit_book::Permit;
 use permit_days::Day;
 use restriction_log::State;
+use snapshot_store::Snapshot;
 use std::alloc::Global;
 use std::marker::Model;
 use std::sync::Arc;
@@ -102,6 +103,7 @@ impl Office {
         ensures promises { KeepsPromises self.now.base self.now.opening self.now.history }
         ensures callers { All (λ e. e.caller < 65536) self.now.history }
     {
+        self.base().lists_are_in_order();
         self.history.as_slice()
     }
 
@@ -118,6 +120,13 @@ impl Office {
         ensures of_base { AreOf self.now.base.roads result.now }
     {
         self.register.state()
+    }
+
+    /// The current version, as one more owner of its state. Adds no entry. `NoMemory` where no further owner can be had.
+    pub fn snapshot(&self) -> Result<Snapshot, NoMemory>
+        ensures { IfOk result (λ snapshot. snapshot ≡ stored_in_office self.now) }
+    {
+        self.register.snapshot()
     }
 
     /// The number of the last posting. Takes no memory.

@@ -5,8 +5,8 @@ ghost use Rattle.restriction_log.specs.Changes.{takes};
 ghost use Rattle.restriction_log.specs.States.{AreOf};
 ghost use Rattle.permit_book.specs.declared.permit.Mark.TheVariants as mark;
 ghost use Rattle.office_core.specs.Recalls.{AreLive, IsRanged, MeetsElsewhere, fails, is_recalled, marked_all};
-ghost use Rattle.office_core.specs.Machine.{HasRoom, state_with};
-ghost use Rattle.office_core.specs.Registers.{MeetElsewhere, PermitMeetsElsewhere, Posts, posting_reply, recalls_of};
+ghost use Rattle.office_core.specs.Machine.{HasRoom};
+ghost use Rattle.office_core.specs.Registers.{IsNext, MeetElsewhere, PermitMeetsElsewhere, Posts, posting_reply, recalls_of};
 
 use crate::answer::Answer;
 use crate::entry::Reply;
@@ -14,8 +14,9 @@ use crate::register::Register;
 use clearance_rules::Steps;
 use office_io::NoMemory;
 use permit_book::{Book, Permit};
-use restriction_log::{Change, PostRefusal, State, takes, touched};
+use restriction_log::{Change, PostRefusal, State, touched};
 use road_graph::Numbers;
+use snapshot_store::Next;
 use std::alloc::AllocError;
 use std::sync::ledger::Ledger;
 use trip_analysis::failing_limit_by;
@@ -34,43 +35,40 @@ impl Register {
         ensures unchanged { OnErr result (self.new ≡ self.old) }
         ensures lack { OnErr result (takes self.old.base.roads change.now ≡ true) }
     {
-        if !takes(self.base().network(), change) {
-            return Ok(Answer::plain(Reply::OutOfRange));
-        }
-        let next = self.state().with(self.alloc, change)?;
-        let segment = touched(self.base().network(), change);
-        let recalled = Numbers::of(self.recalled_by(&next, segment, steps)?);
+        let next = match self.store.next(self.base.network(), *change) {
+            Ok(next) => next,
+            Err(PostRefusal::Range) => return Ok(Answer::plain(Reply::OutOfRange)),
+            Err(PostRefusal::NoMemory) => return Err(NoMemory),
+            Err(PostRefusal::Full) => unreachable!(),
+        };
+        let segment = touched(self.base.network(), change);
+        let recalled = Numbers::of(self.recalled_by(next.state(), segment, steps)?);
         let version = self.version() + 1;
         let answer = Answer::new(Reply::Posted { version, recalled })?;
-        self.enter(change, next, answer.numbers(), steps)?;
+        self.enter(next, answer.numbers(), steps)?;
         Ok(answer)
     }
 
     // Goes on to the state that a change makes, and recalls these permits.
     fn enter<L: Ledger>(
         &mut self,
-        change: &Change,
-        next: State,
+        next: Next,
         recalled: &[u32],
         steps: &mut Steps<L>,
     ) -> Result<(), NoMemory>
-        requires takes { takes self.old.base.roads change.now ≡ true }
-        requires room { HasRoom self.old.machine }
-        requires next { next ≡ state_with self.old.base self.old.machine change.now }
-        requires recalled { recalled.now ≡ recalls_of self.old next }
+        requires next { IsNext self.old next }
+        requires recalled { recalled.now ≡ recalls_of self.old next.state }
         ensures base { self.new.base ≡ self.old.base }
-        ensures after { OnOk result (Posts self.old change.now self.new (posting_reply self.old change.now)) }
+        ensures after { OnOk result (Posts self.old next.change self.new (posting_reply self.old next.change)) }
         ensures unchanged { OnErr result (self.new ≡ self.old) }
     {
-        let version = match self.log.post(self.base.network(), *change) {
-            Ok(version) => version,
-            Err(PostRefusal::NoMemory) => return Err(NoMemory),
-            Err(PostRefusal::Range | PostRefusal::Full) => unreachable!(),
-        };
+        let change = next.change();
+        // the analyst goes on from the state before, which the store lets go
+        let before = self.store.snapshot()?;
+        let version = self.store.commit(self.base.network(), next)?;
         recall_each(&mut self.book, recalled, version);
-        self.analyst
-            .turn(&self.base, &self.state, &next, change, steps);
-        self.state = next;
+        let (old, new) = (before.state(), self.store.now());
+        self.analyst.turn(&self.base, old, new, &change, steps);
         Ok(())
     }
 

@@ -4,12 +4,12 @@ ghost use Rattle.std.specs.Prelude.{◌≡◌, ◌<◌, length, All, IfOk, IfSom
 ghost use Rattle.std.specs.Arc.{arc_value};
 ghost use Rattle.road_graph.specs.Roads.{IsRoads};
 ghost use Rattle.restriction_log.specs.States.{AreOf};
-ghost use Rattle.trip_analysis.specs.Bases.{AreTrains, train_of};
+ghost use Rattle.trip_analysis.specs.Bases.{train_of};
 ghost use Rattle.trip_analysis.specs.Findings.{limit_for};
 ghost use Rattle.permit_book.specs.Permits.{is_issued, permit_of};
 ghost use Rattle.office_core.specs.Recalls.{IsRanged};
 ghost use Rattle.office_core.specs.Machine.{HasRoom, IsAnswer, MayAsk, opened, version_of};
-ghost use Rattle.office_core.specs.Registers.{Gives, Leaves, MayLack, state_now};
+ghost use Rattle.office_core.specs.Registers.{Gives, Leaves, MayLack, state_now, stored_now};
 
 use crate::answer::Answer;
 use crate::entry::{Call, Reply};
@@ -18,7 +18,8 @@ use hs20_truck::Kept;
 use office_io::NoMemory;
 use permit_book::{Book, Permit};
 use permit_days::Day;
-use restriction_log::{Log, State};
+use restriction_log::State;
+use snapshot_store::{Snapshot, Store};
 use std::alloc::Global;
 use std::marker::Model;
 use std::sync::Arc;
@@ -34,8 +35,7 @@ pub(crate) struct Register {
     pub(crate) alloc: Global,
     pub(crate) base: Arc<Base, Global>,
     pub(crate) day: Day,
-    pub(crate) state: State,
-    pub(crate) log: Log,
+    pub(crate) store: Store,
     pub(crate) book: Book,
     pub(crate) analyst: Analyst,
 }
@@ -59,19 +59,15 @@ impl Register {
     ) -> Result<Register, NoMemory>
         ensures base { IfOk result (λ register. register.base ≡ arc_value base) }
         ensures machine { IfOk result (λ register. register.machine ≡ opened day) }
-        ensures roads { IfOk result (λ register. IsRoads register.base.roads) }
-        ensures trains { IfOk result (λ register. AreTrains register.base) }
     {
         base.lists_are_in_order();
-        let state = State::base(alloc, base.network())?;
         let analyst = Analyst::new(alloc, &base)?;
-        let log = Log::start(alloc, base.network())?;
+        let store = Store::start(alloc, base.network())?;
         Ok(Register {
             alloc,
             base,
             day,
-            state,
-            log,
+            store,
             book: Book::new(alloc),
             analyst,
         })
@@ -90,14 +86,22 @@ impl Register {
         ensures value { result.now ≡ state_now self.now }
         ensures of_base { AreOf self.now.base.roads result.now }
     {
-        &self.state
+        self.store.now()
+    }
+
+    /// The current version, as one more owner of its state. `NoMemory` where no further owner can be had.
+    #[tactic(auto, using(crate::proofs::Registers::stored_is))]
+    pub(crate) fn snapshot(&self) -> Result<Snapshot, NoMemory>
+        ensures { IfOk result (λ snapshot. snapshot ≡ stored_now self.now) }
+    {
+        self.store.snapshot()
     }
 
     /// The number of the last posting. Takes no memory.
     pub(crate) fn version(&self) -> u32
         ensures { result ≡ version_of self.now.machine }
     {
-        self.log.version()
+        self.store.version()
     }
 
     /// The day that it is. Takes no memory.

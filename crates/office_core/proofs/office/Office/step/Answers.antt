@@ -2,8 +2,6 @@ use Rattle.std.proofs.Common.{rules, ◌+◌, ◌<◌, ◌≡◌, ◌∷◌, [],
 use Rattle.std.specs.List.{All}
 use Rattle.std.proofs.lemmas.List.{length-append}
 use Rattle.std.proofs.lemmas.List.Elements.{All-append, All-cons, All-nil}
-use Rattle.road_graph.specs.Roads.{IsRoads}
-use Rattle.trip_analysis.specs.Bases.{AreTrains, BaseLists}
 use Rattle.office_core.specs.declared.entry.Entry.{Entry}
 use Rattle.office_core.specs.declared.entry.Reply.{Reply}
 use Rattle.office_core.specs.Machine.{MayAsk}
@@ -29,8 +27,6 @@ invariant_of-self g c = let i = c.self.inside in let inv = c.self.invariant in l
     let e : Entry = entry c.args.caller c.args.call c.into_replies-reply.result.0 in
     let longer : length c.push_reserved.new.self.items ≡ length i.history.items + 1 = ap length c.push_reserved.ensures.items ∙ omega (arith, length-append i.history.items (e ∷ [])) in
     record {
-      roads = subst (λ (b : BaseLists). IsRoads b.roads) (sym a.ensures.base) inv.roads;
-      trains = subst AreTrains (sym a.ensures.base) inv.trains;
       legal = (went g c).legal;
       machine = (went g c).machine;
       callers = subst (All (λ (e : Entry). e.caller < 65536)) (sym c.push_reserved.ensures.items)

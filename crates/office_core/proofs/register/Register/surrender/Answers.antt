@@ -6,7 +6,7 @@ use Rattle.office_core.proofs.register.Register.surrender.Goals as goal
 pub invariant_of-self : goal.invariant_of-self
 invariant_of-self c = let i = c.self.inside in let inv = c.self.invariant in record {
   roads = inv.roads;
-  good = rw c.surrender.ensures (good_surrendered (arc_value i.base) (machine_at i.log i.book i.day) c.args.number inv.good);
-  state = inv.state;
+  good = rw c.surrender.ensures (good_surrendered (arc_value i.base) (machine_at i.store.postings i.book i.day) c.args.number inv.good);
+  store = inv.store;
   known = inv.known;
 }
