@@ -10,6 +10,7 @@ use office_io::Name;
 use restriction_log::{Change, State, takes};
 use road_graph::Network;
 use std::alloc::Global;
+use std::fmt::Debug;
 use std::marker::Brand;
 use std::process::Abort;
 use std::sync::ledger::{Blank, Ledger};
@@ -36,7 +37,29 @@ const TWO_TANDEMS: [(u32, u32); 5] = [
     (612, 17_000),
 ];
 
-// A load of this size with axles of these places and weights.
+// Two axles 10 ft apart. On 20 ft the moment is 60,000/(4*240)*180*180, and the shear 30,000 + 15,000.
+const TWO_AXLES: [(u32, u32); 2] = [(0, 30_000), (120, 30_000)];
+
+// What was built is let go by a call of `drop`: where a scope lets it go, the proof of the whole function
+// goes through its parts. For the same reason no function both builds and goes through a table.
+
+// What was found is what a row of a table says.
+fn same<T: PartialEq + Debug>(rt: &impl Abort, row: usize, found: &T, wanted: &T) {
+    assert_eq!(rt; found, wanted, "row {row}");
+}
+
+// A train of axles of these places and weights.
+fn train(rt: &impl Abort, alloc: Global, pairs: &[(u32, u32)]) -> Result<Train, Fail> {
+    let mut axles = Vec::new(alloc);
+    for &(place, weight) in pairs {
+        axles.push(Axle { place, weight })?;
+    }
+    let train = Train::new(axles.as_slice()).expect(rt, "a train");
+    drop(axles);
+    Ok(train)
+}
+
+// A load of this size with these axles.
 fn loaded(
     rt: &impl Abort,
     alloc: Global,
@@ -45,11 +68,7 @@ fn loaded(
     length: u32,
     pairs: &[(u32, u32)],
 ) -> Result<Load, Fail> {
-    let mut axles = Vec::new(alloc);
-    for &(place, weight) in pairs {
-        axles.push(Axle { place, weight })?;
-    }
-    let train = Train::new(axles.as_slice()).expect(rt, "a train");
+    let train = train(rt, alloc, pairs)?;
     Ok(Load::new(height, width, length, train).expect(rt, "a load"))
 }
 
@@ -58,37 +77,40 @@ fn named(rt: &impl Abort, bytes: &[u8]) -> Name {
     Name::new(bytes).expect(rt, "a name")
 }
 
-// Segments 0 and 1 between two nodes, with the spans 0 and 2 on segment 0 and span 1 on segment 1, each 20 ft long.
+// Segments 0 and 1 between two nodes, with the spans 0 and 2 on segment 0 and span 1 on segment 1, each 20 ft
+// long.
 fn roads(rt: &impl Abort, alloc: Global) -> Network {
     let mut network = Network::new(alloc);
-    network.add_node(named(rt, b"a")).expect(rt, "a node");
-    network.add_node(named(rt, b"b")).expect(rt, "a node");
-    network
-        .add_segment(named(rt, b"ab"), 0, 1, 5_280)
-        .expect(rt, "a segment");
-    network
-        .add_segment(named(rt, b"ba"), 1, 0, 5_280)
-        .expect(rt, "a segment");
+    for name in [b"a", b"b"] {
+        let added = network.add_node(named(rt, name));
+        assert!(rt; added.is_ok());
+    }
+    for (name, from, to) in [(b"ab", 0, 1), (b"ba", 1, 0)] {
+        let added = network.add_segment(named(rt, name), from, to, 5_280);
+        assert!(rt; added.is_ok());
+    }
     for (name, segment) in [(b"s", 0), (b"t", 1), (b"u", 0)] {
-        network
-            .add_span(named(rt, name), segment, 240, 100_000)
-            .expect(rt, "a span");
+        let added = network.add_span(named(rt, name), segment, 240, 100_000);
+        assert!(rt; added.is_ok());
     }
     network
 }
 
-// The state after these changes.
+// A change, and the first limit that fails a load after it and the changes of the rows behind it, or none.
+type Row = (Change, Option<Limit>);
+
+// The state after the changes of these rows.
 fn state_after(
     rt: &impl Abort,
     alloc: Global,
     network: &Network,
-    changes: &[Change],
+    rows: &[Row],
 ) -> Result<State, Fail>
     ensures { IfOk result (λ state. AreOf network.now state) }
 {
     let mut state = State::base(alloc, network)?;
     assert!(rt; network.segments() > 0);
-    'changes: for change in changes {
+    'changes: for (change, _) in rows {
         assert!(rt; takes(network, change));
         state = state.with(alloc, change)?;
     }
@@ -116,17 +138,160 @@ fn limit_on<L: Ledger>(
     first_failing(network, state, load, &study, segment, &mut steps)
 }
 
-// The first limit of segment 0 that fails a load, after these changes.
+// The first limit of segment 0 that fails a load, after the changes of these rows.
 fn limit_after(
     rt: &impl Abort,
     alloc: Global,
+    network: &Network,
     load: &Load,
-    changes: &[Change],
+    rows: &[Row],
 ) -> Result<Option<Limit>, Fail> {
-    let network = roads(rt, alloc);
-    let state = state_after(rt, alloc, &network, changes)?;
+    let state = state_after(rt, alloc, network, rows)?;
     assert!(rt; network.segments() > 0);
-    Ok(limit_on::<Brand>(&network, &state, load, 0, Blank::new(1)))
+    let limit = limit_on::<Brand>(network, &state, load, 0, Blank::new(1));
+    drop(state);
+    Ok(limit)
+}
+
+// Tries the change of each row alone.
+fn try_each(
+    rt: &impl Abort,
+    alloc: Global,
+    network: &Network,
+    load: &Load,
+    rows: &[Row],
+) -> Result<(), Fail> {
+    for i in 0..rows.len() {
+        let limit = limit_after(rt, alloc, network, load, &rows[i..i + 1])?;
+        same(rt, i, &limit, &rows[i].1);
+    }
+    Ok(())
+}
+
+// Tries the changes of each row and of those behind it.
+fn try_from_each(
+    rt: &impl Abort,
+    alloc: Global,
+    network: &Network,
+    load: &Load,
+    rows: &[Row],
+) -> Result<(), Fail> {
+    for i in 0..rows.len() {
+        let limit = limit_after(rt, alloc, network, load, &rows[i..])?;
+        same(rt, i, &limit, &rows[i].1);
+    }
+    Ok(())
+}
+
+#[test]
+fn passes_at_equality(rt: HostRuntime) -> Result<(), Fail> {
+    let load = loaded(&rt, rt.alloc(), 168, 144, 720, &OVER_THE_FORMULA)?;
+    let network = roads(&rt, rt.alloc());
+    let tried = try_each(
+        &rt,
+        rt.alloc(),
+        &network,
+        &load,
+        &[
+            (
+                Change::Height {
+                    segment: 0,
+                    inches: 168,
+                },
+                None,
+            ),
+            (
+                Change::Height {
+                    segment: 0,
+                    inches: 167,
+                },
+                Some(Limit::Height {
+                    segment: 0,
+                    has: 168,
+                    allowed: 167,
+                }),
+            ),
+            (
+                Change::Width {
+                    segment: 0,
+                    inches: 144,
+                },
+                None,
+            ),
+            (
+                Change::Width {
+                    segment: 0,
+                    inches: 143,
+                },
+                Some(Limit::Width {
+                    segment: 0,
+                    has: 144,
+                    allowed: 143,
+                }),
+            ),
+            (
+                Change::Length {
+                    segment: 0,
+                    inches: 720,
+                },
+                None,
+            ),
+            (
+                Change::Length {
+                    segment: 0,
+                    inches: 719,
+                },
+                Some(Limit::Length {
+                    segment: 0,
+                    has: 720,
+                    allowed: 719,
+                }),
+            ),
+            (
+                Change::Gross {
+                    segment: 0,
+                    pounds: 80_000,
+                },
+                None,
+            ),
+            (
+                Change::Gross {
+                    segment: 0,
+                    pounds: 79_999,
+                },
+                Some(Limit::Gross {
+                    segment: 0,
+                    has: 80_000,
+                    allowed: 79_999,
+                }),
+            ),
+            // 68,000 lb of 65,500 lb are 1,038.2 thousandths
+            (
+                Change::Allowance {
+                    segment: 0,
+                    permille: 1_039,
+                },
+                None,
+            ),
+            (
+                Change::Allowance {
+                    segment: 0,
+                    permille: 1_038,
+                },
+                Some(Limit::Group {
+                    segment: 0,
+                    i: 1,
+                    j: 4,
+                    weight: 68_000,
+                    limit: 65_500,
+                    allowance: 1_038,
+                }),
+            ),
+        ],
+    );
+    drop(network);
+    drop(load);
+    tried
 }
 
 // A whole number as a fraction.
@@ -134,320 +299,229 @@ fn whole(rt: &impl Abort, number: u128) -> Frac {
     Frac::of(number, 1).expect(rt, "lowest terms")
 }
 
-#[test]
-fn passes_at_equality(rt: HostRuntime) -> Result<(), Fail> {
-    let load = loaded(&rt, rt.alloc(), 168, 144, 720, &OVER_THE_FORMULA)?;
-    let segment = 0;
-    // A change at which the load passes, one at which it fails, and the limit that is then named.
-    let cases = [
-        (
-            Change::Height {
-                segment,
-                inches: 168,
-            },
-            Change::Height {
-                segment,
-                inches: 167,
-            },
-            Limit::Height {
-                segment,
-                has: 168,
-                allowed: 167,
-            },
-        ),
-        (
-            Change::Width {
-                segment,
-                inches: 144,
-            },
-            Change::Width {
-                segment,
-                inches: 143,
-            },
-            Limit::Width {
-                segment,
-                has: 144,
-                allowed: 143,
-            },
-        ),
-        (
-            Change::Length {
-                segment,
-                inches: 720,
-            },
-            Change::Length {
-                segment,
-                inches: 719,
-            },
-            Limit::Length {
-                segment,
-                has: 720,
-                allowed: 719,
-            },
-        ),
-        (
-            Change::Gross {
-                segment,
-                pounds: 80_000,
-            },
-            Change::Gross {
-                segment,
-                pounds: 79_999,
-            },
-            Limit::Gross {
-                segment,
-                has: 80_000,
-                allowed: 79_999,
-            },
-        ),
-        // 68,000 lb of 65,500 lb are 1,038.2 thousandths
-        (
-            Change::Allowance {
-                segment,
-                permille: 1_039,
-            },
-            Change::Allowance {
-                segment,
-                permille: 1_038,
-            },
-            Limit::Group {
-                segment,
-                i: 1,
-                j: 4,
-                weight: 68_000,
-                limit: 65_500,
-                allowance: 1_038,
-            },
-        ),
-    ];
-    for (passes, fails, limit) in cases {
-        assert_eq!(rt;
-            limit_after(&rt, rt.alloc(), &load, &[passes])?,
-            None,
-            "{passes:?}"
-        );
-        assert_eq!(rt;
-            limit_after(&rt, rt.alloc(), &load, &[fails])?,
-            Some(limit),
-            "{fails:?}"
-        );
-    }
-    Ok(())
+// A moment and a shear on a span of segment 0, each a whole number, over what the span may carry.
+fn moment(rt: &impl Abort, span: u32, has: u128, design: u128, rating: u32) -> Option<Limit> {
+    Some(Limit::Moment {
+        segment: 0,
+        span,
+        has: whole(rt, has),
+        design: whole(rt, design),
+        rating,
+    })
 }
 
+fn shear(rt: &impl Abort, span: u32, has: u128, design: u128, rating: u32) -> Option<Limit> {
+    Some(Limit::Shear {
+        segment: 0,
+        span,
+        has: whole(rt, has),
+        design: whole(rt, design),
+        rating,
+    })
+}
+
+// A rating of a span, and the limit that fails a load after it.
+fn rated(span: u32, permille: u32, limit: Option<Limit>) -> Row {
+    (Change::Rating { span, permille }, limit)
+}
+
+fn name_the_first(
+    rt: &impl Abort,
+    alloc: Global,
+    network: &Network,
+    load: &Load,
+) -> Result<(), Fail> {
+    let segment = 0;
+    let rows = [
+        (
+            Change::Closed {
+                segment,
+                closed: true,
+            },
+            Some(Limit::Closed { segment }),
+        ),
+        (
+            Change::Height { segment, inches: 1 },
+            Some(Limit::Height {
+                segment,
+                has: 168,
+                allowed: 1,
+            }),
+        ),
+        (
+            Change::Width { segment, inches: 1 },
+            Some(Limit::Width {
+                segment,
+                has: 144,
+                allowed: 1,
+            }),
+        ),
+        (
+            Change::Length { segment, inches: 1 },
+            Some(Limit::Length {
+                segment,
+                has: 720,
+                allowed: 1,
+            }),
+        ),
+        (
+            Change::Gross { segment, pounds: 1 },
+            Some(Limit::Gross {
+                segment,
+                has: 72_000,
+                allowed: 1,
+            }),
+        ),
+        (
+            Change::Allowance {
+                segment,
+                permille: 0,
+            },
+            Some(Limit::Group {
+                segment,
+                i: 1,
+                j: 1,
+                weight: 32_000,
+                limit: 20_000,
+                allowance: 0,
+            }),
+        ),
+        // 32,000 lb at the middle of 20 ft
+        rated(0, 999, moment(rt, 0, 1_920_000, 1_920_000, 999)),
+        rated(2, 0, moment(rt, 2, 1_920_000, 1_920_000, 0)),
+        // a span of another segment
+        rated(1, 0, None),
+    ];
+    try_from_each(rt, alloc, network, load, &rows)
+}
+
+// Of all changes the first fails the load; of those after it the next one does, and so on.
 #[test]
 fn names_the_first_limit(rt: HostRuntime) -> Result<(), Fail> {
     let load = loaded(&rt, rt.alloc(), 168, 144, 720, &HS20)?;
-    let segment = 0;
-    let changes = [
-        Change::Closed {
-            segment,
-            closed: true,
-        },
-        Change::Height { segment, inches: 1 },
-        Change::Width { segment, inches: 1 },
-        Change::Length { segment, inches: 1 },
-        Change::Gross { segment, pounds: 1 },
-        Change::Allowance {
-            segment,
-            permille: 0,
-        },
-        Change::Rating {
-            span: 0,
-            permille: 999,
-        },
-        Change::Rating {
-            span: 2,
-            permille: 0,
-        },
-        // a span of another segment
-        Change::Rating {
-            span: 1,
-            permille: 0,
-        },
+    let network = roads(&rt, rt.alloc());
+    let named = name_the_first(&rt, rt.alloc(), &network, &load);
+    drop(network);
+    drop(load);
+    named
+}
+
+fn judge_spans(rt: &impl Abort, alloc: Global, network: &Network, load: &Load) -> Result<(), Fail> {
+    let rows = [
+        rated(0, 1_082, None),
+        rated(0, 1_081, shear(rt, 0, 45_000, 41_600, 1_081)),
+        rated(0, 1_055, shear(rt, 0, 45_000, 41_600, 1_055)),
+        rated(0, 1_054, moment(rt, 0, 2_025_000, 1_920_000, 1_054)),
     ];
-    // 32,000 lb at the middle of 20 ft
-    let moment = whole(&rt, 1_920_000);
-    let limits = [
-        Some(Limit::Closed { segment }),
-        Some(Limit::Height {
-            segment,
-            has: 168,
-            allowed: 1,
-        }),
-        Some(Limit::Width {
-            segment,
-            has: 144,
-            allowed: 1,
-        }),
-        Some(Limit::Length {
-            segment,
-            has: 720,
-            allowed: 1,
-        }),
-        Some(Limit::Gross {
-            segment,
-            has: 72_000,
-            allowed: 1,
-        }),
-        Some(Limit::Group {
-            segment,
-            i: 1,
-            j: 1,
-            weight: 32_000,
-            limit: 20_000,
-            allowance: 0,
-        }),
-        Some(Limit::Moment {
-            segment,
-            span: 0,
-            has: moment,
-            design: moment,
-            rating: 999,
-        }),
-        Some(Limit::Moment {
-            segment,
-            span: 2,
-            has: moment,
-            design: moment,
-            rating: 0,
-        }),
-        None,
-    ];
-    // Of all changes the first fails the load; of those after it the next one does, and so on.
-    for (i, limit) in limits.iter().enumerate() {
-        assert_eq!(rt;
-            limit_after(&rt, rt.alloc(), &load, &changes[i..])?,
-            *limit,
-            "from change {i} on"
-        );
-    }
-    Ok(())
+    try_each(rt, alloc, network, load, &rows)
 }
 
 #[test]
 fn judges_spans_by_both_effects(rt: HostRuntime) -> Result<(), Fail> {
-    // Two axles of 30,000 lb, 10 ft apart, on 20 ft: the moment is 60,000/(4*240)*180*180, the shear 30,000 + 15,000.
-    let load = loaded(
-        &rt,
-        rt.alloc(),
-        168,
-        144,
-        720,
-        &[(0, 30_000), (120, 30_000)],
-    )?;
-    let (segment, span) = (0, 0);
-    let (moment, design_moment) = (whole(&rt, 2_025_000), whole(&rt, 1_920_000));
-    let (shear, design_shear) = (whole(&rt, 45_000), whole(&rt, 41_600));
-    for (rating, limit) in [
-        (1_082, None),
-        (
-            1_081,
-            Some(Limit::Shear {
-                segment,
-                span,
-                has: shear,
-                design: design_shear,
-                rating: 1_081,
-            }),
-        ),
-        (
-            1_055,
-            Some(Limit::Shear {
-                segment,
-                span,
-                has: shear,
-                design: design_shear,
-                rating: 1_055,
-            }),
-        ),
-        (
-            1_054,
-            Some(Limit::Moment {
-                segment,
-                span,
-                has: moment,
-                design: design_moment,
-                rating: 1_054,
-            }),
-        ),
-    ] {
-        let change = Change::Rating {
-            span,
-            permille: rating,
-        };
-        assert_eq!(rt;
-            limit_after(&rt, rt.alloc(), &load, &[change])?,
-            limit,
-            "at {rating}"
-        );
-    }
-    // The design truck itself is carried at a rating of 1,000.
+    let load = loaded(&rt, rt.alloc(), 168, 144, 720, &TWO_AXLES)?;
+    let network = roads(&rt, rt.alloc());
+    let judged = judge_spans(&rt, rt.alloc(), &network, &load);
+    drop(network);
+    drop(load);
+    judged
+}
+
+#[test]
+fn carries_the_design_truck_at_a_rating_of_1000(rt: HostRuntime) -> Result<(), Fail> {
     let load = loaded(&rt, rt.alloc(), 168, 144, 720, &HS20)?;
-    let change = Change::Rating {
-        span,
-        permille: 1_000,
-    };
-    assert_eq!(rt; limit_after(&rt, rt.alloc(), &load, &[change])?, None);
+    let network = roads(&rt, rt.alloc());
+    let rows = [rated(0, 1_000, None)];
+    let tried = try_each(&rt, rt.alloc(), &network, &load, &rows);
+    drop(network);
+    drop(load);
     limits_are_of_their_segment();
-    Ok(())
+    tried
+}
+
+// Whether a load of this height and width is legal.
+fn is_legal(
+    rt: &impl Abort,
+    alloc: Global,
+    height: u32,
+    width: u32,
+    pairs: &[(u32, u32)],
+) -> Result<bool, Fail> {
+    let load = loaded(rt, alloc, height, width, 720, pairs)?;
+    let legal = load.legal();
+    drop(load);
+    Ok(legal)
 }
 
 #[test]
 fn tells_which_loads_are_legal(rt: HostRuntime) -> Result<(), Fail> {
-    for (height, width, pairs, legal) in [
-        (162, 102, &TWO_TANDEMS, true),
-        (163, 102, &TWO_TANDEMS, false),
-        (162, 103, &TWO_TANDEMS, false),
-        (162, 102, &OVER_THE_FORMULA, false),
-    ] {
-        let load = loaded(&rt, rt.alloc(), height, width, 720, pairs)?;
-        assert_eq!(rt; load.legal(), legal, "{height} {width} {pairs:?}");
-    }
+    let alloc = rt.alloc();
+    assert!(rt; is_legal(&rt, alloc, 162, 102, &TWO_TANDEMS)?);
+    assert!(rt; !is_legal(&rt, alloc, 163, 102, &TWO_TANDEMS)?);
+    assert!(rt; !is_legal(&rt, alloc, 162, 103, &TWO_TANDEMS)?);
+    assert!(rt; !is_legal(&rt, alloc, 162, 102, &OVER_THE_FORMULA)?);
+    Ok(())
+}
+
+#[test]
+fn tells_the_parts_of_a_load(rt: HostRuntime) -> Result<(), Fail> {
     let load = loaded(&rt, rt.alloc(), 162, 102, 720, &OVER_THE_FORMULA)?;
-    assert_eq!(rt;
-        (load.height(), load.width(), load.length()),
-        (162, 102, 720)
-    );
-    assert_eq!(rt; load.train().gross(), 80_000);
+    let sizes = (load.height(), load.width(), load.length());
+    let (gross, found) = (load.train().gross(), load.worst());
+    drop(load);
+    same(&rt, 0, &sizes, &(162, 102, 720));
+    same(&rt, 1, &gross, &80_000);
     let worst = WorstGroup {
         i: 1,
         j: 4,
         weight: 68_000,
         limit: 65_500,
     };
-    assert_eq!(rt; load.worst(), worst);
-    assert_eq!(rt;
-        format!(in rt.alloc(); "{Range}")?.as_str(),
-        "a number is out of its range"
-    );
+    same(&rt, 2, &found, &worst);
     Ok(())
 }
 
+// Whether a load of this height, width and length can be made.
+fn is_taken(sizes: (u32, u32, u32)) -> Result<bool, Fail> {
+    let axles = [
+        Axle {
+            place: 0,
+            weight: 1,
+        },
+        Axle {
+            place: 1,
+            weight: 1,
+        },
+    ];
+    let load = Load::new(sizes.0, sizes.1, sizes.2, Train::new(&axles)?);
+    let taken = load.is_ok();
+    drop(load);
+    Ok(taken)
+}
+
+fn take_each(rt: &impl Abort, cases: &[((u32, u32, u32), bool)]) -> Result<(), Fail> {
+    for (row, &(sizes, taken)) in cases.iter().enumerate() {
+        same(rt, row, &is_taken(sizes)?, &taken);
+    }
+    Ok(())
+}
+
+// Height, width and length.
 #[test]
 fn takes_numbers_in_range(rt: HostRuntime) -> Result<(), Fail> {
-    for (height, width, length, taken) in [
-        (1, 1, 1, true),
-        (999, 999, 9_999, true),
-        (0, 1, 1, false),
-        (1_000, 1, 1, false),
-        (1, 0, 1, false),
-        (1, 1_000, 1, false),
-        (1, 1, 0, false),
-        (1, 1, 10_000, false),
-    ] {
-        let axles = [
-            Axle {
-                place: 0,
-                weight: 1,
-            },
-            Axle {
-                place: 1,
-                weight: 1,
-            },
-        ];
-        let load = Load::new(height, width, length, Train::new(&axles)?);
-        assert_eq!(rt; load.is_ok(), taken, "{height} {width} {length}");
-    }
+    take_each(
+        &rt,
+        &[
+            ((1, 1, 1), true),
+            ((999, 999, 9_999), true),
+            ((0, 1, 1), false),
+            ((1_000, 1, 1), false),
+            ((1, 0, 1), false),
+            ((1, 1_000, 1), false),
+            ((1, 1, 0), false),
+            ((1, 1, 10_000), false),
+        ],
+    )?;
+    let range = format!(in rt.alloc(); "{Range}")?;
+    assert_eq!(rt; range.as_str(), "a number is out of its range");
     Ok(())
 }
