@@ -13,6 +13,8 @@ use axle_train::Axle;
 use csv::StringRecord;
 use road_graph::What;
 use std::alloc::Global;
+use std::fmt::Debug;
+use std::process::Abort;
 use std::test::Fail;
 
 // The number in the second field of the last record.
@@ -35,90 +37,147 @@ impl Progress for Last {
     }
 }
 
+// What was found is what a table says of a text.
+fn same<T: PartialEq + Debug>(rt: &impl Abort, text: &str, found: &T, wanted: &T) {
+    assert_eq!(rt; found, wanted, "{text:?}");
+}
+
+fn lead(rt: &impl Abort, alloc: Global, text: &str, rows: u64, number: u32) -> Result<(), Fail> {
+    let (next, last) = read_records(alloc, Last { number: 0 }, text.as_bytes())?;
+    same(rt, text, &(next, last.number), &(rows, number));
+    Ok(())
+}
+
+// A text, the number of the row after its last, and the number that was read last.
+fn lead_each(rt: &impl Abort, alloc: Global, cases: &[(&str, u64, u32)]) -> Result<(), Fail> {
+    for &(text, rows, number) in cases {
+        lead(rt, alloc, text, rows, number)?;
+    }
+    Ok(())
+}
+
 #[test]
 fn leads_through_all_records(rt: HostRuntime) -> Result<(), Fail> {
-    for (text, rows, number) in [
-        ("", 1, 0),
-        ("a,7,,,,,,", 2, 7),
-        ("a,7,,,,,,\r\n\n\"b\",\"0012\",,,,,,\n", 3, 12),
-        ("\u{feff}a,999999999,,,,,,\n", 2, 999_999_999),
-    ] {
-        let (next, last) = read_records(rt.alloc(), Last { number: 0 }, text.as_bytes())?;
-        assert_eq!(rt; next, rows, "{text}");
-        assert_eq!(rt; last.number, number, "{text}");
+    lead_each(
+        &rt,
+        rt.alloc(),
+        &[
+            ("", 1, 0),
+            ("a,7,,,,,,", 2, 7),
+            ("a,7,,,,,,\r\n\n\"b\",\"0012\",,,,,,\n", 3, 12),
+            ("\u{feff}a,999999999,,,,,,\n", 2, 999_999_999),
+        ],
+    )
+}
+
+fn refusal(alloc: Global, text: &[u8]) -> Option<FileRefusal> {
+    read_records(alloc, Last { number: 0 }, text).err()
+}
+
+// A text, the first of its rows that is refused, and why.
+fn stop_each(rt: &impl Abort, alloc: Global, cases: &[(&[u8], u64, RecordCause)]) {
+    for &(text, row, cause) in cases {
+        let wanted = FileRefusal::Refused {
+            row,
+            cause: Cause::Bad(cause),
+        };
+        assert_eq!(rt; refusal(alloc, text), Some(wanted));
     }
-    Ok(())
 }
 
 #[test]
-fn stops_at_the_first_record_that_is_refused(rt: HostRuntime) -> Result<(), Fail> {
-    for (text, row, cause) in [
-        (b"a,7,,,,,\n".as_slice(), 1, RecordCause::Fields),
-        (
-            b"a,7,,,,,,\na,7,,,,,,,\n".as_slice(),
-            2,
-            RecordCause::Fields,
-        ),
-        (
-            b"a,7,,,,,,\n\xff,7,,,,,,\n".as_slice(),
-            2,
-            RecordCause::Fields,
-        ),
-        (
-            b"a,7,,,,,,\nb,,,,,,,\nc,7,x,,,,,\n".as_slice(),
-            2,
-            RecordCause::Field(2),
-        ),
-        (b"a,7,,,,,,\nb,7,,,,,,x\n".as_slice(), 2, RecordCause::Extra),
-        (b"a,1234567890,,,,,,\n".as_slice(), 1, RecordCause::Field(2)),
-    ] {
-        assert_eq!(rt;
-            read_records(rt.alloc(), Last { number: 0 }, text).err(),
-            Some(FileRefusal::Refused {
-                row,
-                cause: Cause::Bad(cause)
-            })
+fn stops_at_the_first_record_that_is_refused(rt: HostRuntime) {
+    stop_each(
+        &rt,
+        rt.alloc(),
+        &[
+            (b"a,7,,,,,\n", 1, RecordCause::Fields),
+            (b"a,7,,,,,,\na,7,,,,,,,\n", 2, RecordCause::Fields),
+            (b"a,7,,,,,,\n\xff,7,,,,,,\n", 2, RecordCause::Fields),
+            (
+                b"a,7,,,,,,\nb,,,,,,,\nc,7,x,,,,,\n",
+                2,
+                RecordCause::Field(2),
+            ),
+            (b"a,7,,,,,,\nb,7,,,,,,x\n", 2, RecordCause::Extra),
+            (b"a,1234567890,,,,,,\n", 1, RecordCause::Field(2)),
+        ],
+    );
+}
+
+fn read_names(rt: &impl Abort, cases: &[(&str, bool)]) {
+    for (text, is) in cases {
+        same(rt, text, &parse_name(text).is_some(), is);
+    }
+}
+
+fn read_numbers(rt: &impl Abort, cases: &[(&str, Option<u32>)]) {
+    for (text, number) in cases {
+        same(rt, text, &parse_number(text), number);
+    }
+}
+
+// A text, whether it has the shape of a day, and whether there is such a day.
+fn read_days(rt: &impl Abort, cases: &[(&str, bool, bool)]) {
+    for &(text, shaped, there) in cases {
+        let day = parse_day(text);
+        same(
+            rt,
+            text,
+            &(day.is_some(), day.flatten().is_some()),
+            &(shaped, there),
         );
     }
-    Ok(())
 }
 
 #[test]
-fn reads_names_numbers_and_days(rt: HostRuntime) -> Result<(), Fail> {
-    for (text, is) in [
-        ("A", true),
-        ("a-b_C9", true),
-        ("1234567890123456", true),
-        ("12345678901234567", false),
-        ("", false),
-        ("a b", false),
-        ("\u{e9}", false),
-    ] {
-        assert_eq!(rt; parse_name(text).is_some(), is, "{text}");
-    }
-    for (text, number) in [
-        ("0", Some(0)),
-        ("007", Some(7)),
-        ("999999999", Some(999_999_999)),
-        ("0000000001", None),
-        ("", None),
-        ("+1", None),
-        ("1.", None),
-    ] {
-        assert_eq!(rt; parse_number(text), number, "{text}");
-    }
-    for (text, shaped, there) in [
-        ("2026-03-02", true, true),
-        ("2026-13-02", true, false),
-        ("0000-01-01", true, false),
-        ("2026-3-02", false, false),
-        ("", false, false),
-    ] {
-        let day = parse_day(text);
-        assert_eq!(rt; day.is_some(), shaped, "{text}");
-        assert_eq!(rt; day.flatten().is_some(), there, "{text}");
-    }
-    Ok(())
+fn reads_names_numbers_and_days(rt: HostRuntime) {
+    read_names(
+        &rt,
+        &[
+            ("A", true),
+            ("a-b_C9", true),
+            ("1234567890123456", true),
+            ("12345678901234567", false),
+            ("", false),
+            ("a b", false),
+            ("\u{e9}", false),
+        ],
+    );
+    read_numbers(
+        &rt,
+        &[
+            ("0", Some(0)),
+            ("007", Some(7)),
+            ("999999999", Some(999_999_999)),
+            ("0000000001", None),
+            ("", None),
+            ("+1", None),
+            ("1.", None),
+        ],
+    );
+    read_days(
+        &rt,
+        &[
+            ("2026-03-02", true, true),
+            ("2026-13-02", true, false),
+            ("0000-01-01", true, false),
+            ("2026-3-02", false, false),
+            ("", false, false),
+        ],
+    );
+}
+
+// Whether a text has these axles.
+fn are_axles(alloc: Global, text: &str, wanted: &[Axle]) -> Result<bool, Fail> {
+    Ok(match parse_axles(alloc, text)? {
+        Some(axles) => axles.as_slice() == wanted,
+        None => false,
+    })
+}
+
+fn are_no_axles(alloc: Global, text: &str) -> Result<bool, Fail> {
+    Ok(parse_axles(alloc, text)?.is_none())
 }
 
 #[test]
@@ -133,51 +192,82 @@ fn reads_axles(rt: HostRuntime) -> Result<(), Fail> {
             weight: 17_000,
         },
     ];
-    let read = parse_axles(rt.alloc(), "0:12000 180:17000")?;
-    assert!(rt; read.is_some_and(|axles| axles.as_slice() == two.as_slice()));
+    assert!(rt; are_axles(rt.alloc(), "0:12000 180:17000", &two)?);
     for text in [
         "", "0", "0:", ":1", "0:1:2", "0:1  2:3", "0:1 ", " 0:1", "0:1,2:3",
     ] {
-        assert!(rt; parse_axles(rt.alloc(), text)?.is_none(), "{text}");
+        same(&rt, text, &are_no_axles(rt.alloc(), text)?, &true);
+    }
+    Ok(())
+}
+
+// How many names the route of a text has.
+fn names_of(alloc: Global, text: &str) -> Result<Option<usize>, Fail> {
+    Ok(match parse_route(alloc, text)? {
+        Some(route) => Some(route.as_slice().len()),
+        None => None,
+    })
+}
+
+fn read_routes(
+    rt: &impl Abort,
+    alloc: Global,
+    cases: &[(&str, Option<usize>)],
+) -> Result<(), Fail> {
+    for (text, names) in cases {
+        same(rt, text, &names_of(alloc, text)?, names);
     }
     Ok(())
 }
 
 #[test]
 fn reads_routes(rt: HostRuntime) -> Result<(), Fail> {
-    for (text, names) in [
-        ("", Some(0)),
-        ("S1", Some(1)),
-        ("S1 S2 S1", Some(3)),
-        (" ", None),
-        ("S1  S2", None),
-        ("S1 ", None),
-        ("S1,S2", None),
-    ] {
-        let route = parse_route(rt.alloc(), text)?;
-        assert_eq!(rt; route.map(|names| names.as_slice().len()), names, "{text}");
+    read_routes(
+        &rt,
+        rt.alloc(),
+        &[
+            ("", Some(0)),
+            ("S1", Some(1)),
+            ("S1 S2 S1", Some(3)),
+            (" ", None),
+            ("S1  S2", None),
+            ("S1 ", None),
+            ("S1,S2", None),
+        ],
+    )
+}
+
+// A text, and what it names as a limit, and as what a posting replaces.
+fn read_postings(rt: &impl Abort, cases: &[(&str, Option<What>, Option<Posted>)]) {
+    for &(text, what, posted) in cases {
+        same(
+            rt,
+            text,
+            &(parse_what(text), parse_posted(text)),
+            &(what, posted),
+        );
     }
-    Ok(())
+}
+
+fn limit(text: &str, what: What) -> (&str, Option<What>, Option<Posted>) {
+    (text, Some(what), Some(Posted::Limit(what)))
 }
 
 #[test]
-fn reads_what_a_posting_replaces(rt: HostRuntime) -> Result<(), Fail> {
-    for (text, what) in [
-        ("closed", What::Closed),
-        ("height", What::Height),
-        ("width", What::Width),
-        ("length", What::Length),
-        ("gross", What::Gross),
-        ("allowance", What::Allowance),
-    ] {
-        assert_eq!(rt; parse_what(text), Some(what));
-        assert_eq!(rt; parse_posted(text), Some(Posted::Limit(what)));
-    }
-    for text in ["Height", "tridem", ""] {
-        assert_eq!(rt; parse_what(text), None);
-        assert_eq!(rt; parse_posted(text), None);
-    }
-    assert_eq!(rt; parse_what("rating"), None);
-    assert_eq!(rt; parse_posted("rating"), Some(Posted::Rating));
-    Ok(())
+fn reads_what_a_posting_replaces(rt: HostRuntime) {
+    read_postings(
+        &rt,
+        &[
+            limit("closed", What::Closed),
+            limit("height", What::Height),
+            limit("width", What::Width),
+            limit("length", What::Length),
+            limit("gross", What::Gross),
+            limit("allowance", What::Allowance),
+            ("rating", None, Some(Posted::Rating)),
+            ("Height", None, None),
+            ("tridem", None, None),
+            ("", None, None),
+        ],
+    );
 }
