@@ -1,0 +1,5 @@
+pub mod Growing
+pub mod Attempting
+pub mod Alone
+pub mod Lengths
+pub mod Runs

@@ -1,0 +1,252 @@
+// Commands that are carried out by the calls of an office.
+
+ghost use Rattle.std.specs.Prelude.{◌≡◌, false, IfErr, IfOk, MatchOption};
+ghost use Rattle.snapshot_store.specs.Stores.{version_of};
+ghost use Rattle.trip_analysis.specs.Applications.{Sound};
+ghost use Rattle.trip_analysis.specs.Findings.{IsFoundAt};
+ghost use Rattle.office_core.specs.declared.entry.Command.TheVariants as asked;
+ghost use Rattle.office_core.specs.Replies.{is_outdated};
+ghost use Rattle.analyst_pool.specs.Attempts.{Concluded, DecidedAfter, IsAgain};
+ghost use Rattle.analyst_pool.specs.Attempts.{IsDrafted, IsSubmitted, IsUnlessOutdated, MaySubmit};
+ghost use Rattle.analyst_pool.specs.Leaves.{CarriedOut, MayCarryOut};
+
+use crate::gate::Gate;
+use office_core::{Command, Looked, OfficeCalls, Reply};
+use office_io::NoMemory;
+use snapshot_store::Snapshot;
+use std::alloc::Global;
+use trip_analysis::{Application, Base, Proposal, analyse};
+
+/// A command of an actor on its way: what the office is about, who is told how far it is, the number of the
+/// actor, and that of the command among the actor's own, both from 0.
+#[derive(Drop)]
+pub struct Docket<'a, G: Gate> {
+    pub base: &'a Base,
+    pub gate: &'a G,
+    pub actor: u32,
+    pub command: u32,
+}
+
+// A copy of an application, and what was found for it.
+#[derive(Drop)]
+struct Draft {
+    application: Application,
+    proposal: Proposal,
+}
+
+/// Carries out a command by these calls. The gate is told before it and once it has its reply.
+///
+/// The reply is that of its last call. It is `Full` only where the calls are then full with that number, and
+/// `NoMemory` also where, after a snapshot, no memory was left to find what an application needs.
+pub fn carry_out<C: OfficeCalls, G: Gate>(
+    alloc: Global,
+    calls: &mut C,
+    command: &Command,
+    docket: &Docket<G>,
+) -> Reply
+    requires base { docket.now.base.now ≡ (C.view calls.old).who.base }
+    requires sound { MayCarryOut docket.now.base.now command.now }
+    ensures { CarriedOut (C.view calls.old) command.now result (C.view calls.new) }
+{
+    docket.gate.before(docket.actor, docket.command);
+    let reply = ask(alloc, calls, command, docket);
+    docket.gate.answered(docket.actor, docket.command);
+    reply
+}
+
+/// Decides an application by these calls, in at most eight attempts and then one held call. An attempt
+/// takes a snapshot, finds at it what the application needs, tells the gate, and submits what it found.
+///
+/// The reply is the first that does not say that what was proposed is out of date. It is `Full` only where
+/// the calls are then full with that number, and `NoMemory` also where, after a snapshot, no memory was
+/// left to find what is needed.
+pub fn decide<C: OfficeCalls, G: Gate>(
+    alloc: Global,
+    calls: &mut C,
+    base: &Base,
+    application: Application,
+    gate: &G,
+    actor: u32,
+    command: u32,
+) -> Reply
+    requires base { base.now ≡ (C.view calls.old).who.base }
+    requires sound { Sound base.now application }
+    ensures decided { CarriedOut (C.view calls.old) (asked.Apply application) result (C.view calls.new) }
+    ensures settled { is_outdated result ≡ false }
+{
+    let docket = Docket {
+        base,
+        gate,
+        actor,
+        command,
+    };
+    decide_by(alloc, calls, &application, &docket)
+}
+
+// Asks a command, in one call or, for an application, as many as it takes.
+fn ask<C: OfficeCalls, G: Gate>(
+    alloc: Global,
+    calls: &mut C,
+    command: &Command,
+    docket: &Docket<G>,
+) -> Reply
+    requires base { docket.now.base.now ≡ (C.view calls.old).who.base }
+    requires sound { MayCarryOut docket.now.base.now command.now }
+    ensures { CarriedOut (C.view calls.old) command.now result (C.view calls.new) }
+{
+    match command {
+        Command::Apply(application) => decide_by(alloc, calls, application, docket),
+        Command::Post(change) => calls.post(*change),
+        Command::Day(day) => calls.day(*day),
+        Command::Surrender(number) => calls.surrender(*number),
+        Command::Show(number) => calls.show(*number),
+    }
+}
+
+// Decides an application, which stays with its owner.
+fn decide_by<C: OfficeCalls, G: Gate>(
+    alloc: Global,
+    calls: &mut C,
+    application: &Application,
+    docket: &Docket<G>,
+) -> Reply
+    requires base { docket.now.base.now ≡ (C.view calls.old).who.base }
+    requires sound { Sound docket.now.base.now application.now }
+    ensures decided { CarriedOut (C.view calls.old) (asked.Apply application.now) result (C.view calls.new) }
+    ensures settled { is_outdated result ≡ false }
+{
+    for tries in 0..7 {
+        match attempt(alloc, calls, application, docket, tries + 1) {
+            Some(reply) => return reply,
+            None => (),
+        }
+    }
+    last_attempt(alloc, calls, application, docket)
+}
+
+// One attempt, which has this number: nothing where it is out of date.
+fn attempt<C: OfficeCalls, G: Gate>(
+    alloc: Global,
+    calls: &mut C,
+    application: &Application,
+    docket: &Docket<G>,
+    number: u32,
+) -> Option<Reply>
+    requires base { docket.now.base.now ≡ (C.view calls.old).who.base }
+    requires sound { Sound docket.now.base.now application.now }
+    ensures { MatchOption result
+        (IsAgain (C.view calls.old) application.now (C.view calls.new))
+        (λ r. Concluded (C.view calls.old) application.now r (C.view calls.new)) }
+{
+    match prepare(alloc, calls, docket.base, application) {
+        Ok(draft) => submit(calls, draft, docket, number),
+        Err(reply) => Some(reply),
+    }
+}
+
+// The eighth attempt, and the held call where it is out of date too. The held call takes a copy, which is
+// made before the submit: so want of memory comes after a snapshot, as in every attempt.
+fn last_attempt<C: OfficeCalls, G: Gate>(
+    alloc: Global,
+    calls: &mut C,
+    application: &Application,
+    docket: &Docket<G>,
+) -> Reply
+    requires base { docket.now.base.now ≡ (C.view calls.old).who.base }
+    requires sound { Sound docket.now.base.now application.now }
+    ensures { DecidedAfter 7 (C.view calls.old) application.now result (C.view calls.new) }
+{
+    let draft = match prepare(alloc, calls, docket.base, application) {
+        Ok(draft) => draft,
+        Err(reply) => return reply,
+    };
+    let copy = match application.try_clone(alloc) {
+        Ok(copy) => copy,
+        Err(NoMemory) => return Reply::NoMemory,
+    };
+    match submit(calls, draft, docket, 8) {
+        Some(reply) => reply,
+        None => hold(calls, docket.base, copy),
+    }
+}
+
+// A draft at a new snapshot, or the reply where there is none.
+fn prepare<C: OfficeCalls>(
+    alloc: Global,
+    calls: &mut C,
+    base: &Base,
+    application: &Application,
+) -> Result<Draft, Reply>
+    requires base { base.now ≡ (C.view calls.old).who.base }
+    requires sound { Sound base.now application.now }
+    ensures drafted { IfOk result
+        (λ draft. IsDrafted (C.view calls.old) application.now draft (C.view calls.new)) }
+    ensures concluded { IfErr result
+        (λ r. Concluded (C.view calls.old) application.now r (C.view calls.new)) }
+{
+    let snapshot = match calls.snapshot() {
+        Looked::At(snapshot) => snapshot,
+        Looked::NoMemory => return Err(Reply::NoMemory),
+        Looked::Full { entries } => return Err(Reply::Full { entries }),
+    };
+    let proposal = match propose(alloc, base, snapshot, application) {
+        Ok(proposal) => proposal,
+        Err(NoMemory) => return Err(Reply::NoMemory),
+    };
+    match application.try_clone(alloc) {
+        Ok(application) => Ok(Draft {
+            application,
+            proposal,
+        }),
+        Err(NoMemory) => Err(Reply::NoMemory),
+    }
+}
+
+// What an analyst finds for an application at a snapshot.
+fn propose(
+    alloc: Global,
+    base: &Base,
+    snapshot: Snapshot,
+    application: &Application,
+) -> Result<Proposal, NoMemory>
+    requires roads { snapshot.roads ≡ base.now.roads }
+    requires sound { Sound base.now application.now }
+    ensures seen { IfOk result (λ proposal. proposal.seen ≡ version_of snapshot) }
+    ensures found { IfOk result (λ proposal. IsFoundAt base.now snapshot application.now proposal.what) }
+{
+    analyse(alloc, base, &snapshot, application)
+}
+
+// Tells the gate, and submits a draft: nothing where it is out of date.
+fn submit<C: OfficeCalls, G: Gate>(
+    calls: &mut C,
+    draft: Draft,
+    docket: &Docket<G>,
+    number: u32,
+) -> Option<Reply>
+    requires { MaySubmit (C.view calls.old) draft }
+    ensures { IsSubmitted (C.view calls.old) draft result (C.view calls.new) }
+{
+    docket.gate.between(docket.actor, docket.command, number);
+    unless_outdated(calls.submit(draft.application, draft.proposal))
+}
+
+// The reply, unless it says that what was proposed is out of date.
+fn unless_outdated(reply: Reply) -> Option<Reply>
+    ensures { IsUnlessOutdated reply result }
+{
+    match reply {
+        Reply::Outdated { .. } => None,
+        reply => Some(reply),
+    }
+}
+
+// Has the office find itself what an application needs, after eight attempts that were out of date.
+fn hold<C: OfficeCalls>(calls: &mut C, base: &Base, application: Application) -> Reply
+    requires base { base.now ≡ (C.view calls.old).who.base }
+    requires sound { Sound base.now application }
+    ensures { DecidedAfter 8 (C.view calls.old) application result (C.view calls.new) }
+{
+    base.lists_are_in_order();
+    calls.held(application)
+}

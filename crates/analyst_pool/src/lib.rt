@@ -1,0 +1,18 @@
+//! Analysts: who carry out an actor's commands by the calls of an office.
+//!
+//! An application is decided in attempts: an analyst takes a snapshot of what is posted, finds at it what
+//! the application needs, while others may post, and submits what was found. The office tests it again and
+//! may answer that it is out of date; after eight such answers it is asked to find itself what is needed.
+//! This order of calls, and that there are eight attempts, are this project's own.
+//!
+//! To the crate above it promises which entries a command adds to its caller's own, whatever others call
+//! meanwhile, and that these are determined where nobody else calls.
+#![tactic(auto)]
+
+mod deciding;
+mod gate;
+mod laws;
+
+pub use deciding::{Docket, carry_out, decide};
+pub use gate::{Gate, OpenGate};
+pub use laws::{runs_are_one, unfoldings_are_short};
