@@ -1,5 +1,5 @@
 -- What the calls of one caller leave to the next.
-use Rattle.std.proofs.Common.{◌≡◌, ◌∷◌, ◌++◌, [], List, ℕ, Bool, true, false, None, ap, sym, subst, refl, ◌∙◌, append_assoc, arith}
+use Rattle.std.proofs.Common.{◌≡◌, ◌∷◌, ◌++◌, inl, inr, [], List, ℕ, Bool, true, false, None, ap, sym, subst, refl, ◌∙◌, append_assoc, arith}
 use Rattle.std.proofs.lemmas.List.{append-nil}
 use Rattle.road_graph.specs.Roads.{IsRoads}
 use Rattle.trip_analysis.specs.declared.application.Application.{Application}
@@ -11,7 +11,7 @@ use Rattle.office_core.specs.declared.entry.Entry.{Entry}
 use Rattle.office_core.specs.declared.entry.Reply.{Reply}
 use Rattle.office_core.specs.declared.entry.Reply.TheVariants as reply
 use Rattle.office_core.specs.Replies.{is_full, is_outdated}
-use Rattle.office_core.specs.Machine.{IsLegal, Machine, MayAsk, Step, machine_of, version_of}
+use Rattle.office_core.specs.Machine.{IsAnswer, IsLegal, Machine, MayAsk, Step, machine_of, version_of}
 use Rattle.office_core.specs.Offices.{entry}
 use Rattle.office_core.specs.Calls.{Added, Answered, Calling, Who, machine_seen}
 use Rattle.office_core.proofs.Currents.{held_current, submit_current}
@@ -73,3 +73,13 @@ module _ {P : Type 0} where
       ap (λ (k : Who P). machine_of k.base k.opening (v.seen ++ added.sees.between)) answered.who ∙ ap (machine_of v.who.base v.who.opening) same in
       submit_current w.who.base (machine_met v w e added) v.who.caller a p r
       (subst (λ (k : Who P). IsRoads k.base.roads) (sym answered.who) roads) step.asked (now ∙ ap (λ (m : Machine). version_of m) (sym met)) step.answer)
+
+  -- a look that is answered by an entry is answered by the version that was then seen
+  pub looked_at : (v w : Calling P) (r : Reply) → Answered v call.Snapshot r w → is_full r ≡ false → Answered v call.Snapshot (reply.SnapshotAt (version_of (machine_seen w))) w
+  looked_at v w r answered open' =
+      let added = answered.entry open' in let e = entry v.who.caller call.Snapshot r in let step = entered v w e added in
+      subst (λ (x : Reply). Answered v call.Snapshot x w) (is (machine_met v w e added) (machine_seen w) step.next_is step.answer) answered
+    where
+      is : (m n : Machine) → n ≡ m → IsAnswer w.who.base m v.who.caller call.Snapshot r → r ≡ reply.SnapshotAt (version_of n)
+      is m n same (inl given) = given ∙ ap (λ (k : Machine). reply.SnapshotAt (version_of k)) (sym same)
+      is m n same (inr lacks) = absurd (grind (arith, lacks.1))

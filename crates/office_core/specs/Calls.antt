@@ -15,7 +15,8 @@ use Rattle.office_core.specs.Offices.{Opened, entry}
 use Rattle.office_core.specs.Replies.{is_full}
 
 -- what never changes: where the calls belong, if to anything that others call too; which reference they
--- hold, if any; whose they are; what the office is about, and the day on which it opened
+-- hold, if any; whose they are; what the office is about, the day on which it opened, and the most entries that
+-- its history may hold
 pub record Who (P : Type 0) : Type 0 where
   pub place : Option P
   pub reference : Option GName

@@ -1,0 +1,6 @@
+use Rattle.office_core.specs.Seats.{calls_of}
+use Rattle.office_core.proofs.Callings.{looked_at}
+use Rattle.office_core.proofs.seat.OneSeat.look.Goals as goal
+
+pub returns-clause-at : goal.returns-clause-at
+returns-clause-at c = looked_at (calls_of c.args.self.now) (calls_of c.ask-reply.new.self) c.ask-reply.result c.ask-reply.ensures c.in-None.ensures
