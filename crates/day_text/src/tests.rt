@@ -1,11 +1,13 @@
 use crate::check_file::read_check_file;
 use crate::day_file::read_day_file;
-use crate::{DayFileRefusal, read_check, read_day};
+use crate::{DayFile, DayFileRefusal, Order, read_check, read_day};
 use office_core::Command;
 use record_text::{Cause, FileRefusal, Kind, RecordCause};
 use std::alloc::Global;
+use std::fmt::Debug;
 use std::process::Abort;
 use std::test::Fail;
+use trip_analysis::Base;
 
 // A load as high as the one road is posted.
 const ISSUED: &str =
@@ -35,46 +37,99 @@ const RATED: &str =
 const BEGUN: &str =
     "day,2026-03-02,,,,,,\nnode,A,,,,,,\nnode,B,,,,,,\nnode,C,,,,,,\nsegment,S,A,B,5,,,\nsegment,T,B,C,5,,,\nspan,P,S,240,1000,,,\ntruck,K,ACME,168,102,720,0:1 180:1,\nactor,ann,,,,,,\n";
 
-#[test]
-fn takes_the_worked_days(rt: HostRuntime) -> Result<(), Fail> {
-    for (text, nodes, segments, spans, trucks, commands) in [
-        (ISSUED, 2, 1, 0, 1, 1),
-        (RECALLED, 2, 1, 0, 2, 5),
-        (CLOSED, 3, 1, 0, 1, 3),
-        (SURRENDERED, 2, 1, 0, 1, 5),
-        (ALLOWED, 2, 1, 0, 1, 1),
-        (RATED, 2, 1, 1, 1, 3),
-    ] {
-        let file = read_day(rt.alloc(), text.as_bytes())?;
-        assert_eq!(rt; file.day().text().as_slice(), b"2026-03-02".as_slice());
-        assert_eq!(rt; file.actors().len(), 1);
-        assert_eq!(rt; file.base().network().nodes(), nodes);
-        let (base, _, _, orders) = file.into_parts();
-        assert_eq!(rt; base.network().segments(), segments);
-        assert_eq!(rt; base.network().spans(), spans);
-        assert_eq!(rt; base.fleet().len(), trucks);
-        assert_eq!(rt; orders.len(), commands);
+// What was read is let go by a call of `drop`: where a scope lets it go, the proof of the whole function goes
+// through its parts. For the same reason no function both reads and goes through a table.
+
+// What was found is what a row of a table says.
+fn same<T: PartialEq + Debug>(rt: &impl Abort, row: usize, found: &T, wanted: &T) {
+    assert_eq!(rt; found, wanted, "row {row}");
+}
+
+// A day, and how many nodes, segments, spans, trucks and commands it has.
+type Counts = (&'static str, u32, u32, u32, usize, usize);
+
+// The date of all the days, their one actor, and how many nodes there are.
+fn begins(rt: &impl Abort, row: usize, file: &DayFile, nodes: u32) {
+    let date = file.day().text();
+    same(rt, row, &date.as_slice(), &b"2026-03-02".as_slice());
+    same(rt, row, &file.actors().len(), &1);
+    same(rt, row, &file.base().network().nodes(), &nodes);
+}
+
+fn has(rt: &impl Abort, row: usize, base: &Base, counts: &Counts) {
+    let &(_, nodes, segments, spans, trucks, _) = counts;
+    let network = base.network();
+    let roads = (network.nodes(), network.segments(), network.spans());
+    same(rt, row, &roads, &(nodes, segments, spans));
+    same(rt, row, &base.fleet().len(), &trucks);
+}
+
+fn take(rt: &impl Abort, alloc: Global, row: usize, counts: &Counts) -> Result<(), Fail> {
+    let &(text, nodes, _, _, _, commands) = counts;
+    let file = read_day(alloc, text.as_bytes())?;
+    begins(rt, row, &file, nodes);
+    let (base, _, actors, orders) = file.into_parts();
+    has(rt, row, &base, counts);
+    same(rt, row, &orders.len(), &commands);
+    drop(base);
+    drop(actors);
+    drop(orders);
+    Ok(())
+}
+
+fn take_each(rt: &impl Abort, alloc: Global, days: &[Counts]) -> Result<(), Fail> {
+    for (row, counts) in days.iter().enumerate() {
+        take(rt, alloc, row, counts)?;
     }
     Ok(())
 }
 
-// The kinds of the commands of a day, in their order, each by a letter.
+#[test]
+fn takes_the_worked_days(rt: HostRuntime) -> Result<(), Fail> {
+    take_each(
+        &rt,
+        rt.alloc(),
+        &[
+            (ISSUED, 2, 1, 0, 1, 1),
+            (RECALLED, 2, 1, 0, 2, 5),
+            (CLOSED, 3, 1, 0, 1, 3),
+            (SURRENDERED, 2, 1, 0, 1, 5),
+            (ALLOWED, 2, 1, 0, 1, 1),
+            (RATED, 2, 1, 1, 1, 3),
+        ],
+    )
+}
+
+// The kind of a command by a letter.
+fn letter(command: &Command) -> u8 {
+    match command {
+        Command::Apply(_) => b'a',
+        Command::Post(_) => b'p',
+        Command::Day(_) => b'd',
+        Command::Surrender(_) => b'g',
+        Command::Show(_) => b's',
+    }
+}
+
+// The commands are of these kinds, in this order.
+fn are_kinds(rt: &impl Abort, orders: &[Order], letters: &[u8]) {
+    same(rt, 0, &orders.len(), &letters.len());
+    for (row, (order, wanted)) in orders.iter().zip(letters).enumerate() {
+        same(rt, row, &letter(&order.command), wanted);
+    }
+}
+
+fn keep(rt: &impl Abort, alloc: Global, text: &str, letters: &[u8]) -> Result<(), Fail> {
+    let file = read_day(alloc, text.as_bytes())?;
+    are_kinds(rt, file.commands(), letters);
+    drop(file);
+    Ok(())
+}
+
 #[test]
 fn keeps_the_commands_in_order(rt: HostRuntime) -> Result<(), Fail> {
-    for (text, letters) in [(RECALLED, b"aapsp"), (SURRENDERED, b"adggs")] {
-        let file = read_day(rt.alloc(), text.as_bytes())?;
-        for (order, letter) in file.commands().iter().zip(letters) {
-            let found = match order.command {
-                Command::Apply(_) => b'a',
-                Command::Post(_) => b'p',
-                Command::Day(_) => b'd',
-                Command::Surrender(_) => b'g',
-                Command::Show(_) => b's',
-            };
-            assert_eq!(rt; found, *letter);
-        }
-    }
-    Ok(())
+    keep(&rt, rt.alloc(), RECALLED, b"aapsp")?;
+    keep(&rt, rt.alloc(), SURRENDERED, b"adggs")
 }
 
 // The first record of the text that is refused, and why.
@@ -82,19 +137,35 @@ fn refusal(alloc: Global, text: &[u8]) -> Option<FileRefusal> {
     read_day_file(alloc, text).err()
 }
 
-// Tries each record as the tenth, behind the nine of BEGUN.
+// The refusal of a record as a bad one.
+fn bad(row: u64, cause: RecordCause) -> Option<FileRefusal> {
+    Some(FileRefusal::Refused {
+        row,
+        cause: Cause::Bad(cause),
+    })
+}
+
+// The refusal of a record as one too many.
+fn too_many(row: u64, kind: Kind) -> Option<FileRefusal> {
+    Some(FileRefusal::Refused {
+        row,
+        cause: Cause::TooMany(kind),
+    })
+}
+
+// What is refused where a record is the tenth, behind the nine of BEGUN.
+fn refusal_of_tenth(alloc: Global, record: &str) -> Result<Option<FileRefusal>, Fail> {
+    let mut text = BEGUN.as_bytes().to_vec(alloc)?;
+    text.extend_from_slice(record.as_bytes())?;
+    let found = refusal(alloc, text.as_slice());
+    drop(text);
+    Ok(found)
+}
+
+// Tries each record as the tenth.
 fn refuse(rt: &impl Abort, alloc: Global, rows: &[(&str, RecordCause)]) -> Result<(), Fail> {
-    for (record, cause) in rows {
-        let mut text = BEGUN.as_bytes().to_vec(alloc)?;
-        text.extend_from_slice(record.as_bytes())?;
-        assert_eq!(rt;
-            refusal(alloc, text.as_slice()),
-            Some(FileRefusal::Refused {
-                row: 10,
-                cause: Cause::Bad(*cause)
-            }),
-            "{record}"
-        );
+    for (row, &(record, cause)) in rows.iter().enumerate() {
+        same(rt, row, &refusal_of_tenth(alloc, record)?, &bad(10, cause));
     }
     Ok(())
 }
@@ -262,44 +333,45 @@ fn refuses_values_out_of_range(rt: HostRuntime) -> Result<(), Fail> {
     )
 }
 
-#[test]
-fn refuses_what_stands_at_no_place(rt: HostRuntime) -> Result<(), Fail> {
-    for (text, row, cause) in [
-        ("", 1, RecordCause::End),
-        ("day,\"2026-0", 1, RecordCause::Fields),
-        ("node,A,,,,,,\n", 1, RecordCause::Order),
-        ("end,,,,,,,\n", 1, RecordCause::Order),
-        ("day,0000-01-01,,,,,,\n", 1, RecordCause::Range(2)),
-        (
-            "day,2026-03-02,,,,,,\nend,,,,,,,\nend,,,,,,,\n",
-            3,
-            RecordCause::Order,
-        ),
-        (
-            "day,2026-03-02,,,,,,\nend,,,,,,,\nroad,,,,,,,\n",
-            3,
-            RecordCause::Kind,
-        ),
-    ] {
-        assert_eq!(rt;
-            refusal(rt.alloc(), text.as_bytes()),
-            Some(FileRefusal::Refused {
-                row,
-                cause: Cause::Bad(cause)
-            }),
-            "{text}"
-        );
+// A text, its record that is refused, and why.
+type Refused = (&'static [u8], u64, RecordCause);
+
+fn refuse_days(rt: &impl Abort, alloc: Global, cases: &[Refused]) {
+    for (number, &(text, row, cause)) in cases.iter().enumerate() {
+        same(rt, number, &refusal(alloc, text), &bad(row, cause));
     }
-    assert!(rt; read_day(rt.alloc(), b"").err() == Some(DayFileRefusal::Refused));
-    let broken = b"day,2026-03-02,,,,,,\nnode,\xff,,,,,,\n".as_slice();
-    assert_eq!(rt;
-        refusal(rt.alloc(), broken),
-        Some(FileRefusal::Refused {
-            row: 2,
-            cause: Cause::Bad(RecordCause::Fields)
-        })
+}
+
+#[test]
+fn refuses_what_stands_at_no_place(rt: HostRuntime) {
+    refuse_days(
+        &rt,
+        rt.alloc(),
+        &[
+            (b"", 1, RecordCause::End),
+            (b"day,\"2026-0", 1, RecordCause::Fields),
+            (b"node,A,,,,,,\n", 1, RecordCause::Order),
+            (b"end,,,,,,,\n", 1, RecordCause::Order),
+            (b"day,0000-01-01,,,,,,\n", 1, RecordCause::Range(2)),
+            (
+                b"day,2026-03-02,,,,,,\nend,,,,,,,\nend,,,,,,,\n",
+                3,
+                RecordCause::Order,
+            ),
+            (
+                b"day,2026-03-02,,,,,,\nend,,,,,,,\nroad,,,,,,,\n",
+                3,
+                RecordCause::Kind,
+            ),
+            (
+                b"day,2026-03-02,,,,,,\nnode,\xff,,,,,,\n",
+                2,
+                RecordCause::Fields,
+            ),
+        ],
     );
-    Ok(())
+    let refused = read_day(rt.alloc(), b"").err();
+    assert!(rt; refused == Some(DayFileRefusal::Refused));
 }
 
 // Puts so many records behind a text, with numbers from 0 between two of their parts.
@@ -317,114 +389,152 @@ fn add_records(
     Ok(())
 }
 
+// What is refused where so many records stand behind a text.
+fn refusal_of_many(
+    alloc: Global,
+    begun: &str,
+    before: &str,
+    after: &str,
+    count: u32,
+) -> Result<Option<FileRefusal>, Fail> {
+    let mut text = begun.as_bytes().to_vec(alloc)?;
+    add_records(alloc, &mut text, before, after, count)?;
+    let found = refusal(alloc, text.as_slice());
+    drop(text);
+    Ok(found)
+}
+
+// What stands in a record before its number and behind it, how many more are allowed behind BEGUN, and the
+// kind.
+type Room = (&'static str, &'static str, u32, Kind);
+
 // As many as are allowed are taken, and the next is refused.
+fn count_each(rt: &impl Abort, alloc: Global, rows: &[Room]) -> Result<(), Fail> {
+    for (row, &(before, after, room, kind)) in rows.iter().enumerate() {
+        let found = refusal_of_many(alloc, BEGUN, before, after, room.wrapping_add(1))?;
+        same(rt, row, &found, &too_many(u64::from(room) + 10, kind));
+    }
+    Ok(())
+}
+
 #[test]
 fn counts_records_of_a_kind(rt: HostRuntime) -> Result<(), Fail> {
-    for (before, after, room, kind) in [
-        ("node,n", ",,,,,,", 4_093, Kind::Nodes),
-        ("segment,s", ",A,A,1,,,", 16_382, Kind::Segments),
-        ("span,p", ",S,1,0,,,", 15, Kind::SpansOfSegment),
-        ("truck,t", ",ACME,1,1,1,0:1 1:1,", 63, Kind::Trucks),
-        ("actor,a", ",,,,,,", 0, Kind::Actors),
-        ("show,ann,", ",,,,,", 4_096, Kind::Commands),
-    ] {
-        let mut text = BEGUN.as_bytes().to_vec(rt.alloc())?;
-        add_records(rt.alloc(), &mut text, before, after, room + 1)?;
-        assert_eq!(rt;
-            refusal(rt.alloc(), text.as_slice()),
-            Some(FileRefusal::Refused {
-                row: u64::from(room) + 10,
-                cause: Cause::TooMany(kind)
-            })
-        );
-    }
+    count_each(
+        &rt,
+        rt.alloc(),
+        &[
+            ("node,n", ",,,,,,", 4_093, Kind::Nodes),
+            ("segment,s", ",A,A,1,,,", 16_382, Kind::Segments),
+            ("span,p", ",S,1,0,,,", 15, Kind::SpansOfSegment),
+            ("truck,t", ",ACME,1,1,1,0:1 1:1,", 63, Kind::Trucks),
+            ("actor,a", ",,,,,,", 0, Kind::Actors),
+            ("show,ann,", ",,,,,", 4_096, Kind::Commands),
+        ],
+    )
+}
+
+// A day record, one actor and 4,097 commands.
+#[test]
+fn counts_commands(rt: HostRuntime) -> Result<(), Fail> {
+    let begun = "day,2026-03-02,,,,,,\nactor,ann,,,,,,\n";
+    let found = refusal_of_many(rt.alloc(), begun, "show,ann,", ",,,,,", 4_097)?;
+    same(&rt, 0, &found, &too_many(4_099, Kind::Commands));
     Ok(())
 }
 
-// A day record, one actor and 4,097 commands; and 129 segments with 16 spans each.
-#[test]
-fn counts_commands_and_spans(rt: HostRuntime) -> Result<(), Fail> {
-    let mut text = b"day,2026-03-02,,,,,,\nactor,ann,,,,,,\n".to_vec(rt.alloc())?;
-    add_records(rt.alloc(), &mut text, "show,ann,", ",,,,,", 4_097)?;
-    assert_eq!(rt;
-        refusal(rt.alloc(), text.as_slice()),
-        Some(FileRefusal::Refused {
-            row: 4_099,
-            cause: Cause::TooMany(Kind::Commands)
-        })
-    );
-    let mut text = b"day,2026-03-02,,,,,,\nnode,A,,,,,,\n".to_vec(rt.alloc())?;
-    add_records(rt.alloc(), &mut text, "segment,s", ",A,A,1,,,", 129)?;
-    for i in 0..2_049 {
+// Puts so many spans behind a text, 16 on each segment.
+fn add_spans(alloc: Global, text: &mut Vec<u8>, count: u32) -> Result<(), Fail> {
+    for i in 0..count {
         let segment = i / 16;
-        let record = format!(in rt.alloc(); "span,p{i},s{segment},1,0,,,\n")?;
+        let record = format!(in alloc; "span,p{i},s{segment},1,0,,,\n")?;
         text.extend_from_slice(record.as_bytes())?;
     }
-    assert_eq!(rt;
-        refusal(rt.alloc(), text.as_slice()),
-        Some(FileRefusal::Refused {
-            row: 2_180,
-            cause: Cause::TooMany(Kind::Spans)
-        })
-    );
     Ok(())
 }
 
+fn refusal_of_spans(alloc: Global, segments: u32, count: u32) -> Result<Option<FileRefusal>, Fail> {
+    let mut text = b"day,2026-03-02,,,,,,\nnode,A,,,,,,\n".to_vec(alloc)?;
+    add_records(alloc, &mut text, "segment,s", ",A,A,1,,,", segments)?;
+    add_spans(alloc, &mut text, count)?;
+    let found = refusal(alloc, text.as_slice());
+    drop(text);
+    Ok(found)
+}
+
+// 129 segments, 128 of them with 16 spans each and the last with one.
 #[test]
-fn refuses_what_is_no_check_file(rt: HostRuntime) -> Result<(), Fail> {
-    for (text, row, cause) in [
-        ("", 1, RecordCause::End),
-        ("probe,240,1000,,,,,\n", 1, RecordCause::Order),
-        ("truck,T,A,1,1,1,0:1 1:1,\n", 2, RecordCause::End),
-        (
-            "truck,T,A,1,1,1,0:1 1:1,\ntruck,T,A,1,1,1,0:1 1:1,\n",
-            2,
-            RecordCause::Order,
-        ),
-        (
-            "truck,T,A,1,1,1,0:1 1:1,\nend,,,,,,,\nend,,,,,,,\n",
-            3,
-            RecordCause::Order,
-        ),
-        (
-            "truck,T,A,1,1,1,0:1 1:1,\nnode,A,,,,,,\n",
-            2,
-            RecordCause::Kind,
-        ),
-        ("truck,T,A,1,1,1,0:1 1:1,x\n", 1, RecordCause::Extra),
-        ("truck,T,A B,1,1,1,0:1 1:1,\n", 1, RecordCause::Field(3)),
-        ("truck,T,A,1,1,0,0:1,\n", 1, RecordCause::Range(6)),
-        ("truck,T,A,1,1,1,0:1,\n", 1, RecordCause::Train(1)),
-        (
-            "truck,T,A,1,1,1,0:1 1:1,\nprobe,0,x,,,,,\n",
-            2,
-            RecordCause::Field(3),
-        ),
-        (
-            "truck,T,A,1,1,1,0:1 1:1,\nprobe,0,100001,,,,,\n",
-            2,
-            RecordCause::Range(2),
-        ),
-        (
-            "truck,T,A,1,1,1,0:1 1:1,\nprobe,6000,100001,,,,,\n",
-            2,
-            RecordCause::Range(3),
-        ),
-    ] {
-        assert_eq!(rt;
-            read_check_file(rt.alloc(), text.as_bytes()).err(),
-            Some(FileRefusal::Refused {
-                row,
-                cause: Cause::Bad(cause)
-            }),
-            "{text}"
-        );
+fn counts_spans(rt: HostRuntime) -> Result<(), Fail> {
+    let found = refusal_of_spans(rt.alloc(), 129, 2_049)?;
+    same(&rt, 0, &found, &too_many(2_180, Kind::Spans));
+    Ok(())
+}
+
+// The first record of a check file that is refused, and why.
+fn check_refusal(alloc: Global, text: &[u8]) -> Option<FileRefusal> {
+    read_check_file(alloc, text).err()
+}
+
+fn refuse_checks(rt: &impl Abort, alloc: Global, cases: &[Refused]) {
+    for (number, &(text, row, cause)) in cases.iter().enumerate() {
+        same(rt, number, &check_refusal(alloc, text), &bad(row, cause));
     }
-    let file = read_check(
+}
+
+#[test]
+fn refuses_what_is_no_check_file(rt: HostRuntime) {
+    refuse_checks(
+        &rt,
         rt.alloc(),
-        b"truck,T,A,1,1,1,0:1 1:1,\nprobe,240,1000,,,,,\nend,,,,,,,\n",
-    )?;
-    assert_eq!(rt; file.probes.as_slice().len(), 1);
-    assert!(rt; read_check(rt.alloc(), b"").err() == Some(DayFileRefusal::Refused));
+        &[
+            (b"", 1, RecordCause::End),
+            (b"probe,240,1000,,,,,\n", 1, RecordCause::Order),
+            (b"truck,T,A,1,1,1,0:1 1:1,\n", 2, RecordCause::End),
+            (
+                b"truck,T,A,1,1,1,0:1 1:1,\ntruck,T,A,1,1,1,0:1 1:1,\n",
+                2,
+                RecordCause::Order,
+            ),
+            (
+                b"truck,T,A,1,1,1,0:1 1:1,\nend,,,,,,,\nend,,,,,,,\n",
+                3,
+                RecordCause::Order,
+            ),
+            (
+                b"truck,T,A,1,1,1,0:1 1:1,\nnode,A,,,,,,\n",
+                2,
+                RecordCause::Kind,
+            ),
+            (b"truck,T,A,1,1,1,0:1 1:1,x\n", 1, RecordCause::Extra),
+            (b"truck,T,A B,1,1,1,0:1 1:1,\n", 1, RecordCause::Field(3)),
+            (b"truck,T,A,1,1,0,0:1,\n", 1, RecordCause::Range(6)),
+            (b"truck,T,A,1,1,1,0:1,\n", 1, RecordCause::Train(1)),
+            (
+                b"truck,T,A,1,1,1,0:1 1:1,\nprobe,0,x,,,,,\n",
+                2,
+                RecordCause::Field(3),
+            ),
+            (
+                b"truck,T,A,1,1,1,0:1 1:1,\nprobe,0,100001,,,,,\n",
+                2,
+                RecordCause::Range(2),
+            ),
+            (
+                b"truck,T,A,1,1,1,0:1 1:1,\nprobe,6000,100001,,,,,\n",
+                2,
+                RecordCause::Range(3),
+            ),
+        ],
+    );
+    let refused = read_check(rt.alloc(), b"").err();
+    assert!(rt; refused == Some(DayFileRefusal::Refused));
+}
+
+#[test]
+fn takes_a_check_file(rt: HostRuntime) -> Result<(), Fail> {
+    let text = b"truck,T,A,1,1,1,0:1 1:1,\nprobe,240,1000,,,,,\nend,,,,,,,\n";
+    let file = read_check(rt.alloc(), text)?;
+    let probes = file.probes.as_slice().len();
+    drop(file);
+    same(&rt, 0, &probes, &1);
     Ok(())
 }
