@@ -73,207 +73,277 @@ fn shown(rt: &impl Abort, status: Status) -> Reply {
     }
 }
 
+// The journal of one entry has this line.
+fn is_journal_of(rt: &impl Abort, alloc: Global, text: &[u8], line: &str) -> Result<(), Fail> {
+    let wanted = format!(in alloc; "permit-journal 1\n1 {line}\nend 1\n")?;
+    assert_eq!(rt; text, wanted.as_bytes(), "{line}");
+    Ok(())
+}
+
+// An entry is written as this line. What was built is let go by a call of `drop`: where a scope lets it go,
+// the proof of the whole function goes through its parts.
+fn is_line(rt: &impl Abort, alloc: Global, entry: (Call, Reply), line: &str) -> Result<(), Fail> {
+    let (call, reply) = entry;
+    let history = [Entry {
+        caller: 0,
+        call,
+        reply,
+    }];
+    let text = print(alloc, &history);
+    drop(history);
+    let text = text?;
+    let told = is_journal_of(rt, alloc, text.as_slice(), line);
+    drop(text);
+    told
+}
+
 // Forms of a line that no file of `examples/` shows.
 #[test]
-fn writes_each_form(rt: HostRuntime) -> Result<(), Fail> {
+fn writes_what_is_submitted(rt: HostRuntime) -> Result<(), Fail> {
+    let alloc = rt.alloc();
+    let segment = 0;
+    is_line(
+        &rt,
+        alloc,
+        (Call::Snapshot, Reply::SnapshotAt { version: 0 }),
+        "snapshot = at 0",
+    )?;
+    is_line(
+        &rt,
+        alloc,
+        (
+            submit(&rt, None, b"2026-03-02", What::Route(one(&rt, alloc, 0))),
+            Reply::Issued {
+                number: 1,
+                version: 0,
+                route: one(&rt, alloc, 0),
+            },
+        ),
+        "submit truck 1 from 1 to 2 asked none days 2026-03-02 2026-03-06 seen 0 route 1 = issued 1 at 0 route 1",
+    )?;
+    is_line(
+        &rt,
+        alloc,
+        (
+            submit(&rt, None, b"2026-03-02", What::Cut(one(&rt, alloc, 0))),
+            Reply::NoRoad,
+        ),
+        "submit truck 1 from 1 to 2 asked none days 2026-03-02 2026-03-06 seen 0 cut 1 = noroad",
+    )?;
+    is_line(
+        &rt,
+        alloc,
+        (
+            submit(
+                &rt,
+                Some(one(&rt, alloc, 0)),
+                b"2026-03-02",
+                What::Fails { segment },
+            ),
+            Reply::Refused {
+                version: 0,
+                limit: Limit::Closed { segment },
+            },
+        ),
+        "submit truck 1 from 1 to 2 asked 1 days 2026-03-02 2026-03-06 seen 0 fails 1 = refused 0 segment 1 closed",
+    )?;
+    is_line(
+        &rt,
+        alloc,
+        (
+            submit(&rt, None, b"2026-03-02", What::NotNeeded),
+            Reply::NotNeeded,
+        ),
+        "submit truck 1 from 1 to 2 asked none days 2026-03-02 2026-03-06 seen 0 none = notneeded",
+    )?;
+    is_line(
+        &rt,
+        alloc,
+        (
+            submit(&rt, None, b"2026-03-01", What::NotNeeded),
+            Reply::Late {
+                day: day(&rt, b"2026-03-02"),
+            },
+        ),
+        "submit truck 1 from 1 to 2 asked none days 2026-03-01 2026-03-06 seen 0 none = late 2026-03-02",
+    )?;
+    is_line(
+        &rt,
+        alloc,
+        (
+            submit(&rt, None, b"2026-03-02", What::NotNeeded),
+            Reply::Outdated {
+                version: 1,
+                cause: Cause::NowMeets { segment },
+            },
+        ),
+        "submit truck 1 from 1 to 2 asked none days 2026-03-02 2026-03-06 seen 0 none = outdated 1 meets segment 1",
+    )?;
+    Ok(())
+}
+
+#[test]
+fn writes_each_limit_that_fails(rt: HostRuntime) -> Result<(), Fail> {
     let alloc = rt.alloc();
     let segment = 0;
     let shear = Frac::reduced(41_600, 1);
-    let rows = [
-        (
-            (Call::Snapshot, Reply::SnapshotAt { version: 0 }),
-            "snapshot = at 0",
+    is_line(
+        &rt,
+        alloc,
+        refused(
+            &rt,
+            Limit::Height {
+                segment,
+                has: 168,
+                allowed: 167,
+            },
         ),
-        (
-            (
-                submit(&rt, None, b"2026-03-02", What::Route(one(&rt, alloc, 0))),
-                Reply::Issued {
-                    number: 1,
-                    version: 0,
-                    route: one(&rt, alloc, 0),
-                },
-            ),
-            "submit truck 1 from 1 to 2 asked none days 2026-03-02 2026-03-06 seen 0 route 1 = issued 1 at 0 route 1",
+        "held truck 1 from 1 to 2 asked none days 2026-03-02 2026-03-06 = refused 1 segment 1 height 168 over 167",
+    )?;
+    is_line(
+        &rt,
+        alloc,
+        refused(
+            &rt,
+            Limit::Width {
+                segment,
+                has: 110,
+                allowed: 109,
+            },
         ),
-        (
-            (
-                submit(&rt, None, b"2026-03-02", What::Cut(one(&rt, alloc, 0))),
-                Reply::NoRoad,
-            ),
-            "submit truck 1 from 1 to 2 asked none days 2026-03-02 2026-03-06 seen 0 cut 1 = noroad",
+        "held truck 1 from 1 to 2 asked none days 2026-03-02 2026-03-06 = refused 1 segment 1 width 110 over 109",
+    )?;
+    is_line(
+        &rt,
+        alloc,
+        refused(
+            &rt,
+            Limit::Length {
+                segment,
+                has: 720,
+                allowed: 719,
+            },
         ),
-        (
-            (
-                submit(
-                    &rt,
-                    Some(one(&rt, alloc, 0)),
-                    b"2026-03-02",
-                    What::Fails { segment },
-                ),
-                Reply::Refused {
-                    version: 0,
-                    limit: Limit::Closed { segment },
-                },
-            ),
-            "submit truck 1 from 1 to 2 asked 1 days 2026-03-02 2026-03-06 seen 0 fails 1 = refused 0 segment 1 closed",
+        "held truck 1 from 1 to 2 asked none days 2026-03-02 2026-03-06 = refused 1 segment 1 length 720 over 719",
+    )?;
+    is_line(
+        &rt,
+        alloc,
+        refused(
+            &rt,
+            Limit::Gross {
+                segment,
+                has: 80_000,
+                allowed: 79_999,
+            },
         ),
-        (
-            (
-                submit(&rt, None, b"2026-03-02", What::NotNeeded),
-                Reply::NotNeeded,
-            ),
-            "submit truck 1 from 1 to 2 asked none days 2026-03-02 2026-03-06 seen 0 none = notneeded",
+        "held truck 1 from 1 to 2 asked none days 2026-03-02 2026-03-06 = refused 1 segment 1 gross 80000 over 79999",
+    )?;
+    is_line(
+        &rt,
+        alloc,
+        refused(
+            &rt,
+            Limit::Shear {
+                segment,
+                span: 0,
+                has: shear,
+                design: shear,
+                rating: 999,
+            },
         ),
-        (
-            (
-                submit(&rt, None, b"2026-03-01", What::NotNeeded),
-                Reply::Late {
-                    day: day(&rt, b"2026-03-02"),
-                },
-            ),
-            "submit truck 1 from 1 to 2 asked none days 2026-03-01 2026-03-06 seen 0 none = late 2026-03-02",
+        "held truck 1 from 1 to 2 asked none days 2026-03-02 2026-03-06 = refused 1 segment 1 span 1 shear 41600/1 hs20 41600/1 rating 999",
+    )?;
+    Ok(())
+}
+
+#[test]
+fn writes_what_is_posted(rt: HostRuntime) -> Result<(), Fail> {
+    let alloc = rt.alloc();
+    let segment = 0;
+    is_line(
+        &rt,
+        alloc,
+        posted(
+            alloc,
+            Change::Closed {
+                segment,
+                closed: true,
+            },
         ),
-        (
-            (
-                submit(&rt, None, b"2026-03-02", What::NotNeeded),
-                Reply::Outdated {
-                    version: 1,
-                    cause: Cause::NowMeets { segment },
-                },
-            ),
-            "submit truck 1 from 1 to 2 asked none days 2026-03-02 2026-03-06 seen 0 none = outdated 1 meets segment 1",
+        "post segment 1 closed 1 = posted 1 recalled -",
+    )?;
+    is_line(
+        &rt,
+        alloc,
+        posted(
+            alloc,
+            Change::Width {
+                segment,
+                inches: 102,
+            },
         ),
-        (
-            refused(
-                &rt,
-                Limit::Height {
-                    segment,
-                    has: 168,
-                    allowed: 167,
-                },
-            ),
-            "held truck 1 from 1 to 2 asked none days 2026-03-02 2026-03-06 = refused 1 segment 1 height 168 over 167",
+        "post segment 1 width 102 = posted 1 recalled -",
+    )?;
+    is_line(
+        &rt,
+        alloc,
+        posted(
+            alloc,
+            Change::Length {
+                segment,
+                inches: 720,
+            },
         ),
-        (
-            refused(
-                &rt,
-                Limit::Width {
-                    segment,
-                    has: 110,
-                    allowed: 109,
-                },
-            ),
-            "held truck 1 from 1 to 2 asked none days 2026-03-02 2026-03-06 = refused 1 segment 1 width 110 over 109",
+        "post segment 1 length 720 = posted 1 recalled -",
+    )?;
+    is_line(
+        &rt,
+        alloc,
+        posted(
+            alloc,
+            Change::Gross {
+                segment,
+                pounds: 80_000,
+            },
         ),
+        "post segment 1 gross 80000 = posted 1 recalled -",
+    )?;
+    Ok(())
+}
+
+#[test]
+fn writes_what_is_said_of_days_and_permits(rt: HostRuntime) -> Result<(), Fail> {
+    let alloc = rt.alloc();
+    is_line(
+        &rt,
+        alloc,
         (
-            refused(
-                &rt,
-                Limit::Length {
-                    segment,
-                    has: 720,
-                    allowed: 719,
-                },
-            ),
-            "held truck 1 from 1 to 2 asked none days 2026-03-02 2026-03-06 = refused 1 segment 1 length 720 over 719",
+            Call::Day {
+                day: day(&rt, b"2026-03-07"),
+            },
+            Reply::DayIs {
+                day: day(&rt, b"2026-03-07"),
+            },
         ),
+        "day 2026-03-07 = day 2026-03-07",
+    )?;
+    is_line(
+        &rt,
+        alloc,
+        (Call::Show { number: 1 }, shown(&rt, Status::InForce)),
+        "show 1 = shown 1 caller 1 truck 1 days 2026-03-02 2026-03-06 at 0 seen 0 inforce",
+    )?;
+    is_line(
+        &rt,
+        alloc,
         (
-            refused(
-                &rt,
-                Limit::Gross {
-                    segment,
-                    has: 80_000,
-                    allowed: 79_999,
-                },
-            ),
-            "held truck 1 from 1 to 2 asked none days 2026-03-02 2026-03-06 = refused 1 segment 1 gross 80000 over 79999",
+            Call::Surrender { number: 1 },
+            Reply::NotInForce {
+                status: Status::Expired,
+            },
         ),
-        (
-            refused(
-                &rt,
-                Limit::Shear {
-                    segment,
-                    span: 0,
-                    has: shear,
-                    design: shear,
-                    rating: 999,
-                },
-            ),
-            "held truck 1 from 1 to 2 asked none days 2026-03-02 2026-03-06 = refused 1 segment 1 span 1 shear 41600/1 hs20 41600/1 rating 999",
-        ),
-        (
-            posted(
-                alloc,
-                Change::Closed {
-                    segment,
-                    closed: true,
-                },
-            ),
-            "post segment 1 closed 1 = posted 1 recalled -",
-        ),
-        (
-            posted(
-                alloc,
-                Change::Width {
-                    segment,
-                    inches: 102,
-                },
-            ),
-            "post segment 1 width 102 = posted 1 recalled -",
-        ),
-        (
-            posted(
-                alloc,
-                Change::Length {
-                    segment,
-                    inches: 720,
-                },
-            ),
-            "post segment 1 length 720 = posted 1 recalled -",
-        ),
-        (
-            posted(
-                alloc,
-                Change::Gross {
-                    segment,
-                    pounds: 80_000,
-                },
-            ),
-            "post segment 1 gross 80000 = posted 1 recalled -",
-        ),
-        (
-            (
-                Call::Day {
-                    day: day(&rt, b"2026-03-07"),
-                },
-                Reply::DayIs {
-                    day: day(&rt, b"2026-03-07"),
-                },
-            ),
-            "day 2026-03-07 = day 2026-03-07",
-        ),
-        (
-            (Call::Show { number: 1 }, shown(&rt, Status::InForce)),
-            "show 1 = shown 1 caller 1 truck 1 days 2026-03-02 2026-03-06 at 0 seen 0 inforce",
-        ),
-        (
-            (
-                Call::Surrender { number: 1 },
-                Reply::NotInForce {
-                    status: Status::Expired,
-                },
-            ),
-            "surrender 1 = notinforce expired",
-        ),
-    ];
-    for ((call, reply), line) in rows {
-        let history = [Entry {
-            caller: 0,
-            call,
-            reply,
-        }];
-        let text = print(alloc, &history)?;
-        let wanted = format!(in alloc; "permit-journal 1\n1 {line}\nend 1\n")?;
-        assert_eq!(rt; text.as_slice(), wanted.as_bytes(), "{line}");
-    }
+        "surrender 1 = notinforce expired",
+    )?;
     Ok(())
 }
