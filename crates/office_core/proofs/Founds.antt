@@ -5,13 +5,14 @@ use Rattle.road_graph.specs.Roads.{Roads, IsRoads}
 use Rattle.restriction_log.specs.declared.change.Change.{Change}
 use Rattle.restriction_log.specs.States.{InForce, state_of, state_after, is_named, AreOf}
 use Rattle.restriction_log.specs.Changes.{takes, AreTaken}
+use Rattle.snapshot_store.specs.Stores.{Stored, state_now}
 use Rattle.trip_analysis.specs.declared.application.Application.{Application}
 use Rattle.trip_analysis.specs.declared.finding.What.{What}
 use Rattle.trip_analysis.specs.declared.finding.Proposal.{Proposal}
 use Rattle.trip_analysis.specs.Bases.{BaseLists}
 use Rattle.trip_analysis.specs.Applications.{Sound}
-use Rattle.trip_analysis.specs.Findings.{IsFinding, HoldsIn}
-use Rattle.office_core.specs.Machine.{Machine, version_of, state_at, state_in, IsFound}
+use Rattle.trip_analysis.specs.Findings.{IsFinding, IsFoundAt, HoldsIn}
+use Rattle.office_core.specs.Machine.{Machine, version_of, state_at, state_in, stored_of, IsFound}
 use Rattle.restriction_log.proofs.Standing.{named_by_count}
 use Rattle.restriction_log.proofs.Elsewhere.{state-posted}
 use Rattle.restriction_log.proofs.Standing.{state_is_of, stays_of}
@@ -39,12 +40,12 @@ state_posted roads postings change = state-posted roads postings change
 pub of_base : (roads : Roads) (postings : List Change) → IsRoads roads → AreTaken roads postings → AreOf roads (state_of roads postings)
 of_base roads postings is taken = state_is_of roads postings is taken
 
--- what is found now may be asked as a proposal of the current version
-pub found_now : (base : BaseLists) (m : Machine) (a : Application) (n : ℕ) (state : InForce) (w : What) → n ≡ version_of m → state ≡ state_in base m → Sound base a → IsFinding base state a w → IsFound base m a (let p : Proposal = record { seen = n; what = w } in p)
-found_now base m a n state w now same sound is = record {
+-- what is found for what is posted may be asked as a proposal of its version
+pub found_for : (base : BaseLists) (m : Machine) (s : Stored) (a : Application) (p : Proposal) → s ≡ stored_of base m → Sound base a → p.seen ≡ length s.postings → IsFoundAt base s a p.what → IsFound base m a p
+found_for base m s a p is sound seen found = let now : p.seen ≡ version_of m = seen ∙ ap (λ (t : Stored). length t.postings) is in record {
   sound = sound;
   seen = omega (arith, now);
-  found = subst (λ (s : InForce). IsFinding base s a w) (same ∙ ap (state_of base.roads) (sym (take_all n m.postings (omega (arith, now))))) is;
+  found = subst (λ (t : InForce). IsFinding base t a p.what) (ap state_now is ∙ ap (state_of base.roads) (sym (take_all p.seen m.postings (omega (arith, now))))) found;
 }
 
 -- at the current version the state seen is the state

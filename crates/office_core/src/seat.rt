@@ -67,7 +67,8 @@ impl<'a> OneSeat<'a> {
     fn look(&mut self) -> Result<(), u32>
         ensures at { OnOk result (Answered (calls_of self.old) call.Snapshot
             (reply.SnapshotAt (version_of (machine_in self.new.office.now))) (calls_of self.new)) }
-        ensures full { IfErr result (λ most. Answered (calls_of self.old) call.Snapshot (reply.Full most) (calls_of self.new)) }
+        ensures full { IfErr result (λ most.
+            Answered (calls_of self.old) call.Snapshot (reply.Full most) (calls_of self.new)) }
     {
         let reply = self.ask(Call::Snapshot);
         match full_entries(&reply) {

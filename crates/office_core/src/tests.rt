@@ -1,15 +1,15 @@
-ghost use Rattle.std.specs.Prelude.{◌≡◌, ◌<◌, ◌≤◌, IfOk};
-ghost use Rattle.trip_analysis.specs.declared.application.Application.{Application};
-ghost use Rattle.trip_analysis.specs.declared.finding.Proposal.{Proposal};
+ghost use Rattle.std.specs.Prelude.{◌≡◌, ◌<◌, ◌≤◌, IfSome, OnOk};
 ghost use Rattle.trip_analysis.specs.Applications.{Sound};
+ghost use Rattle.office_core.specs.declared.entry.Call.{Call};
 ghost use Rattle.office_core.specs.declared.entry.Call.TheVariants as calls;
 ghost use Rattle.office_core.specs.Machine.{MayAsk};
 ghost use Rattle.office_core.specs.Offices.{machine_in};
+ghost use Rattle.office_core.specs.Calls.{machine_seen};
 
-use crate::{Call, Office};
+use crate::{Call, Looked, Office, OfficeCalls, OneSeat, Reply};
 use axle_train::{Axle, Train};
 use clearance_rules::{Load, Steps};
-use office_io::{Name, NoMemory};
+use office_io::Name;
 use permit_days::Day;
 use restriction_log::Change;
 use road_graph::{Network, What};
@@ -19,339 +19,442 @@ use std::process::Abort;
 use std::sync::Arc;
 use std::sync::ledger::{Blank, Ledger};
 use std::test::Fail;
-use trip_analysis::{Application, Base, Proposal, Truck, find};
+use trip_analysis::{Application, Base, Proposal, Truck, analyse};
+
+// Each day is a text, a line a call: CALLER KIND NUMBER NUMBER/REPLY. A look has the number of the truck and the first day
+// in March, and behind its reply what is found for the trip. Each day is gone through twice, once by calls of the office
+// and once by seats.
+
+// The part of a text with this number, from 0, or nothing where there are fewer.
+fn part(text: &str, separator: char, i: usize) -> &str {
+    text.split(separator).nth(i).unwrap_or("")
+}
+
+fn number(text: &str) -> u32 {
+    text.parse().unwrap_or(0)
+}
 
 // A name of these bytes, which are one.
 fn named(rt: &impl Abort, bytes: &[u8]) -> Name {
     Name::new(bytes).expect(rt, "a name")
 }
 
-// The day of a text, which writes one.
-fn day(rt: &impl Abort, text: &[u8]) -> Day {
-    Day::read(text).expect(rt, "a day")
+// The day of March 2026 of this number, of one digit.
+fn march(rt: &impl Abort, number: u32) -> Day {
+    let mut text = *b"2026-03-00";
+    text[9] = b'0' + (number % 10) as u8;
+    Day::read(&text).expect(rt, "a day")
 }
 
-// Segment 0 from node 0 to node 1, which is posted at 168 in, and a way around it by segments 1 and 2, if that is built.
-fn roads(rt: &impl Abort, alloc: Global, is_around: bool) -> Network {
+// Nodes 0, 1 and 2, and segments of 1,000 ft, each written FROM-TO. Segment 0 is posted at a height.
+fn roads(rt: &impl Abort, alloc: Global, segments: &str, height: u32) -> Network {
     let mut network = Network::new(alloc);
     for name in [b"a", b"b", b"c"] {
         network.add_node(named(rt, name)).expect(rt, "a node");
     }
-    network
-        .add_segment(named(rt, b"ab"), 0, 1, 1_000)
-        .expect(rt, "a segment");
-    network
-        .set_limit(0, What::Height, 168)
-        .expect(rt, "a limit");
-    if is_around {
+    for segment in segments.split_whitespace() {
+        let (from, to) = (number(part(segment, '-', 0)), number(part(segment, '-', 1)));
         network
-            .add_segment(named(rt, b"ac"), 0, 2, 1_000)
-            .expect(rt, "a segment");
-        network
-            .add_segment(named(rt, b"cb"), 2, 1, 1_000)
+            .add_segment(named(rt, segment.as_bytes()), from, to, 1_000)
             .expect(rt, "a segment");
     }
+    network
+        .set_limit(0, What::Height, height)
+        .expect(rt, "a limit");
     network
 }
 
-// A truck of this height and width, with three axles.
-fn truck(
-    rt: &impl Abort,
-    alloc: Global,
-    name: &[u8],
-    height: u32,
-    width: u32,
-) -> Result<Truck, Fail> {
-    let mut axles = Vec::new(alloc);
-    for (place, weight) in [(0, 12_000), (180, 17_000), (228, 17_000)] {
-        axles.push(Axle { place, weight })?;
-    }
+// A truck of this height and width, with three axles that are within the federal limits.
+fn truck(rt: &impl Abort, name: &[u8], height: u32, width: u32) -> Truck {
+    let axles = [(0, 12_000), (180, 17_000), (228, 17_000)];
+    let axles = axles.map(|(place, weight)| Axle { place, weight });
     let train = Train::new(axles.as_slice()).expect(rt, "a train");
-    Ok(Truck {
+    Truck {
         name: named(rt, name),
         carrier: named(rt, b"acme"),
         load: Load::new(height, width, 720, train).expect(rt, "a load"),
-    })
+    }
 }
 
-// An office with these roads and three trucks: one as high as is posted, one that is lower and wide, and a legal one.
-fn office(rt: &impl Abort, alloc: Global, is_around: bool, most: u32) -> Result<Office, Fail>
-    requires some { 1 ≤ most }
-    requires bounded { most ≤ 1000000 }
-{
+// These roads, and three trucks: one 168 in high, one that is lower and wide, and a legal one.
+fn base(rt: &impl Abort, alloc: Global, segments: &str, height: u32) -> Result<Base, Fail> {
     let mut fleet = Vec::new(alloc);
-    fleet.push(truck(rt, alloc, b"t1", 168, 102)?)?;
-    fleet.push(truck(rt, alloc, b"t2", 150, 110)?)?;
-    fleet.push(truck(rt, alloc, b"t3", 162, 102)?)?;
-    assert!(rt; fleet.len() <= 64);
-    let base = Arc::new(alloc, Base::new(roads(rt, alloc, is_around), fleet))?;
-    Ok(Office::start(alloc, base, day(rt, b"2026-03-02"), most)?)
+    fleet.push(truck(rt, b"t1", 168, 102))?;
+    fleet.push(truck(rt, b"t2", 150, 110))?;
+    fleet.push(truck(rt, b"t3", 162, 102))?;
+    Ok(Base::new(roads(rt, alloc, segments, height), fleet))
 }
 
-// An application for this truck from node 0 to node 1, for the days 2 to 6 of the month.
-fn application(rt: &impl Abort, base: &Base, truck: u32) -> Application
+// The trip of a truck from node 0 to node 1, without an asked route, from a day on.
+fn application(rt: &impl Abort, base: &Base, truck: u32, first: u32) -> Application
     ensures { Sound base.now result }
 {
     if truck as usize >= base.fleet().len() || base.network().nodes() < 2 {
         rt.abort();
     }
-    let (first, last) = (day(rt, b"2026-03-02"), day(rt, b"2026-03-06"));
+    let (first, last) = (march(rt, first), march(rt, 6));
     Application::new(base, truck, 0, 1, None, first, last).expect(rt, "an application")
 }
 
-// What is found for the application now, at the current version.
-#[tactic(auto, using(crate::proofs::Founds::found_now))]
-fn proposed(alloc: Global, office: &Office, application: &Application) -> Result<Proposal, NoMemory>
-    requires { Sound office.now.base application.now }
-    ensures { IfOk result (λ p.
-        MayAsk office.now.base (machine_in office.now) (calls.Submit application.now p)) }
-{
-    let what = find(alloc, office.base(), office.state(), application)?;
-    Ok(Proposal {
-        seen: office.version(),
-        what,
-    })
+// A trip, and what was found for it.
+#[derive(Drop)]
+struct Found {
+    application: Application,
+    proposal: Proposal,
 }
 
-// Makes a call, which is answered by this.
-fn tell<L: Ledger>(
+// What a change of KIND makes of a segment.
+fn change(kind: &str, segment: u32, value: u32) -> Change {
+    match kind {
+        "closed" => Change::Closed {
+            segment,
+            closed: value == 1,
+        },
+        _ => Change::Height {
+            segment,
+            inches: value,
+        },
+    }
+}
+
+// The call of a line. What was found is handed over where it is submitted.
+fn call_of(rt: &impl Abort, office: &Office, found: &mut Option<Found>, line: &str) -> Call
+    requires { IfSome found.old (λ f. MayAsk office.now.base (machine_in office.now)
+        (calls.Submit f.application f.proposal)) }
+    ensures found { IfSome found.new (λ f. MayAsk office.now.base (machine_in office.now)
+        (calls.Submit f.application f.proposal)) }
+    ensures asked { MayAsk office.now.base (machine_in office.now) result }
+{
+    let (one, two) = (number(part(line, ' ', 2)), number(part(line, ' ', 3)));
+    match part(line, ' ', 1) {
+        "look" => Call::Snapshot,
+        "submit" => submitted(rt, office, found),
+        "held" => Call::Held {
+            application: application(rt, office.base(), one, two),
+        },
+        "day" => Call::Day {
+            day: march(rt, one),
+        },
+        "surrender" => Call::Surrender { number: one },
+        "show" => Call::Show { number: one },
+        kind => Call::Post {
+            change: change(kind, one, two),
+        },
+    }
+}
+
+// What was found, as it is submitted.
+fn submitted(rt: &impl Abort, office: &Office, found: &mut Option<Found>) -> Call
+    requires { IfSome found.old (λ f. MayAsk office.now.base (machine_in office.now)
+        (calls.Submit f.application f.proposal)) }
+    ensures found { IfSome found.new (λ f. MayAsk office.now.base (machine_in office.now)
+        (calls.Submit f.application f.proposal)) }
+    ensures asked { MayAsk office.now.base (machine_in office.now) result }
+{
+    match found.take() {
+        Some(
+            Found {
+                application,
+                proposal,
+            },
+        ) => Call::Submit {
+            application,
+            proposal,
+        },
+        None => rt.abort(),
+    }
+}
+
+// Makes a call of the office.
+fn step<L: Ledger>(office: &mut Office, caller: u32, call: Call, blank: Blank) -> Reply
+    requires name { blank.name ≡ L.name }
+    requires parts { blank.parts ≡ L.parts }
+    requires some { 0 < blank.parts }
+    requires caller { caller < 65536 }
+    requires asked { MayAsk office.old.base (machine_in office.old) call }
+    ensures { (c : Call) → MayAsk office.old.base (machine_in office.old) c
+        → MayAsk office.new.base (machine_in office.new) c }
+{
+    let mut steps = Steps::<L>::new(blank);
+    office.step(caller, call, &mut steps)
+}
+
+// Makes it by a seat, which is then gone: the office's history is the one that the seat saw.
+fn sit(office: &mut Office, caller: u32, call: Call) -> Reply
+    requires caller { caller < 65536 }
+    requires asked { MayAsk office.old.base (machine_in office.old) call }
+    ensures { (c : Call) → MayAsk office.old.base (machine_in office.old) c
+        → MayAsk office.new.base (machine_in office.new) c }
+{
+    let mut seat = OneSeat::new(office, caller);
+    ask(&mut seat, call)
+}
+
+// Makes it by whatever calls.
+fn ask<C: OfficeCalls>(calls: &mut C, call: Call) -> Reply
+    requires { MayAsk (C.view calls.old).who.base (machine_seen (C.view calls.old)) call }
+    ensures who { (C.view calls.new).who ≡ (C.view calls.old).who }
+    ensures asked { (c : Call) → MayAsk (C.view calls.old).who.base (machine_seen (C.view calls.old)) c
+        → MayAsk (C.view calls.new).who.base (machine_seen (C.view calls.new)) c }
+{
+    match call {
+        Call::Snapshot => look(calls),
+        Call::Submit {
+            application,
+            proposal,
+        } => calls.submit(application, proposal),
+        Call::Held { application } => calls.held(application),
+        Call::Post { change } => calls.post(change),
+        Call::Day { day } => calls.day(day),
+        Call::Surrender { number } => calls.surrender(number),
+        Call::Show { number } => calls.show(number),
+    }
+}
+
+// Looks by whatever calls.
+fn look<C: OfficeCalls>(calls: &mut C) -> Reply
+    ensures who { (C.view calls.new).who ≡ (C.view calls.old).who }
+    ensures asked { (c : Call) → MayAsk (C.view calls.old).who.base (machine_seen (C.view calls.old)) c
+        → MayAsk (C.view calls.new).who.base (machine_seen (C.view calls.new)) c }
+{
+    match calls.snapshot() {
+        Looked::At(snapshot) => Reply::SnapshotAt {
+            version: snapshot.version(),
+        },
+        Looked::NoMemory => Reply::NoMemory,
+        Looked::Full { entries } => Reply::Full { entries },
+    }
+}
+
+// Finds what the line of a look asks for, which is what it says.
+#[tactic(auto, using(crate::proofs::Founds::found_for))]
+fn find(
+    rt: &impl Abort,
+    alloc: Global,
+    office: &Office,
+    found: &mut Option<Found>,
+    line: &str,
+) -> Result<(), Fail>
+    ensures { OnOk result (IfSome found.new (λ f. MayAsk office.now.base (machine_in office.now)
+        (calls.Submit f.application f.proposal))) }
+{
+    let words = part(line, '/', 0);
+    let (truck, first) = (number(part(words, ' ', 2)), number(part(words, ' ', 3)));
+    let application = application(rt, office.base(), truck, first);
+    let snapshot = office.snapshot()?;
+    let proposal = analyse(alloc, office.base(), &snapshot, &application)?;
+    let text = format!(in alloc; "{:?}", proposal.what)?;
+    assert_eq!(rt; text.as_str(), part(line, '/', 2), "{line}");
+    *found = Some(Found {
+        application,
+        proposal,
+    });
+    Ok(())
+}
+
+// Makes a call, by a seat or not.
+fn answer(office: &mut Office, caller: u32, call: Call, by_seat: bool) -> Reply
+    requires caller { caller < 65536 }
+    requires asked { MayAsk office.old.base (machine_in office.old) call }
+    ensures { (c : Call) → MayAsk office.old.base (machine_in office.old) c
+        → MayAsk office.new.base (machine_in office.new) c }
+{
+    if by_seat {
+        return sit(office, caller, call);
+    }
+    step::<Brand>(office, caller, call, Blank::new(1))
+}
+
+// Compares a reply with the one that a line has.
+fn compare(rt: &impl Abort, alloc: Global, reply: Reply, line: &str) -> Result<(), Fail> {
+    let text = format!(in alloc; "{reply:?}")?;
+    assert_eq!(rt; text.as_str(), part(line, '/', 1), "{line}");
+    Ok(())
+}
+
+// Makes the call of a line, by a seat or not, and compares the reply.
+fn serve(
     rt: &impl Abort,
     alloc: Global,
     office: &mut Office,
-    steps: &mut Steps<L>,
-    caller: u32,
-    call: Call,
-    text: &str,
+    found: &mut Option<Found>,
+    line: &str,
+    by_seat: bool,
 ) -> Result<(), Fail>
-    requires caller { caller < 65536 }
-    requires asked { MayAsk office.old.base (machine_in office.old) call }
-    ensures base { office.new.base ≡ office.old.base }
-    ensures later { (a : Application) (p : Proposal)
-        → MayAsk office.old.base (machine_in office.old) (calls.Submit a p)
-        → MayAsk office.new.base (machine_in office.new) (calls.Submit a p) }
+    requires { IfSome found.old (λ f. MayAsk office.old.base (machine_in office.old)
+        (calls.Submit f.application f.proposal)) }
+    ensures { OnOk result (IfSome found.new (λ f. MayAsk office.new.base (machine_in office.new)
+        (calls.Submit f.application f.proposal))) }
 {
-    let reply = office.step(caller, call, steps);
-    assert_eq!(rt; format!(in alloc; "{reply:?}")?.as_str(), text);
+    let words = part(line, '/', 0);
+    let call = call_of(rt, office, found, words);
+    let caller = number(part(words, ' ', 0)) % 65_536;
+    let reply = answer(office, caller, call, by_seat);
+    compare(rt, alloc, reply, line)?;
+    if part(words, ' ', 1) == "look" {
+        return find(rt, alloc, office, found, line);
+    }
+    Ok(())
+}
+
+// Makes the calls of all lines.
+fn serve_each(
+    rt: &impl Abort,
+    alloc: Global,
+    office: &mut Office,
+    lines: &str,
+    by_seat: bool,
+) -> Result<(), Fail> {
+    let mut found = None;
+    for line in lines.lines() {
+        serve(rt, alloc, office, &mut found, line, by_seat)?;
+    }
+    Ok(())
+}
+
+// An office about these roads, and its day. Its history then has so many entries.
+fn check_day(
+    rt: &impl Abort,
+    alloc: Global,
+    base: Arc<Base, Global>,
+    most: u32,
+    lines: &str,
+    by_seat: bool,
+) -> Result<usize, Fail>
+    requires some { 1 ≤ most }
+    requires bounded { most ≤ 1000000 }
+{
+    let mut office = Office::start(alloc, base, march(rt, 2), most)?;
+    serve_each(rt, alloc, &mut office, lines, by_seat)?;
+    let entries = office.history().len();
+    drop(office);
+    Ok(entries)
+}
+
+// The same by calls of the office and by seats.
+fn check(
+    rt: &impl Abort,
+    alloc: Global,
+    segments: &str,
+    height: u32,
+    most: u32,
+    entries: usize,
+    lines: &str,
+) -> Result<(), Fail>
+    requires some { 1 ≤ most }
+    requires bounded { most ≤ 1000000 }
+{
+    for by_seat in [false, true] {
+        let base = Arc::new(alloc, base(rt, alloc, segments, height)?)?;
+        let held = check_day(rt, alloc, base, most, lines, by_seat)?;
+        assert_eq!(rt; held, entries);
+    }
     Ok(())
 }
 
 #[test]
 fn is_full_at_its_most_entries(rt: HostRuntime) -> Result<(), Fail> {
-    fills::<Brand>(&rt, rt.alloc(), Blank::new(1))
+    let lines = "\
+0 show 0/Unknown
+0 show 0/Unknown
+0 show 0/Full { entries: 2 }
+0 look 0 2/Full { entries: 2 }/Route(Numbers { list: [0] })
+0 submit/Full { entries: 2 }
+";
+    check(&rt, rt.alloc(), "0-1", 168, 2, 2, lines)
 }
 
-fn fills<L: Ledger>(rt: &impl Abort, alloc: Global, blank: Blank) -> Result<(), Fail>
-    requires name { blank.name ≡ L.name }
-    requires parts { blank.parts ≡ L.parts }
-    requires some { 0 < blank.parts }
-{
-    let mut steps = Steps::<L>::new(blank);
-    let mut office = office(rt, alloc, false, 2)?;
-    for text in ["Unknown", "Unknown", "Full { entries: 2 }"] {
-        let call = Call::Show { number: 0 };
-        tell(rt, alloc, &mut office, &mut steps, 0, call, text)?;
-    }
-    assert_eq!(rt; office.history().len(), 2);
-    Ok(())
-}
-
+// A posting that is lower than the first truck, twice.
 #[test]
 fn recalls_just_what_a_posting_makes_fail(rt: HostRuntime) -> Result<(), Fail> {
-    recalls::<Brand>(&rt, rt.alloc(), Blank::new(1))
+    let lines = "\
+0 held 0 2/Issued { number: 1, version: 0, route: Numbers { list: [0] } }
+0 held 1 2/Issued { number: 2, version: 0, route: Numbers { list: [0] } }
+1 height 0 167/Posted { version: 1, recalled: Numbers { list: [1] } }
+1 height 0 167/Posted { version: 2, recalled: Numbers { list: [] } }
+1 height 1 167/OutOfRange
+0 surrender 1/NotInForce { status: Recalled { version: 1 } }
+";
+    check(&rt, rt.alloc(), "0-1", 168, 100, 6, lines)
 }
 
-// The permits of both trucks, and then a posting that is lower than the first, twice.
-fn recalls<L: Ledger>(rt: &impl Abort, alloc: Global, blank: Blank) -> Result<(), Fail>
-    requires name { blank.name ≡ L.name }
-    requires parts { blank.parts ≡ L.parts }
-    requires some { 0 < blank.parts }
-{
-    let mut steps = Steps::<L>::new(blank);
-    let mut office = office(rt, alloc, false, 100)?;
-    for (truck, text) in [
-        (
-            0,
-            "Issued { number: 1, version: 0, route: Numbers { list: [0] } }",
-        ),
-        (
-            1,
-            "Issued { number: 2, version: 0, route: Numbers { list: [0] } }",
-        ),
-        (2, "NotNeeded"),
-    ] {
-        let application = application(rt, office.base(), truck);
-        let call = Call::Held { application };
-        tell(rt, alloc, &mut office, &mut steps, 0, call, text)?;
-    }
-    for (segment, text) in [
-        (0, "Posted { version: 1, recalled: Numbers { list: [1] } }"),
-        (0, "Posted { version: 2, recalled: Numbers { list: [] } }"),
-        (1, "OutOfRange"),
-    ] {
-        let change = Change::Height {
-            segment,
-            inches: 167,
-        };
-        let call = Call::Post { change };
-        tell(rt, alloc, &mut office, &mut steps, 0, call, text)?;
-    }
-    assert_eq!(rt; office.version(), 2);
-    let call = Call::Surrender { number: 1 };
-    let text = "NotInForce { status: Recalled { version: 1 } }";
-    tell(rt, alloc, &mut office, &mut steps, 0, call, text)
-}
-
+// A trip that would begin too late and a legal truck, a day set back, a permit given back by another and twice, and a later
+// day.
 #[test]
 fn takes_no_day_back(rt: HostRuntime) -> Result<(), Fail> {
-    goes_on::<Brand>(&rt, rt.alloc(), Blank::new(1))
+    let lines = "\
+0 look 0 1/SnapshotAt { version: 0 }/Route(Numbers { list: [0] })
+0 submit/Late { day: Day { bytes: [50, 48, 50, 54, 45, 48, 51, 45, 48, 50] } }
+0 look 2 2/SnapshotAt { version: 0 }/NotNeeded
+0 submit/NotNeeded
+0 held 2 2/NotNeeded
+0 held 0 2/Issued { number: 1, version: 0, route: Numbers { list: [0] } }
+0 day 1/DayBack { day: Day { bytes: [50, 48, 50, 54, 45, 48, 51, 45, 48, 50] } }
+1 surrender 1/NotYours
+0 surrender 1/Surrendered
+0 surrender 1/NotInForce { status: Surrendered }
+0 show 0/Unknown
+0 day 3/DayIs { day: Day { bytes: [50, 48, 50, 54, 45, 48, 51, 45, 48, 51] } }
+0 held 0 2/Late { day: Day { bytes: [50, 48, 50, 54, 45, 48, 51, 45, 48, 51] } }
+";
+    check(&rt, rt.alloc(), "0-1", 168, 100, 13, lines)
 }
 
-// A day set back, a surrender by another, a surrender twice and a look at number 0; then a later day, on which the trip
-// is late.
-fn goes_on<L: Ledger>(rt: &impl Abort, alloc: Global, blank: Blank) -> Result<(), Fail>
-    requires name { blank.name ≡ L.name }
-    requires parts { blank.parts ≡ L.parts }
-    requires some { 0 < blank.parts }
-{
-    let mut steps = Steps::<L>::new(blank);
-    let mut office = office(rt, alloc, false, 100)?;
-    let application_1 = application(rt, office.base(), 0);
-    let call = Call::Held {
-        application: application_1,
-    };
-    let text = "Issued { number: 1, version: 0, route: Numbers { list: [0] } }";
-    tell(rt, alloc, &mut office, &mut steps, 0, call, text)?;
-    let call = Call::Day {
-        day: day(rt, b"2026-03-01"),
-    };
-    let text = "DayBack { day: Day { bytes: [50, 48, 50, 54, 45, 48, 51, 45, 48, 50] } }";
-    tell(rt, alloc, &mut office, &mut steps, 0, call, text)?;
-    for (caller, text) in [
-        (1, "NotYours"),
-        (0, "Surrendered"),
-        (0, "NotInForce { status: Surrendered }"),
-    ] {
-        let call = Call::Surrender { number: 1 };
-        tell(rt, alloc, &mut office, &mut steps, caller, call, text)?;
-    }
-    let call = Call::Show { number: 0 };
-    tell(rt, alloc, &mut office, &mut steps, 0, call, "Unknown")?;
-    let call = Call::Day {
-        day: day(rt, b"2026-03-03"),
-    };
-    let text = "DayIs { day: Day { bytes: [50, 48, 50, 54, 45, 48, 51, 45, 48, 51] } }";
-    tell(rt, alloc, &mut office, &mut steps, 0, call, text)?;
-    assert_eq!(rt; office.today(), day(rt, b"2026-03-03"));
-    let application_2 = application(rt, office.base(), 0);
-    let call = Call::Held {
-        application: application_2,
-    };
-    let text = "Late { day: Day { bytes: [50, 48, 50, 54, 45, 48, 51, 45, 48, 51] } }";
-    tell(rt, alloc, &mut office, &mut steps, 0, call, text)
-}
-
-// Closes segment 0 or opens it, as another caller.
-fn close<L: Ledger>(
-    rt: &impl Abort,
-    alloc: Global,
-    office: &mut Office,
-    steps: &mut Steps<L>,
-    closed: bool,
-    text: &str,
-) -> Result<(), Fail>
-    ensures base { office.new.base ≡ office.old.base }
-    ensures later { (a : Application) (p : Proposal)
-        → MayAsk office.old.base (machine_in office.old) (calls.Submit a p)
-        → MayAsk office.new.base (machine_in office.new) (calls.Submit a p) }
-{
-    let change = Change::Closed { segment: 0, closed };
-    tell(rt, alloc, office, steps, 1, Call::Post { change }, text)
-}
-
+// A posting that closes the route that was found, and the way around it.
 #[test]
 fn looks_again_before_it_issues(rt: HostRuntime) -> Result<(), Fail> {
-    looks::<Brand>(&rt, rt.alloc(), Blank::new(1))
+    let lines = "\
+0 look 0 2/SnapshotAt { version: 0 }/Route(Numbers { list: [0] })
+1 closed 0 1/Posted { version: 1, recalled: Numbers { list: [] } }
+0 submit/Outdated { version: 1, cause: NowFails { limit: Closed { segment: 0 } } }
+0 look 0 2/SnapshotAt { version: 1 }/Route(Numbers { list: [1, 2] })
+0 submit/Issued { number: 1, version: 1, route: Numbers { list: [1, 2] } }
+";
+    check(&rt, rt.alloc(), "0-1 0-2 2-1", 168, 100, 5, lines)
 }
 
-// A proposal, a posting that closes its route, and a proposal around it.
-fn looks<L: Ledger>(rt: &impl Abort, alloc: Global, blank: Blank) -> Result<(), Fail>
-    requires name { blank.name ≡ L.name }
-    requires parts { blank.parts ≡ L.parts }
-    requires some { 0 < blank.parts }
-{
-    let mut steps = Steps::<L>::new(blank);
-    let mut office = office(rt, alloc, true, 100)?;
-    let application_1 = application(rt, office.base(), 0);
-    let application_2 = application_1.try_clone(alloc)?;
-    let proposal = proposed(alloc, &office, &application_1)?;
-    let text = "Posted { version: 1, recalled: Numbers { list: [] } }";
-    close(rt, alloc, &mut office, &mut steps, true, text)?;
-    let call = Call::Submit {
-        application: application_1,
-        proposal,
-    };
-    let text = "Outdated { version: 1, cause: NowFails { limit: Closed { segment: 0 } } }";
-    tell(rt, alloc, &mut office, &mut steps, 0, call, text)?;
-    let proposal = proposed(alloc, &office, &application_2)?;
-    let call = Call::Submit {
-        application: application_2,
-        proposal,
-    };
-    let text = "Issued { number: 1, version: 1, route: Numbers { list: [1, 2] } }";
-    tell(rt, alloc, &mut office, &mut steps, 0, call, text)
+// A posting that opens the way which was found to be shut.
+#[test]
+fn looks_again_before_it_refuses(rt: HostRuntime) -> Result<(), Fail> {
+    let lines = "\
+0 look 0 2/SnapshotAt { version: 0 }/Cut(Numbers { list: [0] })
+1 height 0 168/Posted { version: 1, recalled: Numbers { list: [] } }
+0 submit/Outdated { version: 1, cause: NowMeets { segment: 0 } }
+0 look 0 2/SnapshotAt { version: 1 }/Route(Numbers { list: [0] })
+0 submit/Issued { number: 1, version: 1, route: Numbers { list: [0] } }
+";
+    check(&rt, rt.alloc(), "0-1", 160, 100, 5, lines)
 }
 
+// Eight tries with a posting between the look and the submit, and then a held call.
 #[test]
 fn finds_itself_what_is_always_out_of_date(rt: HostRuntime) -> Result<(), Fail> {
-    tries::<Brand>(&rt, rt.alloc(), Blank::new(1))
-}
-
-// One try: a look at the version, a proposal, a posting between, and a submit that is out of date.
-fn outdates<L: Ledger>(
-    rt: &impl Abort,
-    alloc: Global,
-    office: &mut Office,
-    steps: &mut Steps<L>,
-    version: u32,
-) -> Result<(), Fail>
-    requires { version < 8 }
-{
-    let text = format!(in alloc; "SnapshotAt {{ version: {version} }}")?;
-    tell(rt, alloc, office, steps, 0, Call::Snapshot, text.as_str())?;
-    let application = application(rt, office.base(), 0);
-    let proposal = proposed(alloc, office, &application)?;
-    let closed = version % 2 == 0;
-    let next = version + 1;
-    let text = format!(in alloc; "Posted {{ version: {next}, recalled: Numbers {{ list: [] }} }}")?;
-    close(rt, alloc, office, steps, closed, text.as_str())?;
-    let cause = if closed {
-        "NowFails { limit: Closed { segment: 0 } }"
-    } else {
-        "NowMeets { segment: 0 }"
-    };
-    let text = format!(in alloc; "Outdated {{ version: {next}, cause: {cause} }}")?;
-    let call = Call::Submit {
-        application,
-        proposal,
-    };
-    tell(rt, alloc, office, steps, 0, call, text.as_str())
-}
-
-// Eight tries that are out of date, and then a held call.
-fn tries<L: Ledger>(rt: &impl Abort, alloc: Global, blank: Blank) -> Result<(), Fail>
-    requires name { blank.name ≡ L.name }
-    requires parts { blank.parts ≡ L.parts }
-    requires some { 0 < blank.parts }
-{
-    let mut steps = Steps::<L>::new(blank);
-    let mut office = office(rt, alloc, false, 100)?;
-    for version in 0..8 {
-        outdates(rt, alloc, &mut office, &mut steps, version)?;
-    }
-    let application = application(rt, office.base(), 0);
-    let call = Call::Held { application };
-    let text = "Issued { number: 1, version: 8, route: Numbers { list: [0] } }";
-    tell(rt, alloc, &mut office, &mut steps, 0, call, text)?;
-    assert_eq!(rt; office.history().len(), 25);
-    Ok(())
+    let lines = "\
+0 look 0 2/SnapshotAt { version: 0 }/Route(Numbers { list: [0] })
+1 closed 0 1/Posted { version: 1, recalled: Numbers { list: [] } }
+0 submit/Outdated { version: 1, cause: NowFails { limit: Closed { segment: 0 } } }
+0 look 0 2/SnapshotAt { version: 1 }/Cut(Numbers { list: [0] })
+1 closed 0 0/Posted { version: 2, recalled: Numbers { list: [] } }
+0 submit/Outdated { version: 2, cause: NowMeets { segment: 0 } }
+0 look 0 2/SnapshotAt { version: 2 }/Route(Numbers { list: [0] })
+1 closed 0 1/Posted { version: 3, recalled: Numbers { list: [] } }
+0 submit/Outdated { version: 3, cause: NowFails { limit: Closed { segment: 0 } } }
+0 look 0 2/SnapshotAt { version: 3 }/Cut(Numbers { list: [0] })
+1 closed 0 0/Posted { version: 4, recalled: Numbers { list: [] } }
+0 submit/Outdated { version: 4, cause: NowMeets { segment: 0 } }
+0 look 0 2/SnapshotAt { version: 4 }/Route(Numbers { list: [0] })
+1 closed 0 1/Posted { version: 5, recalled: Numbers { list: [] } }
+0 submit/Outdated { version: 5, cause: NowFails { limit: Closed { segment: 0 } } }
+0 look 0 2/SnapshotAt { version: 5 }/Cut(Numbers { list: [0] })
+1 closed 0 0/Posted { version: 6, recalled: Numbers { list: [] } }
+0 submit/Outdated { version: 6, cause: NowMeets { segment: 0 } }
+0 look 0 2/SnapshotAt { version: 6 }/Route(Numbers { list: [0] })
+1 closed 0 1/Posted { version: 7, recalled: Numbers { list: [] } }
+0 submit/Outdated { version: 7, cause: NowFails { limit: Closed { segment: 0 } } }
+0 look 0 2/SnapshotAt { version: 7 }/Cut(Numbers { list: [0] })
+1 closed 0 0/Posted { version: 8, recalled: Numbers { list: [] } }
+0 submit/Outdated { version: 8, cause: NowMeets { segment: 0 } }
+0 held 0 2/Issued { number: 1, version: 8, route: Numbers { list: [0] } }
+";
+    check(&rt, rt.alloc(), "0-1", 168, 100, 25, lines)
 }
