@@ -52,3 +52,9 @@ pub record IsKept (s : Stored) (kept : InForce) : Type 0 where
 
 abbrev pub IsStore : Inside → Type 0
 IsStore s = IsKept (stored_in s) (arc_value s.state)
+
+-- the store has gone on: of the same network, with these postings and perhaps more behind them
+pub record IsLater (before now : Stored) : Type 0 where
+  pub roads : now.roads ≡ before.roads
+  pub more : List Change
+  pub postings : now.postings ≡ before.postings ++ more

@@ -1,20 +1,26 @@
--- What is known of the trucks goes on from a state to the one that a change makes of it.
-use Rattle.std.proofs.Common.{◌≡◌, ◌≢◌, ◌<◌, ◌⊎◌, ◌+◌, ◌++◌, ◌∷◌, [], ℕ, List, Bool, true, false, not, length, get_or, set, refl, sym, ap, ◌∙◌, subst, arith, inl, inr}
+-- What is known of the trucks goes on from a state to another.
+use Rattle.std.proofs.Common.{◌≡◌, ◌==◌, ◌&&◌, ◌≢◌, ◌<◌, ◌≤◌, ◌⊎◌, ◌+◌, ◌++◌, ◌∷◌, [], ℕ, List, Bool, true, false, not, length, get_or, refl, sym, ap, ◌∙◌, subst, arith, inl, inr}
 use Rattle.std.proofs.lemmas.Bool.{cases_eq}
 use Rattle.std.proofs.lemmas.List.{ext_get_or, get_or-set_same, get_or-set_other, get_or_push, get_or_append_left}
 use Rattle.std.proofs.lemmas.List.FromFn.{length-map-range_with_len}
-use Rattle.std.proofs.Math.ListN.{length-set}
+use Rattle.std.proofs.lemmas.Option.{get_or_from_slice_get}
 use Rattle.std.specs.Prelude.{is_none, is_some, Option, None, Some}
+use Rattle.std.proofs.Math.Bool.{beq}
+use Rattle.road_graph.specs.declared.values.Values.{Values}
+use Rattle.road_graph.specs.Roads.{AreSpansOf, Roads}
+use Rattle.road_graph.proofs.Places.{get_within}
 use Rattle.restriction_log.specs.declared.change.Change.{Change}
 use Rattle.restriction_log.specs.Changes.{touched}
-use Rattle.restriction_log.specs.States.{InForce, AgreeOn, state_after}
+use Rattle.restriction_log.specs.States.{InForce, AgreeOn, rating_at, state_after, values_at}
 use Rattle.restriction_log.proofs.Elsewhere.{agree-after}
 use Rattle.clearance_rules.specs.declared.limit.Limit.{Limit}
 use Rattle.clearance_rules.proofs.Agreeing.{limits_agree}
+use Rattle.trip_analysis.specs.declared.analyst.Analyst.{Analyst}
 use Rattle.trip_analysis.specs.declared.analyst.Known.{Known}
 use Rattle.trip_analysis.specs.Bases.{BaseLists, truck_of}
 use Rattle.trip_analysis.specs.Findings.{flags_of, is_passable}
-use Rattle.trip_analysis.specs.Known.{IsKnown, IsKnownBut}
+use Rattle.trip_analysis.specs.Known.{AreJudged, AreKnown, AreOfFleet, IsJudged, IsKnown, IsKnownBelow, IsOfTruck}
+use Rattle.trip_analysis.proofs.Flags.{flags_many}
 use Rattle.trip_analysis.proofs.Found.{flag_is}
 
 -- it holds of each truck below a number
@@ -28,46 +34,157 @@ below_push P known k n many below here = λ j d less. elim (cases_eq j n) [
   | inr apart ↦ subst (P j) (sym (get_or_append_left known (k ∷ []) d j (omega (arith, less, apart, many)))) (below j d (omega (arith, less, apart)))
 ]
 
--- only the segment that the change names is judged anew
-flags_turn : (base : BaseLists) (old new : InForce) (change : Change) (truck segment : ℕ) (flags after : List Bool) → flags ≡ flags_of base old truck → segment ≡ touched base.roads change → segment < length base.roads.segments
-    → new ≡ state_after old change → after ≡ set flags segment (is_passable base new truck segment) → after ≡ flags_of base new truck
-flags_turn base old new change truck segment flags after were named within next now = ext_get_or false after (flags_of base new truck) same_length same_at
-  where
-    count : (state : InForce) → length (flags_of base state truck) ≡ length base.roads.segments
-    count state = length-map-range_with_len (is_passable base state truck) 0 (length base.roads.segments)
+-- two states that agree on a segment let a truck pass it alike
+pub passes_alike : (base : BaseLists) (old new : InForce) (truck i : ℕ) → AgreeOn base.roads i old new → is_passable base old truck i ≡ is_passable base new truck i
+passes_alike base old new truck i agree = ap (λ (l : Option Limit). is_none l) (sym (limits_agree base.roads old new (truck_of base truck).load i agree))
 
-    many : length flags ≡ length base.roads.segments
-    many = ap length were ∙ count old
+-- limits that a test finds equal are the same
+pub same_values : (v w : Values) → not ((beq v.closed w.closed) && ((v.height == w.height) && ((v.width == w.width) && ((v.length == w.length) && ((v.gross == w.gross) && (v.allowance == w.allowance)))))) ≡ false → v ≡ w
+same_values v w e = grind (arith, e)
 
-    same_length : length after ≡ length (flags_of base new truck)
-    same_length = ap length now ∙ (length-set flags segment (is_passable base new truck segment) ∙ (many ∙ sym (count new)))
+-- where the limits of a segment and the ratings of its spans, which these are, are the same, the states agree on it
+pub agree_if : (roads : Roads) (old new : InForce) (segment n : ℕ) (spans : List ℕ) → values_at old.values segment ≡ values_at new.values segment → AreSpansOf roads.spans segment spans → length spans ≤ n
+    → ((k : ℕ) → k < n → rating_at new.ratings (get_or spans k 0) ≡ rating_at old.ratings (get_or spans k 0)) → AgreeOn roads segment old new
+agree_if roads old new segment n spans same are whole each = record {
+  values = sym same;
+  ratings = λ i t at on.
+      let (k, here) = are.complete i t at on in
+      let is : get_or spans k 0 ≡ i = get_or_from_slice_get spans k i 0 here in
+      subst (λ (j : ℕ). rating_at new.ratings j ≡ rating_at old.ratings j) is (each k (omega (arith, get_within spans k i here, whole)));
+}
 
-    elsewhere : (i : ℕ) → i ≢ segment → is_passable base old truck i ≡ is_passable base new truck i
-    elsewhere i apart =
-        let far : i ≢ touched base.roads change = λ e. apart (e ∙ sym named) in
-        let agree : AgreeOn base.roads i old new = subst (AgreeOn base.roads i old) (sym next) (agree-after base.roads i old change far) in
-        ap (λ (l : Option Limit). is_none l) (sym (limits_agree base.roads old new (truck_of base truck).load i agree))
-
-    same_at : (i : ℕ) → i < length after → get_or after i false ≡ get_or (flags_of base new truck) i false
-    same_at i less =
-        let there : i < length base.roads.segments = omega (arith, less, same_length, count new) in
-        ap (λ (l : List Bool). get_or l i false) now ∙ (here i there (cases_eq i segment) ∙ sym (flag_is base new truck i there))
-      where
-        here : (i : ℕ) → i < length base.roads.segments → (i ≡ segment) ⊎ (i ≡ segment → ⊥) → get_or (set flags segment (is_passable base new truck segment)) i false ≡ is_passable base new truck i
-        here i there (inl same) =
-            subst (λ (k : ℕ). get_or (set flags segment (is_passable base new truck segment)) k false ≡ is_passable base new truck k) (sym same)
-            (get_or-set_same flags segment (is_passable base new truck segment) false (omega (arith, within, many)))
-        here i there (inr other) =
-            get_or-set_other flags segment i (is_passable base new truck segment) false other
-            ∙ (ap (λ (l : List Bool). get_or l i false) were ∙ (flag_is base old truck i there ∙ elsewhere i other))
-
--- what is known in a state is known in the one that a change makes of it, but for the segment that the change names
-pub known_but : (base : BaseLists) (old new : InForce) (change : Change) (segment truck : ℕ) (known : Known) → segment ≡ touched base.roads change
-    → segment < length base.roads.segments → new ≡ state_after old change → IsKnown base old truck known → IsKnownBut base new segment truck known
-known_but base old new change segment truck known named within next is = record {
+-- what is known of a truck in a state is of the truck
+pub known_of : (base : BaseLists) (state : InForce) (truck : ℕ) (known : Known) → IsKnown base state truck known → IsOfTruck base truck known
+known_of base state truck known is = record {
   study = is.study;
-  flags = λ e. flags_turn base old new change truck segment known.flags.items _ (is.flags e) named within next refl;
+  many = λ e. flags_many base state truck known.flags.items (is.flags e);
   settled = is.settled;
+}
+
+pub are_known_of : (base : BaseLists) (state : InForce) (a : Analyst) → AreKnown base state a → AreOfFleet base a
+are_known_of base state a are = record { many = are.many; each = λ truck d less. known_of base state truck _ (are.each truck d less) }
+
+-- before the first segment each flag is that of the old state
+below_none : (base : BaseLists) (old new : InForce) (truck : ℕ) (known : Known) → IsKnown base old truck known → IsKnownBelow base old new 0 truck known
+below_none base old new truck known is = record {
+  is_of = known_of base old truck known is;
+  before = λ i e less there. absurd (omega (arith, less));
+  behind = λ i e low there. ap (λ (l : List Bool). get_or l i false) (is.flags e) ∙ flag_is base old truck i there;
+}
+
+-- behind the last segment each flag is that of the new one
+below_all : (base : BaseLists) (old new : InForce) (n truck : ℕ) (known : Known) → length base.roads.segments ≤ n → IsKnownBelow base old new n truck known → IsKnown base new truck known
+below_all base old new n truck known whole below = record {
+  study = below.is_of.study;
+  flags = λ e.
+      let many = below.is_of.many e in
+      let count : length (flags_of base new truck) ≡ length base.roads.segments = length-map-range_with_len (is_passable base new truck) 0 (length base.roads.segments) in
+      ext_get_or false known.flags.items (flags_of base new truck) (many ∙ sym count) (λ i less.
+      let there : i < length base.roads.segments = omega (arith, less, many) in
+      below.before i e (omega (arith, there, whole)) there ∙ sym (flag_is base new truck i there));
+  settled = below.is_of.settled;
+}
+
+-- one segment more, on which the states agree
+below_same : (base : BaseLists) (old new : InForce) (n truck : ℕ) (known : Known) → AgreeOn base.roads n old new → IsKnownBelow base old new n truck known → IsKnownBelow base old new (n + 1) truck known
+below_same base old new n truck known agree below = record {
+  is_of = below.is_of;
+  before = λ i e less there. here i e less there (cases_eq i n);
+  behind = λ i e low there. below.behind i e (omega (arith, low)) there;
+}
+  where
+    here : (i : ℕ) → known.is_flagged ≡ true → i < n + 1 → i < length base.roads.segments → (i ≡ n) ⊎ (i ≡ n → ⊥) → get_or known.flags.items i false ≡ is_passable base new truck i
+    here i e less there (inl same) =
+        below.behind i e (omega (arith, same)) there ∙ passes_alike base old new truck i (subst (λ (k : ℕ). AgreeOn base.roads k old new) (sym same) agree)
+    here i e less there (inr other) = below.before i e (omega (arith, less, other)) there
+
+-- one segment more, which is judged anew
+below_judged : (base : BaseLists) (old new : InForce) (n truck : ℕ) (known judged : Known) → n < length base.roads.segments → IsJudged base new n truck known judged
+    → IsKnownBelow base old new n truck known → IsKnownBelow base old new (n + 1) truck judged
+below_judged base old new n truck known judged within is below = record {
+  is_of = is.is_of;
+  before = λ i e less there. here i (sym is.is_flagged ∙ e) less there (cases_eq i n);
+  behind = λ i e low there. elsewhere i (sym is.is_flagged ∙ e) (omega (arith, low)) ∙ below.behind i (sym is.is_flagged ∙ e) (omega (arith, low)) there;
+}
+  where
+    flag : Bool
+    flag = is_passable base new truck n
+
+    elsewhere : (i : ℕ) → known.is_flagged ≡ true → i ≢ n → get_or judged.flags.items i false ≡ get_or known.flags.items i false
+    elsewhere i e other = ap (λ (l : List Bool). get_or l i false) (is.flags e) ∙ get_or-set_other known.flags.items n i flag false other
+
+    here : (i : ℕ) → known.is_flagged ≡ true → i < n + 1 → i < length base.roads.segments → (i ≡ n) ⊎ (i ≡ n → ⊥) → get_or judged.flags.items i false ≡ is_passable base new truck i
+    here i e less there (inl same) =
+        let many = below.is_of.many e in
+        subst (λ (k : ℕ). get_or judged.flags.items k false ≡ is_passable base new truck k) (sym same)
+        (ap (λ (l : List Bool). get_or l n false) (is.flags e) ∙ get_or-set_same known.flags.items n flag false (omega (arith, within, many)))
+    here i e less there (inr other) = elsewhere i e other ∙ below.before i e (omega (arith, less, other)) there
+
+-- what is known in a state is known in one that differs from it on a segment at most, which is judged anew
+pub judged_known : (base : BaseLists) (old new : InForce) (segment truck : ℕ) (known judged : Known) → segment < length base.roads.segments
+    → ((i : ℕ) → i ≢ segment → AgreeOn base.roads i old new) → IsJudged base new segment truck known judged → IsKnown base old truck known → IsKnown base new truck judged
+judged_known base old new segment truck known judged within agree is was = record {
+  study = is.is_of.study;
+  flags = λ e. same (sym is.is_flagged ∙ e) e;
+  settled = is.is_of.settled;
+}
+  where
+    flag : Bool
+    flag = is_passable base new truck segment
+
+    here : (i : ℕ) → known.is_flagged ≡ true → i < length base.roads.segments → (i ≡ segment) ⊎ (i ≡ segment → ⊥) → get_or judged.flags.items i false ≡ is_passable base new truck i
+    here i e there (inl at) =
+        let many = flags_many base old truck known.flags.items (was.flags e) in
+        subst (λ (k : ℕ). get_or judged.flags.items k false ≡ is_passable base new truck k) (sym at)
+        (ap (λ (l : List Bool). get_or l segment false) (is.flags e) ∙ get_or-set_same known.flags.items segment flag false (omega (arith, within, many)))
+    here i e there (inr other) =
+        ap (λ (l : List Bool). get_or l i false) (is.flags e)
+        ∙ (get_or-set_other known.flags.items segment i flag false other
+        ∙ (ap (λ (l : List Bool). get_or l i false) (was.flags e)
+        ∙ (flag_is base old truck i there ∙ passes_alike base old new truck i (agree i other))))
+
+    same : known.is_flagged ≡ true → judged.is_flagged ≡ true → judged.flags.items ≡ flags_of base new truck
+    same e now =
+        let many = is.is_of.many now in
+        let count : length (flags_of base new truck) ≡ length base.roads.segments = length-map-range_with_len (is_passable base new truck) 0 (length base.roads.segments) in
+        ext_get_or false judged.flags.items (flags_of base new truck) (many ∙ sym count) (λ i less.
+        let there : i < length base.roads.segments = omega (arith, less, many) in
+        here i e there (cases_eq i segment) ∙ sym (flag_is base new truck i there))
+
+-- the same of each truck
+pub are_judged_known : (base : BaseLists) (old new : InForce) (change : Change) (segment : ℕ) (a b : Analyst) → segment ≡ touched base.roads change → segment < length base.roads.segments
+    → new ≡ state_after old change → AreKnown base old a → AreJudged base new segment a b → AreKnown base new b
+are_judged_known base old new change segment a b named within next are judged = record {
+  many = judged.many;
+  each = λ truck d less. judged_known base old new segment truck _ _ within agree (judged.each truck d less) (are.each truck d less);
+}
+  where
+    agree : (i : ℕ) → i ≢ segment → AgreeOn base.roads i old new
+    agree i apart =
+        let far : i ≢ touched base.roads change = λ e. apart (e ∙ sym named) in
+        subst (AgreeOn base.roads i old) (sym next) (agree-after base.roads i old change far)
+
+-- what is known of each truck while one segment after another is looked at
+pub record AreKnownBelow (base : BaseLists) (old new : InForce) (n : ℕ) (a : Analyst) : Type 0 where
+  pub many : length a.known.items ≡ length base.fleet
+  pub each : (truck : ℕ) (d : Known) → truck < length base.fleet → IsKnownBelow base old new n truck (get_or a.known.items truck d)
+
+pub are_below_of : (base : BaseLists) (old new : InForce) (n : ℕ) (a : Analyst) → AreKnownBelow base old new n a → AreOfFleet base a
+are_below_of base old new n a are = record { many = are.many; each = λ truck d less. (are.each truck d less).is_of }
+
+pub are_below_none : (base : BaseLists) (old new : InForce) (a : Analyst) → AreKnown base old a → AreKnownBelow base old new 0 a
+are_below_none base old new a are = record { many = are.many; each = λ truck d less. below_none base old new truck _ (are.each truck d less) }
+
+pub are_below_all : (base : BaseLists) (old new : InForce) (n : ℕ) (a : Analyst) → length base.roads.segments ≤ n → AreKnownBelow base old new n a → AreKnown base new a
+are_below_all base old new n a whole are = record { many = are.many; each = λ truck d less. below_all base old new n truck _ whole (are.each truck d less) }
+
+pub are_below_same : (base : BaseLists) (old new : InForce) (n : ℕ) (a : Analyst) → AgreeOn base.roads n old new → AreKnownBelow base old new n a → AreKnownBelow base old new (n + 1) a
+are_below_same base old new n a agree are = record { many = are.many; each = λ truck d less. below_same base old new n truck _ agree (are.each truck d less) }
+
+pub are_below_judged : (base : BaseLists) (old new : InForce) (n : ℕ) (a b : Analyst) → n < length base.roads.segments → AreJudged base new n a b → AreKnownBelow base old new n a → AreKnownBelow base old new (n + 1) b
+are_below_judged base old new n a b within judged are = record {
+  many = judged.many;
+  each = λ truck d less. below_judged base old new n truck _ _ within (judged.each truck d less) (are.each truck d less);
 }
 
 -- there is no limit where there is not some

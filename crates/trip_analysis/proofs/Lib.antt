@@ -7,3 +7,4 @@ pub mod Meanings
 pub mod Searched
 pub mod Flags
 pub mod KnownAt
+pub mod Following

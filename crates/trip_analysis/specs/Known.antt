@@ -1,5 +1,5 @@
 -- What is known of the trucks of a base in a state of its roads.
-use Rattle.std.specs.Prelude.{◌≡◌, ◌<◌, ℕ, Bool, true, List, Option, length, slice_index_or, slice_set}
+use Rattle.std.specs.Prelude.{◌≡◌, ◌<◌, ◌≤◌, ℕ, Bool, true, false, List, Option, length, slice_index_or, slice_set}
 use Rattle.road_graph.specs.Roads.{Roads}
 use Rattle.route_search.specs.Founds.{ArePotentialsOver}
 use Rattle.restriction_log.specs.States.{InForce}
@@ -24,11 +24,34 @@ pub record IsKnown (base : BaseLists) (state : InForce) (truck : ℕ) (known : K
   pub flags : known.is_flagged ≡ true → known.flags.items ≡ flags_of base state truck
   pub settled : AreSettled base.roads known
 
--- the same but for one segment: with its flag judged anew the flags are those of the state
-pub record IsKnownBut (base : BaseLists) (state : InForce) (segment truck : ℕ) (known : Known) : Type 0 where
+-- what is kept of a truck is of it and of the roads, whatever is posted: the study is of its axles, there is a flag for each
+-- segment, if flags are kept, and the potentials are those of the flags
+pub record IsOfTruck (base : BaseLists) (truck : ℕ) (known : Known) : Type 0 where
   pub study : known.study ≡ train_of base truck
-  pub flags : known.is_flagged ≡ true → slice_set known.flags.items segment (is_passable base state truck segment) ≡ flags_of base state truck
+  pub many : known.is_flagged ≡ true → length known.flags.items ≡ length base.roads.segments
   pub settled : AreSettled base.roads known
+
+-- a segment is judged anew for a truck, where flags are kept: its flag is that of the state, and the others stay
+pub record IsJudged (base : BaseLists) (state : InForce) (segment truck : ℕ) (old new : Known) : Type 0 where
+  pub is_of : IsOfTruck base truck new
+  pub is_flagged : new.is_flagged ≡ old.is_flagged
+  pub flags : old.is_flagged ≡ true → new.flags.items ≡ slice_set old.flags.items segment (is_passable base state truck segment)
+
+-- it is so of each truck of the fleet, in order
+pub record AreOfFleet (base : BaseLists) (a : Analyst) : Type 0 where
+  pub many : length a.known.items ≡ length base.fleet
+  pub each : (truck : ℕ) (d : Known) → truck < length base.fleet → IsOfTruck base truck (slice_index_or a.known.items truck d)
+
+-- the segment is judged anew for each truck of the fleet
+pub record AreJudged (base : BaseLists) (state : InForce) (segment : ℕ) (old new : Analyst) : Type 0 where
+  pub many : length new.known.items ≡ length base.fleet
+  pub each : (truck : ℕ) (d : Known) → truck < length base.fleet → IsJudged base state segment truck (slice_index_or old.known.items truck d) (slice_index_or new.known.items truck d)
+
+-- the flags of the segments below a number, if any are kept, are those of the new state, and the others those of the old one
+pub record IsKnownBelow (base : BaseLists) (old new : InForce) (n truck : ℕ) (known : Known) : Type 0 where
+  pub is_of : IsOfTruck base truck known
+  pub before : (i : ℕ) → known.is_flagged ≡ true → i < n → i < length base.roads.segments → slice_index_or known.flags.items i false ≡ is_passable base new truck i
+  pub behind : (i : ℕ) → known.is_flagged ≡ true → n ≤ i → i < length base.roads.segments → slice_index_or known.flags.items i false ≡ is_passable base old truck i
 
 -- it is known of each truck of the fleet, in order
 pub record AreKnown (base : BaseLists) (state : InForce) (a : Analyst) : Type 0 where

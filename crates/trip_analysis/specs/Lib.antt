@@ -9,3 +9,4 @@ pub use Rattle.snapshot_store.specs.Stores
 pub use Rattle.clearance_rules.specs.Loads
 pub use Rattle.clearance_rules.specs.Limits
 pub mod Known
+pub mod Followers

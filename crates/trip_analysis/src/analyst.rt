@@ -1,13 +1,13 @@
 // Who finds what applications ask for, and keeps what is known of each truck.
 
-ghost use Rattle.std.specs.Prelude.{◌≡◌, ◌<◌, length, slice_set, true, IfOk, OnOk};
+ghost use Rattle.std.specs.Prelude.{◌≡◌, ◌<◌, length, slice_set, true, false, IfOk, OnOk};
 ghost use Rattle.road_graph.specs.Roads.{IsRoads};
 ghost use Rattle.restriction_log.specs.Changes.{takes};
-ghost use Rattle.restriction_log.specs.States.{AreOf, InForce, state_after};
+ghost use Rattle.restriction_log.specs.States.{AgreeOn, AreOf, InForce, state_after};
 ghost use Rattle.trip_analysis.specs.Applications.{Sound};
 ghost use Rattle.trip_analysis.specs.Bases.{train_of};
 ghost use Rattle.trip_analysis.specs.Findings.{IsFinding};
-ghost use Rattle.trip_analysis.specs.Known.{AreKnown, AreSettled, AreStudied, IsKnown, IsKnownBut, IsSettled};
+ghost use Rattle.trip_analysis.specs.Known.{AreJudged, AreKnown, AreOfFleet, AreSettled, AreStudied, IsJudged, IsKnown, IsOfTruck, IsSettled};
 
 use crate::analysis::{asked_finding, proposed};
 use crate::application::Application;
@@ -102,9 +102,42 @@ impl Analyst {
     {
         base.lists_are_in_order();
         let segment = touched(base.network(), change);
+        self.judge(base, new, segment, steps);
+    }
+
+    // Goes on from `old`, the state in which the trucks are known, to any other of the roads: each segment at which they
+    // differ is judged anew.
+    pub(crate) fn turn_to<L: Ledger>(
+        &mut self,
+        base: &Base,
+        old: &State,
+        new: &State,
+        steps: &mut Steps<L>,
+    )
+        requires known { AreKnown base.now old.now self.old }
+        requires old { AreOf base.now.roads old.now }
+        requires new { AreOf base.now.roads new.now }
+        ensures { AreKnown base.now new.now self.new }
+    {
+        base.lists_are_in_order();
+        'segments: for segment in 0..base.network().segments() {
+            if differs(base.network(), old, new, segment) {
+                self.judge(base, new, segment, steps);
+            }
+        }
+    }
+
+    // Judges a segment anew for each truck.
+    fn judge<L: Ledger>(&mut self, base: &Base, state: &State, segment: u32, steps: &mut Steps<L>)
+        requires known { AreOfFleet base.now self.old }
+        requires state { AreOf base.now.roads state.now }
+        requires segment { segment < length base.now.roads.segments }
+        requires roads { IsRoads base.now.roads }
+        ensures { AreJudged base.now state.now segment self.old self.new }
+    {
         'trucks: for truck in 0..base.fleet().len() {
             let known = &mut self.known[truck];
-            judge_anew(base, new, truck as u32, segment, known, steps);
+            judge_anew(base, state, truck as u32, segment, known, steps);
         }
     }
 }
@@ -214,11 +247,11 @@ fn judge_anew<L: Ledger>(
     steps: &mut Steps<L>,
 )
     requires truck { truck < length base.now.fleet }
-    requires known { IsKnownBut base.now state.now segment truck known.old }
+    requires known { IsOfTruck base.now truck known.old }
     requires state { AreOf base.now.roads state.now }
     requires segment { segment < length base.now.roads.segments }
     requires roads { IsRoads base.now.roads }
-    ensures { IsKnown base.now state.now truck known.new }
+    ensures { IsJudged base.now state.now segment truck known.old known.new }
 {
     if known.is_flagged {
         let limit = failing_limit_by(base, state, truck, &known.study, segment, steps);
@@ -233,6 +266,7 @@ fn write_flag(network: &Network, segment: u32, passable: bool, known: &mut Known
     requires many { length known.old.flags.items ≡ length network.now.segments }
     requires settled { AreSettled network.now known.old }
     ensures study { known.new.study ≡ known.old.study }
+    ensures flagged { known.new.is_flagged ≡ known.old.is_flagged }
     ensures flags { known.new.flags.items ≡ slice_set known.old.flags.items segment passable }
     ensures settled { AreSettled network.now known.new }
 {
@@ -241,6 +275,24 @@ fn write_flag(network: &Network, segment: u32, passable: bool, known: &mut Known
     if before != passable && known.is_settled {
         known.is_settled = known.potentials.is_slack(network, segment);
     }
+}
+
+// Whether the limits of a segment, or the rating of one of its spans, are others in the new state.
+fn differs(network: &Network, old: &State, new: &State, segment: u32) -> bool
+    requires segment { segment < length network.now.segments }
+    requires old { AreOf network.now old.now }
+    requires new { AreOf network.now new.now }
+    ensures { result ≡ false → AgreeOn network.now segment old.now new.now }
+{
+    if old.segment(segment) != new.segment(segment) {
+        return true;
+    }
+    'spans: for span in network.spans_of(segment) {
+        if old.rating(*span) != new.rating(*span) {
+            return true;
+        }
+    }
+    false
 }
 
 // Keeps the effects on each span, where that was not done yet.

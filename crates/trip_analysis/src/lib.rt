@@ -16,6 +16,7 @@ mod analyst;
 mod application;
 mod base;
 mod finding;
+mod follower;
 mod laws;
 mod leaving;
 mod passing;
@@ -26,6 +27,7 @@ pub use analyst::{Analyst, Known};
 pub use application::Application;
 pub use base::{Base, Truck};
 pub use finding::{Failing, Proposal, What};
+pub use follower::Follower;
 pub use laws::{
     asked_findings_are_of_the_route, findings_hold, free_findings_are_of_walks,
     routes_break_off_where_walks_do,

@@ -1,7 +1,7 @@
 use Rattle.std.proofs.Common.{arith}
 use Rattle.restriction_log.specs.States.{InForce}
 use Rattle.trip_analysis.specs.declared.analyst.Known.{Known}
-use Rattle.std.proofs.Common.{ℕ, ap, length, ◌∙◌, rules}
+use Rattle.std.proofs.Common.{ℕ, ap, length, rules}
 use Rattle.trip_analysis.specs.Known.{IsKnown}
 use Rattle.trip_analysis.proofs.KnownAt.{below_push}
 use Rattle.trip_analysis.proofs.analyst.Analyst.new.Goals as goal
