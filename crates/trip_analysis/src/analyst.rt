@@ -101,8 +101,7 @@ impl Analyst {
         ensures { AreKnown base.now new.now self.new }
     {
         base.lists_are_in_order();
-        let segment = touched(base.network(), change);
-        self.judge(base, new, segment, steps);
+        self.judge(base, new, touched(base.network(), change), steps);
     }
 
     // Goes on from `old`, the state in which the trucks are known, to any other of the roads: each segment at which they

@@ -1,10 +1,13 @@
 ghost use Rattle.std.specs.Prelude.{◌≡◌, ◌<◌, ◌↔◌, length, All, IfOk, IsTrue};
 ghost use Rattle.restriction_log.specs.States.{AreOf};
 ghost use Rattle.trip_analysis.specs.Applications.{AreAskedThere, Sound};
+ghost use Rattle.snapshot_store.specs.Stores.{IsLater};
 ghost use Rattle.trip_analysis.specs.Findings.{AreRising};
+ghost use Rattle.trip_analysis.specs.Followers.{GoesOn, followed};
+ghost use Rattle.trip_analysis.specs.Known.{AreKnown};
 
 use crate::{
-    Analyst, Application, ApplicationRefusal, Base, Failing, Truck, What,
+    Analyst, Application, ApplicationRefusal, Base, Failing, Follower, Truck, What,
     asked_findings_are_of_the_route, failing_limit, find, findings_hold, first_meeting_out,
     first_on, free_findings_are_of_walks, next_leaving, routes_break_off_where_walks_do,
 };
@@ -14,6 +17,7 @@ use office_io::Name;
 use permit_days::Day;
 use restriction_log::{Change, State, takes};
 use road_graph::{Network, Numbers};
+use snapshot_store::Store;
 use std::alloc::Global;
 use std::marker::Brand;
 use std::process::Abort;
@@ -43,25 +47,25 @@ fn numbers(alloc: Global, text: &str) -> Result<Vec<u32>, Fail> {
     Ok(list)
 }
 
-// Nodes 0, 1 and 2, and segments of 1,000 ft, each written and named FROM-TO.
-fn roads(rt: &impl Abort, alloc: Global, segments: &str) -> Network {
+// Nodes 0, 1 and 2, with two ways from node 0 to node 1: segment 0, and segments 1 and 2 by node 2. On segment 0 are two
+// spans of 360 in, which carry twice the HS20-44 truck.
+fn roads(rt: &impl Abort, alloc: Global) -> Network {
     let mut network = Network::new(alloc);
     for name in [b"a", b"b", b"c"] {
         network.add_node(named(rt, name)).expect(rt, "a node");
     }
-    for segment in segments.split_whitespace() {
-        let mut ends = segment.split('-');
-        let from = number(ends.next().unwrap_or(""));
-        let to = number(ends.next().unwrap_or(""));
+    for (name, from, to) in [(b"ab", 0, 1), (b"ac", 0, 2), (b"cb", 2, 1)] {
         network
-            .add_segment(named(rt, segment.as_bytes()), from, to, 1_000)
+            .add_segment(named(rt, name), from, to, 1_000)
             .expect(rt, "a segment");
+    }
+    for name in [b"s", b"t"] {
+        network
+            .add_span(named(rt, name), 0, 360, 2_000)
+            .expect(rt, "a span");
     }
     network
 }
-
-// Two ways from node 0 to node 1: segment 0, and segments 1 and 2 by node 2.
-const TWO_WAYS: &str = "0-1 0-2 2-1";
 
 // A truck of 102 in by 720 in whose axles are within the limits of 23 CFR 658.17: 20,000 lb an axle, 34,000 lb for the
 // tandem of 48 in, and by the formula 45,000 lb for the first two axles and 50,000 lb for all three.
@@ -77,11 +81,11 @@ fn truck(rt: &impl Abort, name: &[u8], height: u32) -> Truck {
 }
 
 // Roads with truck 0, which at 168 in is higher than 162 in and needs a permit, and truck 1, which is legal.
-fn base(rt: &impl Abort, alloc: Global, segments: &str) -> Result<Base, Fail> {
+fn base(rt: &impl Abort, alloc: Global) -> Result<Base, Fail> {
     let mut fleet = Vec::new(alloc);
     fleet.push(truck(rt, b"high", 168))?;
     fleet.push(truck(rt, b"legal", 160))?;
-    Ok(Base::new(roads(rt, alloc, segments), fleet))
+    Ok(Base::new(roads(rt, alloc), fleet))
 }
 
 // Whether the segments of a list are there.
@@ -144,37 +148,64 @@ const ANSWERS: &str = "\
 0,0,1,1 2,2026-03-02,2026-03-03/taken
 ";
 
-#[test]
-fn refuses_an_application_for_its_first_cause(rt: HostRuntime) -> Result<(), Fail> {
-    let base = base(&rt, rt.alloc(), TWO_WAYS)?;
+// Compares what a line says at its end.
+fn check_text(rt: &impl Abort, text: &str, line: &str) {
+    assert_eq!(rt; text, line.rsplit('/').next().unwrap_or(""), "{line}");
+}
+
+// Compares an answer with what a line says at its end.
+fn check_answer(
+    rt: &impl Abort,
+    alloc: Global,
+    answer: Result<Application, ApplicationRefusal>,
+    line: &str,
+) -> Result<(), Fail> {
+    match answer {
+        Ok(_taken) => check_text(rt, "taken", line),
+        Err(refusal) => check_text(rt, format!(in alloc; "{refusal:?}")?.as_str(), line),
+    }
+    Ok(())
+}
+
+// Asks for what each line says.
+fn ask_each(rt: &impl Abort, alloc: Global, base: &Base) -> Result<(), Fail> {
     for line in ANSWERS.lines() {
-        let mut parts = line.split('/');
-        let wanted = (parts.next().unwrap_or(""), parts.next().unwrap_or(""));
-        let answer = match applied(&rt, rt.alloc(), &base, wanted.0)? {
-            Ok(_taken) => format!(in rt.alloc(); "taken")?,
-            Err(refusal) => format!(in rt.alloc(); "{refusal:?}")?,
-        };
-        assert_eq!(rt; answer.as_str(), wanted.1, "{line}");
+        let text = line.split('/').next().unwrap_or("");
+        check_answer(rt, alloc, applied(rt, alloc, base, text)?, line)?;
     }
     Ok(())
 }
 
 #[test]
-fn keeps_what_is_asked_for(rt: HostRuntime) -> Result<(), Fail> {
-    let base = base(&rt, rt.alloc(), TWO_WAYS)?;
+fn refuses_an_application_for_its_first_cause(rt: HostRuntime) -> Result<(), Fail> {
+    let base = base(&rt, rt.alloc())?;
+    ask_each(&rt, rt.alloc(), &base)
+}
+
+// Whether these are the fields of the application of the test below.
+fn check_fields(rt: &impl Abort, a: &Application) {
+    assert_eq!(rt; (a.truck(), a.from(), a.to()), (1, 0, 1));
+    assert!(rt;
+        a.asked()
+            .is_some_and(|route| route.as_slice() == [1, 2].as_slice())
+    );
+    assert!(rt; a.first() == day(rt, "2026-03-02"));
+    assert!(rt; a.last() == day(rt, "2026-03-05"));
+}
+
+// An application and a copy of it.
+fn copy_fields(rt: &impl Abort, alloc: Global, base: &Base) -> Result<(), Fail> {
     let text = "1,0,1,1 2,2026-03-02,2026-03-05";
-    let taken = applied(&rt, rt.alloc(), &base, text)?.expect(&rt, "an application");
-    let copy = taken.try_clone(rt.alloc())?;
-    for a in [&taken, &copy] {
-        assert_eq!(rt; (a.truck(), a.from(), a.to()), (1, 0, 1));
-        assert!(rt;
-            a.asked()
-                .is_some_and(|route| route.as_slice() == [1, 2].as_slice())
-        );
-        assert!(rt; a.first() == day(&rt, "2026-03-02"));
-        assert!(rt; a.last() == day(&rt, "2026-03-05"));
-    }
+    let taken = applied(rt, alloc, base, text)?.expect(rt, "an application");
+    check_fields(rt, &taken);
+    check_fields(rt, &taken.try_clone(alloc)?);
     Ok(())
+}
+
+#[test]
+fn keeps_what_is_asked_for(rt: HostRuntime) -> Result<(), Fail> {
+    let base = base(&rt, rt.alloc())?;
+    copy_fields(&rt, rt.alloc(), &base)
 }
 
 // The state of the roads where the segments of a text are posted at 167 in, an inch less than truck 0 is high.
@@ -220,116 +251,223 @@ const FINDINGS: &str = "\
 1,0,1,0,2026-03-02,2026-03-02/0/not needed
 ";
 
-// What is found for the application of a text where these segments are low.
-fn found(
-    rt: &impl Abort,
-    alloc: Global,
-    base: &Base,
-    text: &str,
-    low: &str,
-) -> Result<String, Fail> {
+// Compares what is found with what a line says at its end.
+fn check_found(rt: &impl Abort, alloc: Global, what: &What, line: &str) -> Result<(), Fail> {
+    let text = told(alloc, what)?;
+    check_text(rt, text.as_str(), line);
+    Ok(())
+}
+
+// Looks for what a line says.
+fn find_line(rt: &impl Abort, alloc: Global, base: &Base, line: &str) -> Result<(), Fail> {
+    let mut parts = line.split('/');
+    let text = parts.next().unwrap_or("");
+    let low = parts.next().unwrap_or("");
     let application = applied(rt, alloc, base, text)?.expect(rt, "an application");
     let state = lowered(rt, alloc, base.network(), low)?;
     let what = find(alloc, base, &state, &application)?;
-    told(alloc, &what)
+    check_found(rt, alloc, &what, line)
 }
 
-#[test]
-fn finds_a_route_or_why_there_is_none(rt: HostRuntime) -> Result<(), Fail> {
-    let base = base(&rt, rt.alloc(), TWO_WAYS)?;
+fn find_each(rt: &impl Abort, alloc: Global, base: &Base) -> Result<(), Fail> {
     for line in FINDINGS.lines() {
-        let mut parts = line.split('/');
-        let text = parts.next().unwrap_or("");
-        let low = parts.next().unwrap_or("");
-        let wanted = parts.next().unwrap_or("");
-        let answer = found(&rt, rt.alloc(), &base, text, low)?;
-        assert_eq!(rt; answer.as_str(), wanted, "{line}");
+        find_line(rt, alloc, base, line)?;
     }
     Ok(())
 }
 
-// Roads, an application, what is posted on segments one after another, and what is found before and after each posting.
-const TURNS: &str = "\
-0-1 0-2 2-1/0,0,1,-,2026-03-02,2026-03-02/closed,0,1/route [0]; route [1, 2]
-0-1/0,0,1,-,2026-03-02,2026-03-02/height,0,160 height,0,168/route [0]; cut [0]; route [0]
-0-2/0,0,1,-,2026-03-02,2026-03-02/closed,0,1/cut [0, 2]; cut [0, 2]
-0-2/0,0,2,-,2026-03-02,2026-03-02/closed,0,1/route [0]; cut [0]
-0-2/0,0,2,0,2026-03-02,2026-03-02/closed,0,1/route [0]; fails 0
-0-1/1,0,1,-,2026-03-02,2026-03-02/closed,0,1/not needed; not needed
-0-1 0-2 2-1/0,0,1,-,2026-03-02,2026-03-02/closed,1,1 closed,0,1 closed,1,0 closed,0,0/route [0]; route [0]; cut [0]; route [1, 2]; route [0]
+#[test]
+fn finds_a_route_or_why_there_is_none(rt: HostRuntime) -> Result<(), Fail> {
+    let base = base(&rt, rt.alloc())?;
+    find_each(&rt, rt.alloc(), &base)
+}
+
+// What is posted, what is asked for then, the version, and what is found, one after another. At twice the HS20-44 truck the
+// spans of segment 0 carry truck 0, which weighs less than that truck, and at 0 nothing.
+const HISTORY: &str = "\
+/0,0,1,-,2026-03-02,2026-03-02/0/route [0]
+/0,0,2,-,2026-03-02,2026-03-02/0/route [1]
+closed,0,1/0,0,1,-,2026-03-02,2026-03-02/1/route [1, 2]
+/0,0,1,0,2026-03-02,2026-03-02/1/fails 0
+closed,0,0 rating,1,0/0,0,1,-,2026-03-02,2026-03-02/3/route [1, 2]
+rating,1,2000/0,0,1,-,2026-03-02,2026-03-02/4/route [0]
+rating,0,0 height,2,160/0,0,1,-,2026-03-02,2026-03-02/6/cut [0, 2]
+/1,0,1,0,2026-03-02,2026-03-02/6/not needed
+height,2,168/0,0,1,1 2,2026-03-02,2026-03-02/7/route [1, 2]
+rating,0,2000/0,1,0,-,2026-03-02,2026-03-02/8/cut [1]
+height,0,160 height,0,168/0,0,1,-,2026-03-02,2026-03-02/10/route [0]
+closed,1,1/0,0,1,-,2026-03-02,2026-03-02/11/route [0]
+closed,0,1/0,0,1,-,2026-03-02,2026-03-02/12/cut [0]
+closed,1,0/0,0,1,-,2026-03-02,2026-03-02/13/route [1, 2]
+closed,0,0/0,0,1,-,2026-03-02,2026-03-02/14/route [0]
 ";
 
-// What a text posts: KIND,SEGMENT,VALUE.
+// What a text posts: KIND,NUMBER,VALUE.
 fn posted(text: &str) -> Change {
     let mut parts = text.split(',');
     let kind = parts.next().unwrap_or("");
-    let segment = number(parts.next().unwrap_or(""));
+    let named = number(parts.next().unwrap_or(""));
     let value = number(parts.next().unwrap_or(""));
-    if kind == "closed" {
-        return Change::Closed {
-            segment,
+    match kind {
+        "closed" => Change::Closed {
+            segment: named,
             closed: value == 1,
-        };
-    }
-    Change::Height {
-        segment,
-        inches: value,
+        },
+        "height" => Change::Height {
+            segment: named,
+            inches: value,
+        },
+        _ => Change::Rating {
+            span: named,
+            permille: value,
+        },
     }
 }
 
-// What an analyst finds before and after each of the postings of a text. It is what is found anew.
+// A state, and an analyst who goes on from posting to posting.
+#[derive(Drop)]
+struct Turned {
+    state: State,
+    analyst: Analyst,
+}
+
+// Goes on by each of the changes of a text.
 #[tactic(auto, using(restriction_log::proofs::Standing::stays_of, restriction_log::proofs::Standing::named_of))]
-fn found_in_turn<L: Ledger>(
+fn turn_each<L: Ledger>(
     rt: &impl Abort,
     alloc: Global,
     base: &Base,
-    application: &Application,
-    postings: &str,
+    turned: &mut Turned,
+    text: &str,
     steps: &mut Steps<L>,
-) -> Result<String, Fail>
-    requires { Sound base.now application.now }
+) -> Result<(), Fail>
+    requires state { AreOf base.now.roads turned.old.state }
+    requires known { AreKnown base.now turned.old.state turned.old.analyst }
+    ensures state { IfOk result (λ _. AreOf base.now.roads turned.new.state) }
+    ensures known { IfOk result (λ _. AreKnown base.now turned.new.state turned.new.analyst) }
 {
-    base.network().lists_are_in_order();
-    let mut state = State::base(alloc, base.network())?;
-    let mut analyst = Analyst::new(alloc, base)?;
-    let mut all = told(alloc, &analyst.find(alloc, base, &state, application)?)?;
-    'postings: for text in postings.split_whitespace() {
+    'postings: for text in text.split_whitespace() {
         let change = posted(text);
         assert!(rt; takes(base.network(), &change));
-        let next = state.with(alloc, &change)?;
-        analyst.turn(base, &state, &next, &change, steps);
-        state = next;
-        let kept = told(alloc, &analyst.find(alloc, base, &state, application)?)?;
-        let anew = told(alloc, &find(alloc, base, &state, application)?)?;
-        assert_eq!(rt; kept.as_str(), anew.as_str());
-        all.push_str("; ")?;
-        all.push_str(kept.as_str())?;
+        let next = turned.state.with(alloc, &change)?;
+        let state = &turned.state;
+        turned.analyst.turn(base, state, &next, &change, steps);
+        turned.state = next;
     }
-    Ok(all)
+    Ok(())
 }
 
-// The same for each line, with one counter.
-fn found_in_each<L: Ledger>(rt: &impl Abort, alloc: Global, blank: Blank) -> Result<(), Fail>
+// Goes on by what a line says, and compares what is found then.
+fn turn_line<L: Ledger>(
+    rt: &impl Abort,
+    alloc: Global,
+    base: &Base,
+    turned: &mut Turned,
+    line: &str,
+    steps: &mut Steps<L>,
+) -> Result<(), Fail>
+    requires state { AreOf base.now.roads turned.old.state }
+    requires known { AreKnown base.now turned.old.state turned.old.analyst }
+    ensures state { IfOk result (λ _. AreOf base.now.roads turned.new.state) }
+    ensures known { IfOk result (λ _. AreKnown base.now turned.new.state turned.new.analyst) }
+{
+    let mut parts = line.split('/');
+    turn_each(rt, alloc, base, turned, parts.next().unwrap_or(""), steps)?;
+    let text = parts.next().unwrap_or("");
+    let application = applied(rt, alloc, base, text)?.expect(rt, "an application");
+    let state = &turned.state;
+    let what = turned.analyst.find(alloc, base, state, &application)?;
+    check_found(rt, alloc, &what, line)
+}
+
+// An analyst who knows nothing yet.
+fn unturned(alloc: Global, base: &Base) -> Result<Turned, Fail>
+    ensures state { IfOk result (λ turned. AreOf base.now.roads turned.state) }
+    ensures known { IfOk result (λ turned. AreKnown base.now turned.state turned.analyst) }
+{
+    base.network().lists_are_in_order();
+    Ok(Turned {
+        state: State::base(alloc, base.network())?,
+        analyst: Analyst::new(alloc, base)?,
+    })
+}
+
+// Goes on by each line, with one counter.
+fn turn_lines<L: Ledger>(
+    rt: &impl Abort,
+    alloc: Global,
+    base: &Base,
+    blank: Blank,
+) -> Result<(), Fail>
     requires name { blank.name ≡ L.name }
     requires parts { blank.parts ≡ L.parts }
     requires some { 0 < blank.parts }
 {
     let mut steps = Steps::<L>::new(blank);
-    for line in TURNS.lines() {
-        let mut parts = line.split('/');
-        let base = base(rt, alloc, parts.next().unwrap_or(""))?;
-        let text = parts.next().unwrap_or("");
-        let application = applied(rt, alloc, &base, text)?.expect(rt, "an application");
-        let postings = parts.next().unwrap_or("");
-        let all = found_in_turn(rt, alloc, &base, &application, postings, &mut steps)?;
-        assert_eq!(rt; all.as_str(), parts.next().unwrap_or(""), "{line}");
+    let mut turned = unturned(alloc, base)?;
+    'lines: for line in HISTORY.lines() {
+        turn_line(rt, alloc, base, &mut turned, line, &mut steps)?;
     }
     Ok(())
 }
 
 #[test]
 fn goes_on_from_posting_to_posting(rt: HostRuntime) -> Result<(), Fail> {
-    found_in_each::<Brand>(&rt, rt.alloc(), Blank::new(1))
+    let base = base(&rt, rt.alloc())?;
+    turn_lines::<Brand>(&rt, rt.alloc(), &base, Blank::new(1))
+}
+
+// Posts each of the changes of a text.
+#[tactic(auto, using(snapshot_store::proofs::Later::later_same, snapshot_store::proofs::Later::later_posted, snapshot_store::proofs::Later::later_on))]
+fn post_each(rt: &impl Abort, network: &Network, store: &mut Store, text: &str)
+    requires { network.now ≡ store.old.roads }
+    ensures { IsLater store.old store.new }
+{
+    'postings: for change in text.split_whitespace() {
+        store.post(network, posted(change)).expect(rt, "a posting");
+    }
+}
+
+// Posts what a line says, and compares what a follower finds then, and at which version.
+#[tactic(auto, using(crate::proofs::Following::goes_on_later))]
+fn follow_line(
+    rt: &impl Abort,
+    alloc: Global,
+    base: &Base,
+    store: &mut Store,
+    follower: &mut Follower,
+    line: &str,
+) -> Result<(), Fail>
+    requires base { follower.old.base ≡ base.now }
+    requires roads { store.old.roads ≡ base.now.roads }
+    requires later { GoesOn follower.old.last store.old }
+    ensures followed { IfOk result (λ _. follower.new ≡ followed base.now store.new) }
+    ensures roads { store.new.roads ≡ base.now.roads }
+{
+    let mut parts = line.split('/');
+    post_each(rt, base.network(), store, parts.next().unwrap_or(""));
+    let text = parts.next().unwrap_or("");
+    let application = applied(rt, alloc, base, text)?.expect(rt, "an application");
+    let proposal = follower.analyse(alloc, base, store.snapshot()?, &application)?;
+    assert_eq!(rt; proposal.seen, number(parts.next().unwrap_or("")), "{line}");
+    check_found(rt, alloc, &proposal.what, line)
+}
+
+// Follows a store over all lines.
+#[tactic(auto, using(crate::proofs::Following::goes_on_here))]
+fn follow_lines(rt: &impl Abort, alloc: Global, base: &Base) -> Result<(), Fail> {
+    let mut store = Store::start(alloc, base.network())?;
+    let mut follower = Follower::new(alloc, base)?;
+    'lines: for line in HISTORY.lines() {
+        follow_line(rt, alloc, base, &mut store, &mut follower, line)?;
+    }
+    Ok(())
+}
+
+#[test]
+fn follows_a_store_from_version_to_version(rt: HostRuntime) -> Result<(), Fail> {
+    let base = base(&rt, rt.alloc())?;
+    follow_lines(&rt, rt.alloc(), &base)
 }
 
 // Whether the limit is that of segment 1, which at 167 in is too low for truck 0.
@@ -400,7 +538,7 @@ fn tell_both<L: Ledger>(rt: &impl Abort, base: &Base, state: &State, blank: Blan
 
 #[test]
 fn tells_segments_that_fail_and_segments_that_leave(rt: HostRuntime) -> Result<(), Fail> {
-    let base = base(&rt, rt.alloc(), TWO_WAYS)?;
+    let base = base(&rt, rt.alloc())?;
     let state = lowered(&rt, rt.alloc(), base.network(), "0 1")?;
     tell_both::<Brand>(&rt, &base, &state, Blank::new(1));
     findings_hold();
