@@ -3,3 +3,4 @@ pub mod Attempting
 pub mod Alone
 pub mod Lengths
 pub mod Runs
+pub mod Interrupting

@@ -4,3 +4,4 @@ pub mod Attempts
 pub mod Laws
 pub use Rattle.office_core.specs.Calls
 pub use Rattle.office_core.specs.Machine
+pub mod Interrupted

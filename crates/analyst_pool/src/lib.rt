@@ -16,3 +16,6 @@ mod laws;
 pub use deciding::{Docket, carry_out, decide};
 pub use gate::{Gate, OpenGate};
 pub use laws::{runs_are_one, unfoldings_are_short};
+
+#[cfg(test)]
+mod tests;
