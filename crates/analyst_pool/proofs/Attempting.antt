@@ -2,7 +2,7 @@
 use Rattle.std.proofs.Common.{◌≡◌, ◌≤◌, ◌∷◌, ◌++◌, [], List, ℕ, suc, true, false, Option, Some, None, MatchOption, ap, sym, subst, refl, ◌∙◌, append_assoc, arith}
 use Rattle.std.proofs.lemmas.List.{append-nil}
 use Rattle.road_graph.specs.Roads.{IsRoads}
-use Rattle.snapshot_store.specs.Stores.{Stored, state_now, version_of}
+use Rattle.snapshot_store.specs.Stores.{Stored, version_of}
 use Rattle.trip_analysis.specs.declared.application.Application.{Application}
 use Rattle.trip_analysis.specs.Applications.{Sound}
 use Rattle.trip_analysis.specs.Bases.{BaseLists}
@@ -19,7 +19,7 @@ use Rattle.office_core.specs.Calls.{Answered, Calling, Looks, Who, machine_seen,
 use Rattle.office_core.specs.Machine.{IsFound}
 use Rattle.office_core.specs.Offices.{entry}
 use Rattle.office_core.specs.Replies.{is_full, is_outdated}
-use Rattle.office_core.proofs.Founds.{found_now}
+use Rattle.office_core.proofs.Founds.{found_for}
 use Rattle.office_core.proofs.Callings.{full_is, held_in_date}
 use Rattle.analyst_pool.specs.declared.deciding.Draft.{Draft}
 use Rattle.analyst_pool.specs.Attempts.{Concluded, DecidedAfter, IsAgain, IsDrafted, IsSubmitted, IsUnlessOutdated}
@@ -42,11 +42,8 @@ module _ {P : Type 0} where
   -- what was found at a snapshot may be submitted
   may_submit : (v w : Calling P) (a : Application) (d : Draft) (s : Stored) → w.who ≡ v.who → s ≡ stored_seen w → Sound v.who.base a → d.proposal.seen ≡ version_of s → IsFoundAt v.who.base s a d.proposal.what
       → IsFound w.who.base (machine_seen w) a d.proposal
-  may_submit v w a d s same is sound seen found =
-      let base = base_of v w same in
-      found_now w.who.base (machine_seen w) a d.proposal.seen (state_now (stored_seen w)) d.proposal.what (seen ∙ ap version_of is) refl
-      (subst (λ (b : BaseLists). Sound b a) (sym base) sound)
-      (subst (λ (t : Stored). IsFoundAt w.who.base t a d.proposal.what) is (subst (λ (b : BaseLists). IsFoundAt b s a d.proposal.what) (sym base) found))
+  may_submit v w a d s same is sound seen found = found_for w.who.base (machine_seen w) s a d.proposal is
+      (subst (λ (t : Who P). Sound t.base a) (sym same) sound) seen (subst (λ (t : Who P). IsFoundAt t.base s a d.proposal.what) (sym same) found)
 
   pub drafted : (v w : Calling P) (a : Application) (d : Draft) (s : Stored) (base : BaseLists) → base ≡ v.who.base → Sound base a → Looks v (looked.At s) w → d.application ≡ a → d.proposal.seen ≡ version_of s → IsFoundAt base s a d.proposal.what → IsDrafted v a d w
   drafted v w a d s base is sound looks copy seen found = record {
