@@ -1,6 +1,7 @@
-ghost use Rattle.std.specs.Prelude.{◌≡◌, ◌<◌, ◌≤◌, IfSome, OnOk};
+ghost use Rattle.std.specs.Prelude.{◌≡◌, ◌<◌, ◌≤◌, ◌++◌, List, IfSome, OnOk};
 ghost use Rattle.trip_analysis.specs.Applications.{Sound};
 ghost use Rattle.office_core.specs.declared.entry.Call.{Call};
+ghost use Rattle.office_core.specs.declared.entry.Entry.{Entry};
 ghost use Rattle.office_core.specs.declared.entry.Call.TheVariants as calls;
 ghost use Rattle.office_core.specs.Machine.{MayAsk};
 ghost use Rattle.office_core.specs.Offices.{machine_in};
@@ -183,7 +184,8 @@ fn step<L: Ledger>(office: &mut Office, caller: u32, call: Call, blank: Blank) -
 fn sit(office: &mut Office, caller: u32, call: Call) -> Reply
     requires caller { caller < 65536 }
     requires asked { MayAsk office.old.base (machine_in office.old) call }
-    ensures { (c : Call) → MayAsk office.old.base (machine_in office.old) c
+    ensures grown { (more : List Entry) × (office.new.history ≡ office.old.history ++ more) }
+    ensures asked { (c : Call) → MayAsk office.old.base (machine_in office.old) c
         → MayAsk office.new.base (machine_in office.new) c }
 {
     let mut seat = OneSeat::new(office, caller);
@@ -194,6 +196,7 @@ fn sit(office: &mut Office, caller: u32, call: Call) -> Reply
 fn ask<C: OfficeCalls>(calls: &mut C, call: Call) -> Reply
     requires { MayAsk (C.view calls.old).who.base (machine_seen (C.view calls.old)) call }
     ensures who { (C.view calls.new).who ≡ (C.view calls.old).who }
+    ensures seen { (more : List Entry) × ((C.view calls.new).seen ≡ (C.view calls.old).seen ++ more) }
     ensures asked { (c : Call) → MayAsk (C.view calls.old).who.base (machine_seen (C.view calls.old)) c
         → MayAsk (C.view calls.new).who.base (machine_seen (C.view calls.new)) c }
 {
@@ -214,6 +217,7 @@ fn ask<C: OfficeCalls>(calls: &mut C, call: Call) -> Reply
 // Looks by whatever calls.
 fn look<C: OfficeCalls>(calls: &mut C) -> Reply
     ensures who { (C.view calls.new).who ≡ (C.view calls.old).who }
+    ensures seen { (more : List Entry) × ((C.view calls.new).seen ≡ (C.view calls.old).seen ++ more) }
     ensures asked { (c : Call) → MayAsk (C.view calls.old).who.base (machine_seen (C.view calls.old)) c
         → MayAsk (C.view calls.new).who.base (machine_seen (C.view calls.new)) c }
 {
