@@ -9,10 +9,10 @@ pub attempt-requires-clause-base : goal.attempt-requires-clause-base
 attempt-requires-clause-base g c = base_stays _ _ _ _ _ c.loop-tries.invariant c.requires.base
 
 pub returns-in-Some-clause-decided : goal.returns-in-Some-clause-decided
-returns-in-Some-clause-decided g c = decided_within _ _ _ _ _ _ c.loop-tries.auto.tries-end c.loop-tries.invariant c.in-Some.ensures
+returns-in-Some-clause-decided g c = decided_within _ _ _ _ _ _ (omega (arith, c.loop-tries-test.true)) c.loop-tries.invariant c.in-Some.ensures
 
 pub returns-in-Some-clause-settled : goal.returns-in-Some-clause-settled
-returns-in-Some-clause-settled g c = carried_settled _ _ _ _ (decided_within _ _ _ _ _ _ c.loop-tries.auto.tries-end c.loop-tries.invariant c.in-Some.ensures)
+returns-in-Some-clause-settled g c = carried_settled _ _ _ _ (decided_within _ _ _ _ _ _ (omega (arith, c.loop-tries-test.true)) c.loop-tries.invariant c.in-Some.ensures)
 
 pub loop-tries-preserved : goal.loop-tries-preserved
 loop-tries-preserved g c = one_more _ _ _ _ _ _ (omega arith) c.loop-tries.invariant c.in-None.ensures
