@@ -392,8 +392,25 @@ fn unturned(alloc: Global, base: &Base) -> Result<Turned, Fail>
     })
 }
 
-// Goes on by each line, with one counter.
+// Goes on by each line.
 fn turn_lines<L: Ledger>(
+    rt: &impl Abort,
+    alloc: Global,
+    base: &Base,
+    turned: &mut Turned,
+    steps: &mut Steps<L>,
+) -> Result<(), Fail>
+    requires state { AreOf base.now.roads turned.old.state }
+    requires known { AreKnown base.now turned.old.state turned.old.analyst }
+{
+    'lines: for line in HISTORY.lines() {
+        turn_line(rt, alloc, base, turned, line, steps)?;
+    }
+    Ok(())
+}
+
+// The same with one counter.
+fn turn_counted<L: Ledger>(
     rt: &impl Abort,
     alloc: Global,
     base: &Base,
@@ -403,18 +420,14 @@ fn turn_lines<L: Ledger>(
     requires parts { blank.parts ≡ L.parts }
     requires some { 0 < blank.parts }
 {
-    let mut steps = Steps::<L>::new(blank);
     let mut turned = unturned(alloc, base)?;
-    'lines: for line in HISTORY.lines() {
-        turn_line(rt, alloc, base, &mut turned, line, &mut steps)?;
-    }
-    Ok(())
+    turn_lines(rt, alloc, base, &mut turned, &mut Steps::<L>::new(blank))
 }
 
 #[test]
 fn goes_on_from_posting_to_posting(rt: HostRuntime) -> Result<(), Fail> {
     let base = base(&rt, rt.alloc())?;
-    turn_lines::<Brand>(&rt, rt.alloc(), &base, Blank::new(1))
+    turn_counted::<Brand>(&rt, rt.alloc(), &base, Blank::new(1))
 }
 
 // Posts each of the changes of a text.
@@ -455,19 +468,34 @@ fn follow_line(
 
 // Follows a store over all lines.
 #[tactic(auto, using(crate::proofs::Following::goes_on_here))]
-fn follow_lines(rt: &impl Abort, alloc: Global, base: &Base) -> Result<(), Fail> {
-    let mut store = Store::start(alloc, base.network())?;
-    let mut follower = Follower::new(alloc, base)?;
+fn follow_lines(
+    rt: &impl Abort,
+    alloc: Global,
+    base: &Base,
+    store: &mut Store,
+    follower: &mut Follower,
+) -> Result<(), Fail>
+    requires base { follower.old.base ≡ base.now }
+    requires roads { store.old.roads ≡ base.now.roads }
+    requires later { GoesOn follower.old.last store.old }
+{
     'lines: for line in HISTORY.lines() {
-        follow_line(rt, alloc, base, &mut store, &mut follower, line)?;
+        follow_line(rt, alloc, base, store, follower, line)?;
     }
     Ok(())
+}
+
+// The same from the first version on.
+fn follow_store(rt: &impl Abort, alloc: Global, base: &Base) -> Result<(), Fail> {
+    let mut store = Store::start(alloc, base.network())?;
+    let mut follower = Follower::new(alloc, base)?;
+    follow_lines(rt, alloc, base, &mut store, &mut follower)
 }
 
 #[test]
 fn follows_a_store_from_version_to_version(rt: HostRuntime) -> Result<(), Fail> {
     let base = base(&rt, rt.alloc())?;
-    follow_lines(&rt, rt.alloc(), &base)
+    follow_store(&rt, rt.alloc(), &base)
 }
 
 // Whether the limit is that of segment 1, which at 167 in is too low for truck 0.
