@@ -564,14 +564,23 @@ fn tell_both<L: Ledger>(rt: &impl Abort, base: &Base, state: &State, blank: Blan
     tell_leaving(rt, base, state, &mut steps);
 }
 
+// The same where segments 0 and 1 are too low for truck 0.
+fn tell_lowered(rt: &impl Abort, alloc: Global, base: &Base) -> Result<(), Fail> {
+    let state = lowered(rt, alloc, base.network(), "0 1")?;
+    tell_both::<Brand>(rt, base, &state, Blank::new(1));
+    Ok(())
+}
+
 #[test]
 fn tells_segments_that_fail_and_segments_that_leave(rt: HostRuntime) -> Result<(), Fail> {
     let base = base(&rt, rt.alloc())?;
-    let state = lowered(&rt, rt.alloc(), base.network(), "0 1")?;
-    tell_both::<Brand>(&rt, &base, &state, Blank::new(1));
+    tell_lowered(&rt, rt.alloc(), &base)
+}
+
+#[test]
+fn tells_its_laws() {
     findings_hold();
     free_findings_are_of_walks();
     asked_findings_are_of_the_route();
     routes_break_off_where_walks_do();
-    Ok(())
 }
