@@ -4,3 +4,4 @@ pub mod Alone
 pub mod Lengths
 pub mod Runs
 pub mod Interrupting
+pub mod Followings

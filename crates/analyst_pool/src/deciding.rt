@@ -1,6 +1,6 @@
 // Commands that are carried out by the calls of an office.
 
-ghost use Rattle.std.specs.Prelude.{◌≡◌, false, IfErr, IfOk, MatchOption};
+ghost use Rattle.std.specs.Prelude.{◌≡◌, false, IfErr, IfOk, IfSome, MatchOption};
 ghost use Rattle.snapshot_store.specs.Stores.{version_of};
 ghost use Rattle.trip_analysis.specs.Applications.{Sound};
 ghost use Rattle.trip_analysis.specs.Findings.{IsFoundAt};
@@ -8,6 +8,7 @@ ghost use Rattle.office_core.specs.declared.entry.Command.TheVariants as asked;
 ghost use Rattle.office_core.specs.Replies.{is_outdated};
 ghost use Rattle.analyst_pool.specs.Attempts.{Concluded, DecidedAfter, IsAgain};
 ghost use Rattle.analyst_pool.specs.Attempts.{IsDrafted, IsSubmitted, IsUnlessOutdated, MaySubmit};
+ghost use Rattle.analyst_pool.specs.Following.{FollowsAt, MayFollow};
 ghost use Rattle.analyst_pool.specs.Leaves.{CarriedOut, MayCarryOut};
 
 use crate::gate::Gate;
@@ -15,7 +16,7 @@ use office_core::{Command, Looked, OfficeCalls, Reply};
 use office_io::NoMemory;
 use snapshot_store::Snapshot;
 use std::alloc::Global;
-use trip_analysis::{Application, Base, Proposal, analyse};
+use trip_analysis::{Application, Base, Follower, Proposal};
 
 /// A command of an actor on its way: what the office is about, who is told how far it is, the number of the
 /// actor, and that of the command among the actor's own, both from 0.
@@ -36,20 +37,26 @@ struct Draft {
 
 /// Carries out a command by these calls. The gate is told before it and once it has its reply.
 ///
+/// The analyst finds what applications need, and keeps what is known of the trucks from one snapshot to the next; there is
+/// none before a caller's first application.
+///
 /// The reply is that of its last call. It is `Full` only where the calls are then full with that number, and
 /// `NoMemory` also where, after a snapshot, no memory was left to find what an application needs.
 pub fn carry_out<C: OfficeCalls, G: Gate>(
     alloc: Global,
     calls: &mut C,
+    analyst: &mut Option<Follower>,
     command: &Command,
     docket: &Docket<G>,
 ) -> Reply
     requires base { docket.now.base.now ≡ (C.view calls.old).who.base }
     requires sound { MayCarryOut docket.now.base.now command.now }
-    ensures { CarriedOut (C.view calls.old) command.now result (C.view calls.new) }
+    requires follows { MayFollow analyst.old (C.view calls.old) }
+    ensures carried { CarriedOut (C.view calls.old) command.now result (C.view calls.new) }
+    ensures follows { MayFollow analyst.new (C.view calls.new) }
 {
     docket.gate.before(docket.actor, docket.command);
-    let reply = ask(alloc, calls, command, docket);
+    let reply = ask(alloc, calls, analyst, command, docket);
     docket.gate.answered(docket.actor, docket.command);
     reply
 }
@@ -80,22 +87,26 @@ pub fn decide<C: OfficeCalls, G: Gate>(
         actor,
         command,
     };
-    decide_by(alloc, calls, &application, &docket)
+    let mut analyst = None;
+    decide_by(alloc, calls, &mut analyst, &application, &docket)
 }
 
 // Asks a command, in one call or, for an application, as many as it takes.
 fn ask<C: OfficeCalls, G: Gate>(
     alloc: Global,
     calls: &mut C,
+    analyst: &mut Option<Follower>,
     command: &Command,
     docket: &Docket<G>,
 ) -> Reply
     requires base { docket.now.base.now ≡ (C.view calls.old).who.base }
     requires sound { MayCarryOut docket.now.base.now command.now }
-    ensures { CarriedOut (C.view calls.old) command.now result (C.view calls.new) }
+    requires follows { MayFollow analyst.old (C.view calls.old) }
+    ensures carried { CarriedOut (C.view calls.old) command.now result (C.view calls.new) }
+    ensures follows { MayFollow analyst.new (C.view calls.new) }
 {
     match command {
-        Command::Apply(application) => decide_by(alloc, calls, application, docket),
+        Command::Apply(application) => decide_by(alloc, calls, analyst, application, docket),
         Command::Post(change) => calls.post(*change),
         Command::Day(day) => calls.day(*day),
         Command::Surrender(number) => calls.surrender(*number),
@@ -107,38 +118,44 @@ fn ask<C: OfficeCalls, G: Gate>(
 fn decide_by<C: OfficeCalls, G: Gate>(
     alloc: Global,
     calls: &mut C,
+    analyst: &mut Option<Follower>,
     application: &Application,
     docket: &Docket<G>,
 ) -> Reply
     requires base { docket.now.base.now ≡ (C.view calls.old).who.base }
     requires sound { Sound docket.now.base.now application.now }
+    requires follows { MayFollow analyst.old (C.view calls.old) }
     ensures decided { CarriedOut (C.view calls.old) (asked.Apply application.now) result (C.view calls.new) }
     ensures settled { is_outdated result ≡ false }
+    ensures follows { MayFollow analyst.new (C.view calls.new) }
 {
     for tries in 0..7 {
-        match attempt(alloc, calls, application, docket, tries + 1) {
+        match attempt(alloc, calls, analyst, application, docket, tries + 1) {
             Some(reply) => return reply,
             None => (),
         }
     }
-    last_attempt(alloc, calls, application, docket)
+    last_attempt(alloc, calls, analyst, application, docket)
 }
 
 // One attempt, which has this number: nothing where it is out of date.
 fn attempt<C: OfficeCalls, G: Gate>(
     alloc: Global,
     calls: &mut C,
+    analyst: &mut Option<Follower>,
     application: &Application,
     docket: &Docket<G>,
     number: u32,
 ) -> Option<Reply>
     requires base { docket.now.base.now ≡ (C.view calls.old).who.base }
     requires sound { Sound docket.now.base.now application.now }
-    ensures { MatchOption result
+    requires follows { MayFollow analyst.old (C.view calls.old) }
+    ensures attempted { MatchOption result
         (IsAgain (C.view calls.old) application.now (C.view calls.new))
         (λ r. Concluded (C.view calls.old) application.now r (C.view calls.new)) }
+    ensures follows { MayFollow analyst.new (C.view calls.new) }
 {
-    match prepare(alloc, calls, docket.base, application) {
+    match prepare(alloc, calls, analyst, docket.base, application) {
         Ok(draft) => submit(calls, draft, docket, number),
         Err(reply) => Some(reply),
     }
@@ -149,14 +166,17 @@ fn attempt<C: OfficeCalls, G: Gate>(
 fn last_attempt<C: OfficeCalls, G: Gate>(
     alloc: Global,
     calls: &mut C,
+    analyst: &mut Option<Follower>,
     application: &Application,
     docket: &Docket<G>,
 ) -> Reply
     requires base { docket.now.base.now ≡ (C.view calls.old).who.base }
     requires sound { Sound docket.now.base.now application.now }
-    ensures { DecidedAfter 7 (C.view calls.old) application.now result (C.view calls.new) }
+    requires follows { MayFollow analyst.old (C.view calls.old) }
+    ensures decided { DecidedAfter 7 (C.view calls.old) application.now result (C.view calls.new) }
+    ensures follows { MayFollow analyst.new (C.view calls.new) }
 {
-    let draft = match prepare(alloc, calls, docket.base, application) {
+    let draft = match prepare(alloc, calls, analyst, docket.base, application) {
         Ok(draft) => draft,
         Err(reply) => return reply,
     };
@@ -174,22 +194,25 @@ fn last_attempt<C: OfficeCalls, G: Gate>(
 fn prepare<C: OfficeCalls>(
     alloc: Global,
     calls: &mut C,
+    analyst: &mut Option<Follower>,
     base: &Base,
     application: &Application,
 ) -> Result<Draft, Reply>
     requires base { base.now ≡ (C.view calls.old).who.base }
     requires sound { Sound base.now application.now }
+    requires follows { MayFollow analyst.old (C.view calls.old) }
     ensures drafted { IfOk result
         (λ draft. IsDrafted (C.view calls.old) application.now draft (C.view calls.new)) }
     ensures concluded { IfErr result
         (λ r. Concluded (C.view calls.old) application.now r (C.view calls.new)) }
+    ensures follows { MayFollow analyst.new (C.view calls.new) }
 {
     let snapshot = match calls.snapshot() {
         Looked::At(snapshot) => snapshot,
         Looked::NoMemory => return Err(Reply::NoMemory),
         Looked::Full { entries } => return Err(Reply::Full { entries }),
     };
-    let proposal = match propose(alloc, base, snapshot, application) {
+    let proposal = match propose(alloc, analyst, base, snapshot, application) {
         Ok(proposal) => proposal,
         Err(NoMemory) => return Err(Reply::NoMemory),
     };
@@ -202,19 +225,28 @@ fn prepare<C: OfficeCalls>(
     }
 }
 
-// What an analyst finds for an application at a snapshot.
+// What the analyst finds for an application at a snapshot. There is none before the first application.
 fn propose(
     alloc: Global,
+    analyst: &mut Option<Follower>,
     base: &Base,
     snapshot: Snapshot,
     application: &Application,
 ) -> Result<Proposal, NoMemory>
     requires roads { snapshot.roads ≡ base.now.roads }
     requires sound { Sound base.now application.now }
+    requires follows { IfSome analyst.old (FollowsAt base.now snapshot) }
     ensures seen { IfOk result (λ proposal. proposal.seen ≡ version_of snapshot) }
     ensures found { IfOk result (λ proposal. IsFoundAt base.now snapshot application.now proposal.what) }
+    ensures follows { IfSome analyst.new (FollowsAt base.now snapshot) }
 {
-    analyse(alloc, base, &snapshot, application)
+    let mut follower = match analyst.take() {
+        Some(follower) => follower,
+        None => Follower::new(alloc, base)?,
+    };
+    let found = follower.analyse(alloc, base, snapshot, application);
+    *analyst = Some(follower);
+    found
 }
 
 // Tells the gate, and submits a draft: nothing where it is out of date.

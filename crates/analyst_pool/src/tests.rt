@@ -210,7 +210,8 @@ fn tell<C: OfficeCalls>(
         actor: 2,
         command: 5,
     };
-    let reply = carry_out(alloc, calls, command, &docket);
+    let mut analyst = None;
+    let reply = carry_out(alloc, calls, &mut analyst, command, &docket);
     assert_eq!(rt; format!(in alloc; "{reply:?}")?.as_str(), wanted.0);
     assert_eq!(rt; gate.told.get(), wanted.1);
     Ok(())

@@ -1,4 +1,4 @@
 pub mod Words
 pub mod Lines
-pub mod Asking
+pub mod Carrying
 pub mod Only

@@ -1,5 +1,5 @@
 -- A line that is written, whole or in part.
-use Rattle.std.proofs.Common.{ℕ, List, Result, Ok, Err, length, take, sym, subst}
+use Rattle.std.proofs.Common.{ℕ, List, Result, Ok, Err, length, sym, subst}
 use Rattle.std.proofs.Math.Seq.{take-length}
 use Rattle.std.specs.Prelude.{OnOk, OnErr, IfErr}
 use Rattle.std.specs.Io.KnownBytes.{Appends}

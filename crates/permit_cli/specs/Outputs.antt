@@ -21,7 +21,8 @@ pub record IsReportOn (bytes text : List ℕ) : Type 0 where
   pub report : IsReport file text
 
 -- the promise of `day`: the bytes are a day file, and the text is the journal of one history that serves it: a legal history
--- of an office of the file's roads and trucks that keeps every promise, with each command of the file once, in its order
+-- of an office of the file's roads and trucks that keeps every promise, in which the file's commands were carried out one
+-- after another
 pub record IsJournalOn (bytes text : List ℕ) : Type 0 where
   pub file : DayParts
   pub history : List Entry

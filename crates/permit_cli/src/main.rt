@@ -1,6 +1,8 @@
 //! The permit office's program: it reads records from standard input, and writes a report or a journal to standard output.
 #![tactic(auto)]
 
+#[cfg(test)]
+mod days;
 mod output;
 mod run;
 mod serving;

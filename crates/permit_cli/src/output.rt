@@ -6,10 +6,10 @@ ghost use Rattle.permit_cli.specs.declared.task.Task.TheVariants as task;
 
 use crate::serving::serve;
 use crate::task::Task;
+use analyst_pool::runs_are_one;
 use check_report::report;
 use day_text::{DayFileRefusal, read_check, read_day};
 use journal_text::print;
-use office_core::answers_are_one;
 use office_io::NoMemory;
 use std::alloc::Global;
 use thiserror::Error;
@@ -49,7 +49,8 @@ impl From<NoMemory> for OutputRefusal {
 }
 
 /// What the task writes for the bytes, whatever they are: for `check` the report on the check file that they are, and for
-/// `day` the journal of one legal history that holds each command of the day file that they are once, in its order.
+/// `day` the journal of one legal history, whose entries are those of the commands of the day file that they are, carried out
+/// one after another.
 /// `Refused` comes exactly where they are no such file.
 pub fn output(alloc: Global, task: Task, bytes: &[u8]) -> Result<Vec<u8>, OutputRefusal>
     ensures promise { IfOk result (λ text. IsOutputOf task bytes.now text.items) }
@@ -85,7 +86,7 @@ fn day(alloc: Global, bytes: &[u8]) -> Result<Vec<u8>, OutputRefusal>
     let file = read_day(alloc, bytes)?;
     let office = serve(alloc, file)?;
     // the law by which no other history serves the day
-    answers_are_one();
+    runs_are_one();
     let text = print(alloc, office.history())?;
     Ok(text)
 }

@@ -1,3 +1,4 @@
+use crate::days::DAYS;
 use crate::run::{Alone, run, run_alone};
 use office_io::{MemorySink, MemorySource};
 use std::test::Fail;
@@ -57,30 +58,10 @@ fn reports_trucks_and_probes(rt: HostRuntime) -> Result<(), Fail> {
     Ok(())
 }
 
-// Journals of an asked route, of a posting that recalls the permit, of a bridge that is posted below the HS20-44 truck, of
-// a search that finds no road or one closed segment, of a group allowance at its last thousandth, and of a day set back, a
-// permit that is given back twice and one that is unknown.
+// Whole journals of days: what each shows stands beside it.
 #[test]
 fn writes_journals_of_days(rt: HostRuntime) -> Result<(), Fail> {
-    let rows = [
-        (
-            "day,2026-03-02,,,,,,\nnode,A,,,,,,\nnode,B,,,,,,\nsegment,S1,A,B,5000,,,\nlimit,S1,height,168,,,,\ntruck,T1,ACME,168,102,720,0:12000 180:17000 228:17000,\nactor,ann,,,,,,\napply,ann,T1,A,B,S1,2026-03-02,2026-03-06\npost,ann,S1,height,167,,,\nshow,ann,1,,,,,\nend,,,,,,,\n",
-            "permit-journal 1\n1 held truck 1 from 1 to 2 asked 1 days 2026-03-02 2026-03-06 = issued 1 at 0 route 1\n1 post segment 1 height 167 = posted 1 recalled 1\n1 show 1 = shown 1 caller 1 truck 1 days 2026-03-02 2026-03-06 at 0 seen 0 recalled 1\nend 3\n",
-        ),
-        (
-            "day,2026-03-02,,,,,,\nnode,A,,,,,,\nnode,B,,,,,,\nsegment,S1,A,B,5000,,,\nspan,B1,S1,240,1000,,,\ntruck,HS20,ACME,150,102,500,0:8000 168:32000 336:32000,\nactor,ann,,,,,,\napply,ann,HS20,A,B,S1,2026-03-02,2026-03-06\npost,ann,B1,rating,999,,,\napply,ann,HS20,A,B,S1,2026-03-02,2026-03-06\nend,,,,,,,\n",
-            "permit-journal 1\n1 held truck 1 from 1 to 2 asked 1 days 2026-03-02 2026-03-06 = issued 1 at 0 route 1\n1 post span 1 rating 999 = posted 1 recalled 1\n1 held truck 1 from 1 to 2 asked 1 days 2026-03-02 2026-03-06 = refused 1 segment 1 span 1 moment 1920000/1 hs20 1920000/1 rating 999\nend 3\n",
-        ),
-        (
-            "day,2026-03-02,,,,,,\nnode,A,,,,,,\nnode,B,,,,,,\nnode,C,,,,,,\nsegment,S1,A,C,5000,,,\nlimit,S1,closed,1,,,,\ntruck,T1,ACME,168,102,720,0:12000 180:17000 228:17000,\nactor,ann,,,,,,\napply,ann,T1,A,B,,2026-03-02,2026-03-06\napply,ann,T1,A,C,,2026-03-02,2026-03-06\napply,ann,T1,A,C,S1,2026-03-02,2026-03-06\nend,,,,,,,\n",
-            "permit-journal 1\n1 held truck 1 from 1 to 2 asked none days 2026-03-02 2026-03-06 = noroad\n1 held truck 1 from 1 to 3 asked none days 2026-03-02 2026-03-06 = refused 0 segment 1 closed\n1 held truck 1 from 1 to 3 asked 1 days 2026-03-02 2026-03-06 = refused 0 segment 1 closed\nend 3\n",
-        ),
-        (
-            "day,2026-03-02,,,,,,\nnode,A,,,,,,\nnode,B,,,,,,\nsegment,S1,A,B,5000,,,\nlimit,S1,allowance,1038,,,,\ntruck,FHWA,ACME,162,102,720,0:12000 192:17000 240:17000 564:17000 612:17000,\nactor,ann,,,,,,\napply,ann,FHWA,A,B,,2026-03-02,2026-03-06\npost,ann,S1,allowance,1039,,,\napply,ann,FHWA,A,B,,2026-03-02,2026-03-06\nsetday,ann,2026-03-01,,,,,\nsurrender,ann,1,,,,,\nsurrender,ann,1,,,,,\nshow,ann,0,,,,,\nend,,,,,,,\n",
-            "permit-journal 1\n1 held truck 1 from 1 to 2 asked none days 2026-03-02 2026-03-06 = refused 0 segment 1 group 2-5 weight 68000 limit 65500 allowance 1038\n1 post segment 1 allowance 1039 = posted 1 recalled -\n1 held truck 1 from 1 to 2 asked none days 2026-03-02 2026-03-06 = issued 1 at 1 route 1\n1 day 2026-03-01 = dayback 2026-03-02\n1 surrender 1 = surrendered\n1 surrender 1 = notinforce surrendered\n1 show 0 = unknown\nend 7\n",
-        ),
-    ];
-    for (input, output) in rows {
+    for (input, output) in DAYS {
         let ran = run_words(&rt, &["day"], input.as_bytes(), &[], &[])?;
         assert_eq!(rt; ran.status, 0, "{input}");
         assert_eq!(rt; ran.text.as_slice(), output.as_bytes(), "{input}");

@@ -3,25 +3,25 @@ use Rattle.std.proofs.Common.{arith}
 use Rattle.analyst_pool.proofs.deciding.decide_by.Goals as goal
 
 pub loop-tries-init : goal.loop-tries-init
-loop-tries-init g c = none_yet _ _
+loop-tries-init g c = (none_yet _ _, c.requires.follows)
 
 pub attempt-requires-clause-base : goal.attempt-requires-clause-base
-attempt-requires-clause-base g c = base_stays _ _ _ _ _ c.loop-tries.invariant c.requires.base
+attempt-requires-clause-base g c = base_stays _ _ _ _ _ c.loop-tries.invariant.0 c.requires.base
 
 pub returns-in-Some-clause-decided : goal.returns-in-Some-clause-decided
-returns-in-Some-clause-decided g c = decided_within _ _ _ _ _ _ (omega (arith, c.loop-tries-test.true)) c.loop-tries.invariant c.in-Some.ensures
+returns-in-Some-clause-decided g c = decided_within _ _ _ _ _ _ (omega (arith, c.loop-tries-test.true)) c.loop-tries.invariant.0 c.in-Some.ensures.attempted
 
 pub returns-in-Some-clause-settled : goal.returns-in-Some-clause-settled
-returns-in-Some-clause-settled g c = carried_settled _ _ _ _ (decided_within _ _ _ _ _ _ (omega (arith, c.loop-tries-test.true)) c.loop-tries.invariant c.in-Some.ensures)
+returns-in-Some-clause-settled g c = carried_settled _ _ _ _ (decided_within _ _ _ _ _ _ (omega (arith, c.loop-tries-test.true)) c.loop-tries.invariant.0 c.in-Some.ensures.attempted)
 
 pub loop-tries-preserved : goal.loop-tries-preserved
-loop-tries-preserved g c = one_more _ _ _ _ _ _ (omega arith) c.loop-tries.invariant c.in-None.ensures
+loop-tries-preserved g c = (one_more _ _ _ _ _ _ (omega arith) c.loop-tries.invariant.0 c.in-None.ensures.attempted, c.attempt.ensures.follows)
 
 pub last_attempt-requires-clause-base : goal.last_attempt-requires-clause-base
-last_attempt-requires-clause-base g c = base_stays _ _ _ _ _ c.loop-tries.invariant c.requires.base
+last_attempt-requires-clause-base g c = base_stays _ _ _ _ _ c.loop-tries.invariant.0 c.requires.base
 
 pub returns-clause-decided : goal.returns-clause-decided
-returns-clause-decided g c = decided_behind _ _ _ _ _ _ c.loop-tries-test.false c.loop-tries.auto.tries-end c.loop-tries.invariant c.last_attempt.ensures
+returns-clause-decided g c = decided_behind _ _ _ _ _ _ c.loop-tries-test.false c.loop-tries.auto.tries-end c.loop-tries.invariant.0 c.last_attempt.ensures.decided
 
 pub returns-clause-settled : goal.returns-clause-settled
-returns-clause-settled g c = carried_settled _ _ _ _ (decided_behind _ _ _ _ _ _ c.loop-tries-test.false c.loop-tries.auto.tries-end c.loop-tries.invariant c.last_attempt.ensures)
+returns-clause-settled g c = carried_settled _ _ _ _ (decided_behind _ _ _ _ _ _ c.loop-tries-test.false c.loop-tries.auto.tries-end c.loop-tries.invariant.0 c.last_attempt.ensures.decided)

@@ -1,15 +1,24 @@
 use Rattle.std.proofs.Common.{arith}
+use Rattle.analyst_pool.proofs.Followings.{follows_answered, follows_grown}
 use Rattle.analyst_pool.proofs.Attempting.{again_held, attempted, ends_after, lacks_copy}
 use Rattle.analyst_pool.proofs.deciding.last_attempt.Goals as goal
 
-pub returns-in-Err : goal.returns-in-Err
-returns-in-Err g c = ends_after 7 _ _ _ _ (omega arith) c.in-Err.ensures.concluded
+pub returns-in-Err-clause-decided : goal.returns-in-Err-clause-decided
+returns-in-Err-clause-decided g c = ends_after 7 _ _ _ _ (omega arith) c.in-Err.ensures.concluded
 
-pub returns-in-Err-try_clone : goal.returns-in-Err-try_clone
-returns-in-Err-try_clone g c = ends_after 7 _ _ _ _ (omega arith) (lacks_copy _ _ _ _ c.in-Ok.ensures.drafted)
+pub returns-in-Err-try_clone-clause-decided : goal.returns-in-Err-try_clone-clause-decided
+returns-in-Err-try_clone-clause-decided g c = ends_after 7 _ _ _ _ (omega arith) (lacks_copy _ _ _ _ c.in-Ok.ensures.drafted)
 
-pub returns-in-Some : goal.returns-in-Some
-returns-in-Some g c = ends_after 7 _ _ _ _ (omega arith) (attempted _ _ _ _ _ _ c.in-Ok.ensures.drafted c.in-Some.ensures)
+pub returns-in-Some-clause-decided : goal.returns-in-Some-clause-decided
+returns-in-Some-clause-decided g c = ends_after 7 _ _ _ _ (omega arith) (attempted _ _ _ _ _ _ c.in-Ok.ensures.drafted c.in-Some.ensures)
 
-pub returns-in-None : goal.returns-in-None
-returns-in-None g c = again_held _ _ _ _ _ _ (attempted _ _ _ _ _ _ c.in-Ok.ensures.drafted c.in-None.ensures) c.in-Ok-try_clone.ensures c.hold.ensures
+pub returns-in-None-clause-decided : goal.returns-in-None-clause-decided
+returns-in-None-clause-decided g c = again_held _ _ _ _ _ _ (attempted _ _ _ _ _ _ c.in-Ok.ensures.drafted c.in-None.ensures) c.in-Ok-try_clone.ensures c.hold.ensures
+
+pub returns-in-Some-clause-follows : goal.returns-in-Some-clause-follows
+returns-in-Some-clause-follows g c = follows_answered _ (g.C.OfficeCalls.view c.prepare.new.calls) (g.C.OfficeCalls.view c.submit.new.calls) _ _ c.submit.ensures.answered c.prepare.ensures.follows
+
+pub returns-in-None-clause-follows : goal.returns-in-None-clause-follows
+returns-in-None-clause-follows g c =
+    let submitted = follows_answered _ (g.C.OfficeCalls.view c.prepare.new.calls) (g.C.OfficeCalls.view c.submit.new.calls) _ _ c.submit.ensures.answered c.prepare.ensures.follows in
+    follows_grown _ (g.C.OfficeCalls.view c.submit.new.calls) (g.C.OfficeCalls.view c.hold.new.calls) _ c.hold.ensures.grew submitted

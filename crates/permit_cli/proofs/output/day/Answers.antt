@@ -5,4 +5,4 @@ use Rattle.permit_cli.proofs.output.day.Goals as goal
 
 pub returns-clause-only : goal.returns-clause-only
 returns-clause-only c =
-    λ other h. only_journal c.answers_are_one.ensures c.args.bytes.now c.in_ok-text.text.items other c.in_ok-file.file c.in_ok-office.office.history c.in_ok-file.ensures.ok c.in_ok-office.ensures (c.in_ok-text.ensures ∙ ap journal_of c.history.ensures.entries) h
+    λ other h. only_journal c.runs_are_one.ensures.command c.args.bytes.now c.in_ok-text.text.items other c.in_ok-file.file c.in_ok-office.office.history c.in_ok-file.ensures.ok c.in_ok-office.ensures.roads c.in_ok-office.ensures.served (c.in_ok-text.ensures ∙ ap journal_of c.history.ensures.entries) h

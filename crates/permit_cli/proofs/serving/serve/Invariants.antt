@@ -1,4 +1,0 @@
-use Rattle.permit_cli.proofs.serving.serve.Given as goal
-
-abbrev pub ghosts-serve_counted : goal.ghosts-serve_counted
-ghosts-serve_counted a = record { name = a.blank.name; parts = a.blank.parts }
