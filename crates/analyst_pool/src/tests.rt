@@ -4,7 +4,7 @@ ghost use Rattle.office_core.specs.Replies.{is_full};
 ghost use Rattle.analyst_pool.specs.Interrupted.{Interrupts, IsPosted};
 ghost use Rattle.analyst_pool.specs.Leaves.{MayCarryOut};
 
-use crate::{Docket, Gate, carry_out};
+use crate::{Docket, Gate, OpenGate, carry_out, decide};
 use axle_train::{Axle, Train};
 use clearance_rules::Load;
 use office_core::{Command, Looked, Office, OfficeCalls, OneSeat, Reply};
@@ -388,5 +388,20 @@ fn asks(rt: &impl Abort, alloc: Global, asked: &Asked) -> Result<(), Fail> {
     let mut seat = OneSeat::new(&mut office, 0);
     tell(rt, alloc, &mut seat, &base, &command, &wanted)?;
     assert_eq!(rt; office.history().len(), entries);
+    Ok(())
+}
+
+// An application that is handed over, decided at once.
+#[test]
+fn decides_an_application(rt: HostRuntime) -> Result<(), Fail> {
+    let alloc = rt.alloc();
+    let base = Arc::new(alloc, base(&rt, alloc, ALONE, 168)?)?;
+    let wanted = application(&rt, &base);
+    let mut office = Office::start(alloc, base.clone()?, day(&rt, b"2026-03-02"), 17)?;
+    let mut seat = OneSeat::new(&mut office, 0);
+    let reply = decide(alloc, &mut seat, &base, wanted, &OpenGate, 0, 0);
+    let issued = "Issued { number: 1, version: 0, route: Numbers { list: [0] } }";
+    assert_eq!(rt; format!(in alloc; "{reply:?}")?.as_str(), issued);
+    assert_eq!(rt; office.history().len(), 2);
     Ok(())
 }
