@@ -3,5 +3,7 @@ pub mod Attempting
 pub mod Alone
 pub mod Lengths
 pub mod Runs
+pub mod Memory
+pub mod Scripts
 pub mod Interrupting
 pub mod Followings

@@ -1,5 +1,5 @@
 -- Laws of the entries that commands make.
-use Rattle.std.specs.Prelude.{◌≡◌, ◌≤◌, ℕ, List, length}
+use Rattle.std.specs.Prelude.{◌≡◌, ◌≢◌, ◌<◌, ◌≤◌, ◌+◌, ◌*◌, ℕ, List, length, Option, All}
 use Rattle.road_graph.specs.Roads.{IsRoads}
 use Rattle.trip_analysis.specs.declared.application.Application.{Application}
 use Rattle.trip_analysis.specs.Bases.{BaseLists}
@@ -7,7 +7,10 @@ use Rattle.office_core.specs.declared.entry.Command.{Command}
 use Rattle.office_core.specs.declared.entry.Command.TheVariants as command
 use Rattle.office_core.specs.declared.entry.Entry.{Entry}
 use Rattle.office_core.specs.declared.entry.Reply.{Reply}
+use Rattle.office_core.specs.declared.entry.Reply.TheVariants as reply
 use Rattle.office_core.specs.Machine.{IsLegalFrom, Machine}
+use Rattle.analyst_pool.specs.declared.worker.Outcome.TheVariants as outcome
+use Rattle.analyst_pool.specs.Ran.{Adds}
 use Rattle.analyst_pool.specs.Unfolds.{AreFinished, IsAttempt, IsFinished, IsStopped, Unfolds}
 
 -- a command makes at most 17 entries
@@ -19,6 +22,28 @@ UnfoldingsAreShort =
 abbrev pub StoppedAreShorter : Type 0
 StoppedAreShorter =
     (caller : ℕ) (c : Command) (es : List Entry) (most : ℕ) → IsStopped caller c es most → length es ≤ 16
+
+-- so a script that is done makes at most 17 entries for each of its commands
+abbrev pub ScriptsAreShort : Type 0
+ScriptsAreShort =
+    (caller : ℕ) (script : List Command) (es : List Entry)
+    → AreFinished caller script es → length es ≤ 17 * length script
+
+-- one that a full history stopped made at most 17 for each command ahead of that, and at most 16 more
+abbrev pub StoppedScriptsAreShorter : Type 0
+StoppedScriptsAreShorter =
+    (caller : ℕ) (script : List Command) (k most : ℕ) (es : List Entry) (full : Option ℕ)
+    → Adds caller script (outcome.Full k most) es full
+    → (k < length script) × (length es ≤ 17 * k + 16)
+
+-- none of these entries says that no memory was left
+abbrev pub FoundMemory : List Entry → Type 0
+FoundMemory es = All (λ e. e.reply ≢ reply.NoMemory) es
+
+-- none of a script that is done says so
+abbrev pub FinishedFoundMemory : Type 0
+FinishedFoundMemory =
+    (caller : ℕ) (script : List Command) (es : List Entry) → AreFinished caller script es → FoundMemory es
 
 -- where nobody else calls meanwhile, an application is decided by its first attempt
 abbrev pub FirstAttemptsDecide : Type 0

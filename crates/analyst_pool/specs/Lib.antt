@@ -2,6 +2,7 @@ pub mod Unfolds
 pub mod Leaves
 pub mod Following
 pub mod Attempts
+pub mod Ran
 pub mod Laws
 pub use Rattle.office_core.specs.Calls
 pub use Rattle.office_core.specs.Machine

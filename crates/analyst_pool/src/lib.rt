@@ -5,17 +5,21 @@
 //! may answer that it is out of date; after eight such answers it is asked to find itself what is needed.
 //! This order of calls, and that there are eight attempts, are this project's own.
 //!
-//! To the crate above it promises which entries a command adds to its caller's own, whatever others call
-//! meanwhile, and that these are determined where nobody else calls.
+//! A worker is an actor with calls of its own and a script. Workers carry out their scripts all at once.
+//!
+//! To the crate above it promises which entries a command adds to its caller's own, and so which a worker's
+//! script adds, whatever others call meanwhile; and that these are determined where nobody else calls.
 #![tactic(auto)]
 
 mod deciding;
 mod gate;
 mod laws;
+mod worker;
 
 pub use deciding::{Docket, carry_out, decide};
 pub use gate::{Gate, OpenGate};
-pub use laws::{runs_are_one, unfoldings_are_short};
+pub use laws::{runs_are_one, scripts_are_short, unfoldings_are_short};
+pub use worker::{Outcome, Worker, run_actors};
 
 #[cfg(test)]
 mod tests;

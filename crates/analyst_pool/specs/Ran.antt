@@ -1,0 +1,49 @@
+-- What a worker has done.
+use Rattle.std.specs.Prelude.{◌≡◌, ◌≢◌, ◌<◌, ◌≤◌, ◌++◌, [], ℕ, List, length, slice_get, take, Option, Some, All, vec_len}
+use Rattle.trip_analysis.specs.Bases.{BaseLists}
+use Rattle.office_core.specs.declared.entry.Command.{Command}
+use Rattle.office_core.specs.declared.entry.Entry.{Entry}
+use Rattle.office_core.specs.Calls.{Calling}
+use Rattle.analyst_pool.specs.declared.worker.Outcome.{Outcome}
+use Rattle.analyst_pool.specs.declared.worker.Outcome.TheVariants as outcome
+use Rattle.analyst_pool.specs.declared.worker.Worker.{Worker}
+use Rattle.analyst_pool.specs.Leaves.{Grew, MayCarryOut}
+use Rattle.analyst_pool.specs.Unfolds.{AreFinished, IsBrokenOff, IsStopped}
+
+-- the entries of a script that went no further than the command at this place: those ahead of it were
+-- finished, and its own entries are such as are told
+pub record WentTo (caller : ℕ) (script : List Command) (place : ℕ) (Such : Command → List Entry → Type 0)
+    (es : List Entry) : Type 0 where
+  pub command : Command
+  pub inside : place < length script
+  pub here : slice_get script place ≡ Some command
+  pub front : List Entry
+  pub last : List Entry
+  pub finished : AreFinished caller (take place script) front
+  pub such : Such command last
+  pub whole : es ≡ front ++ last
+
+-- the entries that a script adds with this outcome, to the own entries of calls that are then full so
+abbrev pub Adds : ℕ → List Command → Outcome → List Entry → Option ℕ → Type 0
+Adds caller script outcome.Waiting es full = es ≡ []
+Adds caller script outcome.Done es full = AreFinished caller script es
+Adds caller script (outcome.NoMemory k) es full = WentTo caller script k (IsBrokenOff caller) es
+Adds caller script (outcome.Full k most) es full =
+    WentTo caller script k (λ c last. IsStopped caller c last most) es × (full ≡ Some most)
+
+module _ {C P : Type 0} where
+  -- a worker who has not begun, of an office that is about this, with a script that may be carried out
+  pub record IsReady (base : BaseLists) (view : C → Calling P) (w : Worker C) : Type 0 where
+    pub waits : w.outcome ≡ outcome.Waiting
+    pub about : (view w.calls).who.base ≡ base
+    pub sound : All (MayCarryOut base) w.script.items
+    pub short : vec_len w.script ≤ 4294967295
+
+  -- a worker carried out its script, as far as the outcome says
+  pub record Ran (view : C → Calling P) (before after : Worker C) : Type 0 where
+    pub actor : after.actor ≡ before.actor
+    pub script : after.script ≡ before.script
+    pub ended : after.outcome ≢ outcome.Waiting
+    pub entries : List Entry
+    pub grew : Grew (view before.calls) entries (view after.calls)
+    pub adds : Adds (view before.calls).who.caller before.script.items after.outcome entries (view after.calls).full
