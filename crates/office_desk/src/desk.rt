@@ -1,0 +1,218 @@
+// The office that threads share, and the calls on it.
+
+ghost use Rattle.std.specs.Prelude.{◌≡◌, ◌<◌, ◌≤◌, All, IfOk, Some, length, true};
+ghost use Rattle.std.specs.Arc.{arc_value};
+ghost use Rattle.office_turn.specs.Story.{StartsWith};
+ghost use Rattle.office_turn.specs.Told.{HasReceipt, IsReady, admitted_by, after_admit, after_join, opening_root};
+ghost use Rattle.office_core.specs.declared.entry.Call.TheVariants as calls;
+ghost use Rattle.office_core.specs.Machine.{IsLegal, entries_by};
+ghost use Rattle.office_core.specs.Calls.{Answered, Looks};
+ghost use Rattle.office_core.specs.Promises.{KeepsPromises};
+ghost use Rattle.office_desk.specs.Desks.{MayAskWith, calls_of, terms_of};
+
+use crate::desked::Desked;
+use office_core::{Call, Looked, Office, Reply};
+use office_io::NoMemory;
+use office_turn::{Turn, Worn};
+use permit_days::Day;
+use restriction_log::Change;
+use std::alloc::Global;
+use std::marker::Model;
+use std::sync::{Arc, Wait};
+use trip_analysis::{Application, Base, Proposal};
+
+/// The right to call a desk, as one caller. It must be spent, in [`Desk::leave`].
+pub type Pass = office_turn::Pass<Desked>;
+
+/// The right to admit passes to a desk, to take them in, and to close it.
+pub type Root = office_turn::Root<Desked>;
+
+/// The office that threads share. [`Desk::close`] gives the office back. A desk that is let go drops it.
+///
+/// In contracts it is the `Lock` of its office: which one, what the office is about with the day on which it opened and
+/// the most entries of its history, and the most turns, which are as many. So no step in a turn finds the history full.
+#[derive(Drop)]
+pub struct Desk {
+    turn: Turn<Desked>,
+}
+
+impl Model for Desk {
+    ghost use Rattle.office_turn.specs.Told.{Lock};
+    ghost use Rattle.office_desk.specs.Desks.{IsTied, Terms};
+
+    ghost Value = { Lock Terms };
+
+    ghost view = { λ d. d.turn };
+
+    ghost invariant = { λ d. IsTied d.turn };
+}
+
+impl Desk {
+    /// A desk of a new office about this base, which opens on this day, with room for so many entries, and its root.
+    /// `NoMemory` where no memory was left.
+    pub fn start(
+        alloc: Global,
+        base: Arc<Base, Global>,
+        day: Day,
+        most: u32,
+    ) -> Result<(Desk, Root), NoMemory>
+        requires some { 1 ≤ most }
+        requires bounded { most ≤ 1000000 }
+        ensures terms { IfOk result (λ started. started.0.terms ≡ Some (arc_value base, day, most)) }
+        ensures most { IfOk result (λ started. started.0.most ≡ most) }
+        ensures root { IfOk result (λ started. started.1 ≡ opening_root started.0) }
+    {
+        let office = Office::start(alloc, base, day, most)?;
+        match Turn::start(alloc, Desked { office }, most) {
+            Ok((turn, root)) => Ok((Desk { turn }, root)),
+            Err(office_turn::NoMemory) => Err(NoMemory),
+        }
+    }
+
+    /// A new pass, which has seen what the root has seen. It never refuses and takes no memory.
+    pub fn admit(&self, root: &mut Root) -> Pass
+        requires lock { root.old.lock ≡ self.now }
+        requires room { root.old.admitted < 65536 }
+        ensures pass { result ≡ admitted_by root.old }
+        ensures root { root.new ≡ after_admit root.old }
+    {
+        self.turn.admit(root)
+    }
+
+    /// Takes a pass in. The root tells one receipt more. It takes no memory.
+    pub fn leave(&self, root: &mut Root, pass: Pass)
+        requires lock { root.old.lock ≡ self.now }
+        requires ready { IsReady self.now pass }
+        ensures root { root.new ≡ after_join root.old pass }
+    {
+        self.turn.join(root, pass);
+    }
+
+    /// Ends the desk, and gives its office back. It takes no memory.
+    pub fn close(self, root: Root) -> Office
+        requires lock { root.lock ≡ self }
+        requires joined { length root.receipts ≡ root.admitted }
+        ensures terms { Some (terms_of result) ≡ root.lock.terms }
+        ensures seen { StartsWith result.history root.seen }
+
+        // The history has the entries of those that were admitted and no others, as their receipts tell.
+        ensures own { All (λ receipt. entries_by receipt.number result.history ≡ receipt.own) root.receipts }
+        ensures callers { All (λ e. e.caller < root.admitted) result.history }
+        ensures others { All (λ e. HasReceipt root.receipts e.caller) result.history }
+
+        // A call was answered `Full` only where the history has the most entries that it may.
+        ensures worn { All
+            (λ receipt. receipt.worn ≡ true → length result.history ≡ root.lock.most) root.receipts }
+
+        ensures legal { IsLegal result.base result.opening result.history }
+        ensures promises { KeepsPromises result.base result.opening result.history }
+    {
+        let Desk { turn } = self;
+        let Desked { office } = turn.close(root);
+        let _entries = office.history();
+        office
+    }
+
+    /// The current version and its state. The entry is there also where no memory was left for it. It may wait.
+    pub fn snapshot<R: Wait>(&self, rt: &R, pass: &mut Pass) -> Looked
+        requires ready { IsReady self.now pass.old }
+        ensures answered { Looks (calls_of pass.old) result (calls_of pass.new) }
+        ensures ready { IsReady self.now pass.new }
+    {
+        match self.turn.hold(rt, pass) {
+            Ok(mut held) => {
+                let looked = held.value().look(pass.number());
+                self.turn.pass_on(pass, held);
+                looked
+            }
+            Err(Worn { turns }) => Looked::Full { entries: turns },
+        }
+    }
+
+    /// A permit, for what was found for the application at an earlier version, which the pass has seen. It may wait.
+    pub fn submit<R: Wait>(
+        &self,
+        rt: &R,
+        pass: &mut Pass,
+        application: Application,
+        proposal: Proposal,
+    ) -> Reply
+        requires ready { IsReady self.now pass.old }
+        requires asked { MayAskWith pass.old (calls.Submit application proposal) }
+        ensures answered { Answered (calls_of pass.old) (calls.Submit application proposal) result
+            (calls_of pass.new) }
+        ensures ready { IsReady self.now pass.new }
+    {
+        self.ask(
+            rt,
+            pass,
+            Call::Submit {
+                application,
+                proposal,
+            },
+        )
+    }
+
+    /// A permit, for what the office itself finds now. It may wait.
+    pub fn held<R: Wait>(&self, rt: &R, pass: &mut Pass, application: Application) -> Reply
+        requires ready { IsReady self.now pass.old }
+        requires asked { MayAskWith pass.old (calls.Held application) }
+        ensures answered { Answered (calls_of pass.old) (calls.Held application) result (calls_of pass.new) }
+        ensures ready { IsReady self.now pass.new }
+    {
+        self.ask(rt, pass, Call::Held { application })
+    }
+
+    /// That a change is posted. It may wait.
+    pub fn post<R: Wait>(&self, rt: &R, pass: &mut Pass, change: Change) -> Reply
+        requires ready { IsReady self.now pass.old }
+        ensures answered { Answered (calls_of pass.old) (calls.Post change) result (calls_of pass.new) }
+        ensures ready { IsReady self.now pass.new }
+    {
+        self.ask(rt, pass, Call::Post { change })
+    }
+
+    /// That it is this day from now on. It may wait.
+    pub fn day<R: Wait>(&self, rt: &R, pass: &mut Pass, day: Day) -> Reply
+        requires ready { IsReady self.now pass.old }
+        ensures answered { Answered (calls_of pass.old) (calls.Day day) result (calls_of pass.new) }
+        ensures ready { IsReady self.now pass.new }
+    {
+        self.ask(rt, pass, Call::Day { day })
+    }
+
+    /// That a permit is given back. It may wait.
+    pub fn surrender<R: Wait>(&self, rt: &R, pass: &mut Pass, number: u32) -> Reply
+        requires ready { IsReady self.now pass.old }
+        ensures answered { Answered (calls_of pass.old) (calls.Surrender number) result (calls_of pass.new) }
+        ensures ready { IsReady self.now pass.new }
+    {
+        self.ask(rt, pass, Call::Surrender { number })
+    }
+
+    /// What a permit says. It may wait.
+    pub fn show<R: Wait>(&self, rt: &R, pass: &mut Pass, number: u32) -> Reply
+        requires ready { IsReady self.now pass.old }
+        ensures answered { Answered (calls_of pass.old) (calls.Show number) result (calls_of pass.new) }
+        ensures ready { IsReady self.now pass.new }
+    {
+        self.ask(rt, pass, Call::Show { number })
+    }
+
+    // A turn with one step.
+    fn ask<R: Wait>(&self, rt: &R, pass: &mut Pass, call: Call) -> Reply
+        requires ready { IsReady self.now pass.old }
+        requires asked { MayAskWith pass.old call }
+        ensures answered { Answered (calls_of pass.old) call result (calls_of pass.new) }
+        ensures ready { IsReady self.now pass.new }
+    {
+        match self.turn.hold(rt, pass) {
+            Ok(mut held) => {
+                let reply = held.value().step(pass.number(), call);
+                self.turn.pass_on(pass, held);
+                reply
+            }
+            Err(Worn { turns }) => Reply::Full { entries: turns },
+        }
+    }
+}

@@ -1,0 +1,80 @@
+// A pass with its desk, as the calls of one caller.
+
+ghost use Rattle.std.specs.Prelude.{◌≡◌};
+ghost use Rattle.office_turn.specs.Told.{IsReady};
+
+use crate::desk::{Desk, Pass};
+use office_core::{Looked, OfficeCalls, Reply};
+use permit_days::Day;
+use restriction_log::Change;
+use std::sync::Wait;
+use trip_analysis::{Application, Proposal};
+
+/// One caller at a desk. It ends in [`Seat::into_pass`].
+pub struct Seat<'a, R: Wait> {
+    rt: &'a R,
+    desk: &'a Desk,
+    pass: Pass,
+    ghost ready: { IsReady desk.now pass },
+}
+
+impl<'a, R: Wait> Seat<'a, R> {
+    /// The calls that are made of the desk with this pass.
+    pub fn new(rt: &'a R, desk: &'a Desk, pass: Pass) -> Seat<'a, R>
+        requires { IsReady desk.now pass }
+        ensures pass { result.pass ≡ pass }
+        ensures desk { result.desk.now ≡ desk.now }
+    {
+        Seat { rt, desk, pass }
+    }
+
+    /// The pass, which has seen and added what these calls have.
+    pub fn into_pass(self) -> Pass
+        ensures pass { result ≡ self.entry.pass }
+        ensures ready { IsReady self.entry.desk.now result }
+    {
+        let Seat {
+            rt: _,
+            desk: _,
+            pass,
+        } = self;
+        pass
+    }
+}
+
+impl<R: Wait> OfficeCalls for Seat<'_, R> {
+    ghost use Rattle.office_desk.specs.Desks.{calls_of};
+
+    type Place = Desk;
+
+    ghost view = { λ s. calls_of s.pass };
+
+    fn snapshot(&mut self) -> Looked {
+        self.desk.snapshot(self.rt, &mut self.pass)
+    }
+
+    fn submit(&mut self, application: Application, proposal: Proposal) -> Reply {
+        self.desk
+            .submit(self.rt, &mut self.pass, application, proposal)
+    }
+
+    fn held(&mut self, application: Application) -> Reply {
+        self.desk.held(self.rt, &mut self.pass, application)
+    }
+
+    fn post(&mut self, change: Change) -> Reply {
+        self.desk.post(self.rt, &mut self.pass, change)
+    }
+
+    fn day(&mut self, day: Day) -> Reply {
+        self.desk.day(self.rt, &mut self.pass, day)
+    }
+
+    fn surrender(&mut self, number: u32) -> Reply {
+        self.desk.surrender(self.rt, &mut self.pass, number)
+    }
+
+    fn show(&mut self, number: u32) -> Reply {
+        self.desk.show(self.rt, &mut self.pass, number)
+    }
+}
