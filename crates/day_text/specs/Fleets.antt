@@ -13,9 +13,9 @@ use Rattle.record_text.specs.declared.refusal.Kind.TheVariants as kind
 abbrev pub truck_names : List Truck → List (List ℕ)
 truck_names trucks = map (λ t. t.name) trucks
 
--- how many actors a day file may have: one, as long as an office is run by one caller
+-- how many actors a day file may have
 abbrev pub most_actors : ℕ
-most_actors = 1
+most_actors = 16
 
 -- truck,NAME,CARRIER,HEIGHT,WIDTH,LENGTH,AXLES
 unfoldable pub fleet_of : List Truck → Row → Result (List Truck) Cause

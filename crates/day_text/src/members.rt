@@ -16,8 +16,8 @@ use trip_analysis::Truck;
 /// The most trucks of a day file.
 const MOST_TRUCKS: usize = 64;
 
-/// The most actors of a day file, as long as an office is run by one caller.
-const MOST_ACTORS: usize = 1;
+/// The most actors of a day file.
+const MOST_ACTORS: usize = 16;
 
 /// Adds the truck of a record.
 #[tactic(auto, unfolding(crate::specs::Fleets::fleet_of))]

@@ -427,7 +427,7 @@ fn counts_records_of_a_kind(rt: HostRuntime) -> Result<(), Fail> {
             ("segment,s", ",A,A,1,,,", 16_382, Kind::Segments),
             ("span,p", ",S,1,0,,,", 15, Kind::SpansOfSegment),
             ("truck,t", ",ACME,1,1,1,0:1 1:1,", 63, Kind::Trucks),
-            ("actor,a", ",,,,,,", 0, Kind::Actors),
+            ("actor,a", ",,,,,,", 15, Kind::Actors),
             ("show,ann,", ",,,,,", 4_096, Kind::Commands),
         ],
     )
