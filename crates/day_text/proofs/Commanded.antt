@@ -11,7 +11,7 @@ use Rattle.road_graph.specs.Roads.{number_of as number_named}
 use Rattle.trip_analysis.specs.declared.application.Application.{Application}
 use Rattle.trip_analysis.specs.declared.base.Truck.{Truck}
 use Rattle.trip_analysis.specs.declared.refusal.ApplicationRefusal.{ApplicationRefusal}
-use Rattle.trip_analysis.specs.declared.refusal.ApplicationRefusal.TheVariants.{BrokenRoute, DayOrder, SamePlace}
+use Rattle.trip_analysis.specs.declared.refusal.ApplicationRefusal.TheVariants.{DayOrder, SamePlace}
 use Rattle.trip_analysis.specs.Applications.{AreAskedThere, AreThere, Sound, application_of, application_refusal, asked_break, route_refusal}
 use Rattle.trip_analysis.specs.Bases.{BaseLists}
 use Rattle.trip_analysis.proofs.Unbroken.{sound_if}

@@ -3,3 +3,5 @@ pub mod Fleets
 pub mod Kept
 pub mod Commanded
 pub mod EveryDay
+pub mod Counts
+pub mod Dealt

@@ -11,3 +11,4 @@ pub mod Kinds
 pub mod Commands
 pub mod Days
 pub mod Laws
+pub mod Scripts

@@ -6,8 +6,8 @@
 //!
 //! To the crate above it promises that a file is accepted exactly where the definition, which judges the whole list of its
 //! records, accepts it, and that what is handed out is the file of that definition; and that each command of a day file is
-//! from an actor of the file, and each application sound for its roads and trucks. Inside, each step is proved against the
-//! exact cause and row.
+//! from an actor of the file, and each application sound for its roads and trucks. It hands out each actor's script, which
+//! has the actor's commands in their order and no others. Inside, each step is proved against the exact cause and row.
 #![tactic(auto)]
 
 mod check_file;
@@ -22,6 +22,7 @@ mod orders;
 mod progress;
 mod refusal;
 mod roads;
+mod scripts;
 mod truck;
 
 pub use check_file::{CheckFile, Probe, Probes, read_check};

@@ -132,6 +132,42 @@ fn keeps_the_commands_in_order(rt: HostRuntime) -> Result<(), Fail> {
     keep(&rt, rt.alloc(), SURRENDERED, b"adggs")
 }
 
+// The commands of three actors among each other, of whom one has none.
+const SHARED: &str =
+    "day,2026-03-02,,,,,,\nactor,ann,,,,,,\nactor,bob,,,,,,\nshow,ann,1,,,,,\nactor,cid,,,,,,\nsetday,cid,2026-03-03,,,,,\nsetday,ann,2026-03-04,,,,,\nshow,cid,2,,,,,\nsurrender,ann,3,,,,,\nend,,,,,,,\n";
+
+// Nobody is there.
+const EMPTY: &str = "day,2026-03-02,,,,,,\nend,,,,,,,\n";
+
+// The kinds of the commands of each actor, in order.
+type Scripts = &'static [&'static [u8]];
+
+fn are_scripts(rt: &impl Abort, scripts: &[Vec<Command>], wanted: Scripts) {
+    same(rt, 0, &scripts.len(), &wanted.len());
+    for (script, letters) in scripts.iter().zip(wanted) {
+        same(rt, 0, &script.len(), &letters.len());
+        for (row, (command, wanted)) in script.iter().zip(*letters).enumerate() {
+            same(rt, row, &letter(command), wanted);
+        }
+    }
+}
+
+fn deal(rt: &impl Abort, alloc: Global, text: &str, wanted: Scripts) -> Result<(), Fail> {
+    let file = read_day(alloc, text.as_bytes())?;
+    let (base, _, scripts) = file.into_scripts(alloc)?;
+    are_scripts(rt, scripts.as_slice(), wanted);
+    drop(base);
+    drop(scripts);
+    Ok(())
+}
+
+#[test]
+fn gives_each_actor_its_commands(rt: HostRuntime) -> Result<(), Fail> {
+    deal(&rt, rt.alloc(), SHARED, &[b"sdg", b"", b"ds"])?;
+    deal(&rt, rt.alloc(), ISSUED, &[b"a"])?;
+    deal(&rt, rt.alloc(), EMPTY, &[])
+}
+
 // The first record of the text that is refused, and why.
 fn refusal(alloc: Global, text: &[u8]) -> Option<FileRefusal> {
     read_day_file(alloc, text).err()
