@@ -15,13 +15,14 @@ use Rattle.trip_analysis.specs.declared.refusal.ApplicationRefusal.TheVariants.{
 use Rattle.trip_analysis.specs.Applications.{AreAskedThere, AreThere, Sound, application_of, application_refusal, asked_break, route_refusal}
 use Rattle.trip_analysis.specs.Bases.{BaseLists}
 use Rattle.trip_analysis.proofs.Unbroken.{sound_if}
-use Rattle.day_text.specs.Commands.{all_numbers, applied, apply_fields_of, apply_of, asked_of, order_of, permit_of, post_of, posting_of, set_day_of, unless_refused}
+use Rattle.day_text.specs.Commands.{all_numbers, applied, apply_fields_of, apply_of, asked_of, order_of, permit_of, post_of, posting_of, resolved_of, set_day_of, unless_refused}
 use Rattle.record_text.specs.Fields.{day_of, field_of, name_of, number_of, posted_of}
 use Rattle.day_text.specs.Fleets.{truck_names}
 use Rattle.day_text.specs.Laws.{IsSoundFor}
 use Rattle.record_text.specs.Causes.{demand, or_bad}
 use Rattle.record_text.specs.Records.{Row, is_blank_from}
 use Rattle.office_core.specs.declared.entry.Command.TheVariants as command
+use Rattle.day_text.specs.declared.commands.ApplyFields.{ApplyFields}
 use Rattle.day_text.specs.declared.draft.Draft.{Draft}
 use Rattle.day_text.specs.declared.kind.CommandKind.{CommandKind}
 use Rattle.day_text.specs.declared.kind.CommandKind.TheVariants.{Apply, Post, SetDay, Show, Surrender}
@@ -87,10 +88,9 @@ applied_sound d truck from to asked first last application there known e =
 abbrev pub IsGood : Draft → Order → Type 0
 IsGood d o = (o.actor < length d.actors) × IsSoundFor (base_of d) o.command
 
-apply_good : (d : Draft) (fields : Row) → Gives (IsGood d) (apply_of d fields)
-unfolding apply_of
-apply_good d fields =
-    then_gives {r = apply_fields_of fields} (λ f _.
+resolved_good : (d : Draft) (f : ApplyFields) → Gives (IsGood d) (resolved_of d f)
+unfolding resolved_of
+resolved_good d f =
     then_gives {r = or_bad (bad.Unknown 2) (number_named f.actor d.actors)} (λ actor actor_is.
     then_gives {r = or_bad (bad.Unknown 3) (number_named f.truck (truck_names d.fleet))} (λ truck truck_is.
     then_gives {r = or_bad (bad.Unknown 4) (number_named f.from d.network.nodes)} (λ from from_is.
@@ -110,7 +110,10 @@ apply_good d fields =
     let known = subst (λ (n : ℕ). truck < n) trucks (named_within f.truck (truck_names d.fleet) truck (found_some (bad.Unknown 3) (number_named f.truck (truck_names d.fleet)) truck truck_is)) in
     let who = named_within f.actor d.actors actor (found_some (bad.Unknown 2) (number_named f.actor d.actors) actor actor_is) in
     gives (IsGood d) (record { actor = actor; command = command.Apply application })
-    (who, applied_sound d truck from to (asked_of route) first last application there known application_is))))))))))
+    (who, applied_sound d truck from to (asked_of route) first last application there known application_is)))))))))
+
+apply_good : (d : Draft) (fields : Row) → Gives (IsGood d) (apply_of d fields)
+apply_good d fields = then_gives {r = apply_fields_of fields} (λ f _. resolved_good d f)
 
 post_good : (d : Draft) (fields : Row) → Gives (IsGood d) (post_of d fields)
 unfolding post_of

@@ -30,7 +30,7 @@ use Rattle.record_text.specs.declared.refusal.RecordCause.{RecordCause}
 use Rattle.record_text.specs.declared.refusal.RecordCause.TheVariants as bad
 use Rattle.record_text.specs.declared.refusal.Kind.TheVariants as kind
 
--- apply,ACTOR,TRUCK,FROM,TO,ROUTE,FIRST,LAST: the fields, each in its form
+-- the fields of an application's record, each in its form
 unfoldable pub apply_fields_of : Row → Result ApplyFields Cause
 apply_fields_of fields = do
   actor ← or_bad (bad.Field 2) (name_of (field_of fields 1))
@@ -66,9 +66,9 @@ abbrev pub applied : Roads → ℕ → ℕ → ℕ → Option (List ℕ) → Lis
 applied roads truck from to asked first last =
     unless_refused (application_of truck from to asked first last) (application_refusal roads from to asked first last)
 
-unfoldable pub apply_of : Draft → Row → Result Order Cause
-apply_of d fields = do
-  f ← apply_fields_of fields
+-- the application of some fields: each name is looked up, each day is one of the calendar, and no rule of applications refuses it
+unfoldable pub resolved_of : Draft → ApplyFields → Result Order Cause
+resolved_of d f = do
   actor ← or_bad (bad.Unknown 2) (number_named f.actor d.actors)
   truck ← or_bad (bad.Unknown 3) (number_named f.truck (truck_names d.fleet))
   from ← or_bad (bad.Unknown 4) (number_named f.from d.network.nodes)
@@ -78,6 +78,10 @@ apply_of d fields = do
   last ← or_bad (bad.Range 8) f.last
   application ← applied d.network truck from to (asked_of route) first last
   Ok (record { actor = actor; command = command.Apply application })
+
+-- apply,ACTOR,TRUCK,FROM,TO,ROUTE,FIRST,LAST: the fields in their forms first, and then what they refer to
+abbrev pub apply_of : Draft → Row → Result Order Cause
+apply_of d fields = apply_fields_of fields >>= resolved_of d
 
 -- the change that a limit of a segment is to have
 abbrev pub change_of : What → ℕ → ℕ → Change

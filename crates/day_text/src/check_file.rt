@@ -109,7 +109,10 @@ impl CheckProgress {
     {
         match self {
             CheckProgress::Ended(file) => Ok(file),
-            _ => Err(RecordRefusal::bad(RecordCause::End).at(row)),
+            unended => {
+                drop(unended);
+                Err(RecordRefusal::bad(RecordCause::End).at(row))
+            }
         }
     }
 }

@@ -5,7 +5,7 @@ ghost use Rattle.csv.specs.Records.{fields_of};
 ghost use Rattle.road_graph.specs.Roads.{segment_names};
 ghost use Rattle.trip_analysis.specs.Applications.{AreAskedThere};
 ghost use Rattle.record_text.specs.Causes.{Judges};
-ghost use Rattle.day_text.specs.Commands.{all_numbers, apply_fields_of, apply_of, asked_of, cause_of, change_of, order_of, permit_of, post_of, posting_of, set_day_of, show_of, surrender_of};
+ghost use Rattle.day_text.specs.Commands.{all_numbers, apply_fields_of, apply_of, asked_of, cause_of, change_of, order_of, permit_of, post_of, posting_of, resolved_of, set_day_of, show_of, surrender_of};
 
 use crate::draft::Draft;
 use crate::kind::CommandKind;
@@ -54,11 +54,20 @@ pub(crate) fn parse_order(
 }
 
 // The application of a record, for its actor.
-#[tactic(auto, unfolding(crate::specs::Commands::apply_of))]
 fn parse_apply(alloc: Global, draft: &Draft, row: &StringRecord) -> Result<Order, RecordRefusal>
     ensures { Judges result (apply_of draft.now (fields_of row.now)) }
 {
     let fields = parse_apply_fields(alloc, row)?;
+    let order = resolve(alloc, draft, &fields);
+    drop(fields);
+    order
+}
+
+// The application of some fields, each name of which is looked up.
+#[tactic(auto, unfolding(crate::specs::Commands::resolved_of))]
+fn resolve(alloc: Global, draft: &Draft, fields: &ApplyFields) -> Result<Order, RecordRefusal>
+    ensures { Judges result (resolved_of draft.now fields.now) }
+{
     let Some(actor) = draft.actors.number(&fields.actor) else {
         return Err(RecordRefusal::bad(RecordCause::Unknown(2)));
     };

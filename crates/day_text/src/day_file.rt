@@ -96,7 +96,10 @@ fn finish(alloc: Global, progress: DayProgress, row: u64) -> Result<DayFile, Fil
 {
     match progress {
         DayProgress::Ended(draft) => close(alloc, draft),
-        _ => Err(RecordRefusal::bad(RecordCause::End).at(row)),
+        unended => {
+            drop(unended);
+            Err(RecordRefusal::bad(RecordCause::End).at(row))
+        }
     }
 }
 
@@ -106,12 +109,31 @@ fn close(alloc: Global, draft: Draft) -> Result<DayFile, FileRefusal>
     ensures memory { IfErr result (λ refusal. refusal ≡ FileRefusal.NoMemory) }
 {
     match draft.actors.to_vec(alloc) {
-        Ok(actors) => Ok(DayFile {
-            base: Base::new(draft.network, draft.fleet.into_vec()),
-            day: draft.day,
-            actors,
-            commands: draft.orders.into_vec(),
-        }),
-        Err(_) => Err(FileRefusal::NoMemory),
+        Ok(actors) => Ok(closed(draft, actors)),
+        Err(_) => {
+            drop(draft);
+            Err(FileRefusal::NoMemory)
+        }
+    }
+}
+
+// The file of a draft, with its actors in a vector.
+fn closed(draft: Draft, actors: Vec<Name>) -> DayFile
+    requires { actors.items ≡ draft.actors }
+    ensures { result ≡ parts_of draft }
+{
+    let Draft {
+        network,
+        day,
+        fleet,
+        actors: names,
+        orders,
+    } = draft;
+    drop(names);
+    DayFile {
+        base: Base::new(network, fleet.into_vec()),
+        day,
+        actors,
+        commands: orders.into_vec(),
     }
 }

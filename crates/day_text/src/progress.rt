@@ -1,9 +1,11 @@
 // Where each record of a day file leads.
+//
+// A draft is let go by a call of `drop`: where a scope lets it go, the proof of the whole function goes through its parts.
 
 ghost use Rattle.std.specs.Prelude.{◌≡◌};
 ghost use Rattle.csv.specs.Records.{fields_of};
 ghost use Rattle.record_text.specs.Causes.{Judges};
-ghost use Rattle.day_text.specs.Days.{going_on, judge_day, judge_later, judge_opening, opening_of, with_actor, with_command, with_road, with_truck};
+ghost use Rattle.day_text.specs.Days.{going_on, judge_day, judge_kind, judge_later, judge_opening, opening_of, with_actor, with_command, with_road, with_truck};
 
 use crate::commands::parse_order;
 use crate::draft::Draft;
@@ -31,13 +33,31 @@ impl Progress for DayProgress {
     ghost judge = { judge_day };
 
     fn take(self, alloc: Global, row: &StringRecord) -> Result<DayProgress, RecordRefusal> {
-        let Some(kind) = parse_kind(field(row, 0)) else {
-            return Err(RecordRefusal::bad(RecordCause::Kind));
-        };
-        match self {
-            DayProgress::Start => take_opening(alloc, kind, row),
-            DayProgress::Open(draft) => take_later(alloc, draft, kind, row),
-            DayProgress::Ended(_) => Err(RecordRefusal::bad(RecordCause::Order)),
+        match parse_kind(field(row, 0)) {
+            Some(kind) => take_kind(self, alloc, kind, row),
+            None => {
+                drop(self);
+                Err(RecordRefusal::bad(RecordCause::Kind))
+            }
+        }
+    }
+}
+
+// Where a record of a known kind leads.
+fn take_kind(
+    progress: DayProgress,
+    alloc: Global,
+    kind: RecordKind,
+    row: &StringRecord,
+) -> Result<DayProgress, RecordRefusal>
+    ensures { Judges result (judge_kind progress kind (fields_of row.now)) }
+{
+    match progress {
+        DayProgress::Start => take_opening(alloc, kind, row),
+        DayProgress::Open(draft) => take_later(alloc, draft, kind, row),
+        DayProgress::Ended(draft) => {
+            drop(draft);
+            Err(RecordRefusal::bad(RecordCause::Order))
         }
     }
 }
@@ -92,7 +112,10 @@ fn take_later(
     ensures { Judges result (judge_later draft kind (fields_of row.now)) }
 {
     match kind {
-        RecordKind::Day => Err(RecordRefusal::bad(RecordCause::Order)),
+        RecordKind::Day => {
+            drop(draft);
+            Err(RecordRefusal::bad(RecordCause::Order))
+        }
         RecordKind::Road(kind) => take_road(draft, kind, row),
         RecordKind::Truck => take_truck(alloc, draft, row),
         RecordKind::Actor => take_actor(draft, row),
@@ -106,8 +129,13 @@ fn take_road(draft: Draft, kind: RoadKind, row: &StringRecord) -> Result<DayProg
     ensures { Judges result (going_on (with_road draft kind (fields_of row.now))) }
 {
     let mut draft = draft;
-    add_road(&mut draft.network, kind, row)?;
-    Ok(DayProgress::Open(draft))
+    match add_road(&mut draft.network, kind, row) {
+        Ok(()) => Ok(DayProgress::Open(draft)),
+        Err(refusal) => {
+            drop(draft);
+            Err(refusal)
+        }
+    }
 }
 
 // Where the record of a truck leads.
@@ -115,8 +143,13 @@ fn take_truck(alloc: Global, draft: Draft, row: &StringRecord) -> Result<DayProg
     ensures { Judges result (going_on (with_truck draft (fields_of row.now))) }
 {
     let mut draft = draft;
-    add_truck(alloc, &mut draft.fleet, row)?;
-    Ok(DayProgress::Open(draft))
+    match add_truck(alloc, &mut draft.fleet, row) {
+        Ok(()) => Ok(DayProgress::Open(draft)),
+        Err(refusal) => {
+            drop(draft);
+            Err(refusal)
+        }
+    }
 }
 
 // Where the record of an actor leads.
@@ -124,8 +157,13 @@ fn take_actor(draft: Draft, row: &StringRecord) -> Result<DayProgress, RecordRef
     ensures { Judges result (going_on (with_actor draft (fields_of row.now))) }
 {
     let mut draft = draft;
-    add_actor(&mut draft.actors, row)?;
-    Ok(DayProgress::Open(draft))
+    match add_actor(&mut draft.actors, row) {
+        Ok(()) => Ok(DayProgress::Open(draft)),
+        Err(refusal) => {
+            drop(draft);
+            Err(refusal)
+        }
+    }
 }
 
 // Where the record of a command leads.
@@ -138,17 +176,27 @@ fn take_command(
     ensures { Judges result (going_on (with_command draft kind (fields_of row.now))) }
 {
     let mut draft = draft;
-    let order = parse_order(alloc, &draft, kind, row)?;
-    draft.orders.push(order)?;
-    Ok(DayProgress::Open(draft))
+    let added = match parse_order(alloc, &draft, kind, row) {
+        Ok(order) => draft.orders.push(order),
+        Err(refusal) => Err(refusal),
+    };
+    match added {
+        Ok(()) => Ok(DayProgress::Open(draft)),
+        Err(refusal) => {
+            drop(draft);
+            Err(refusal)
+        }
+    }
 }
 
 // Where the end leads.
 fn take_end(draft: Draft, row: &StringRecord) -> Result<DayProgress, RecordRefusal>
     ensures { Judges result (judge_later draft RecordKind.End (fields_of row.now)) }
 {
-    if !is_blank_from(row, 1) {
-        return Err(RecordRefusal::bad(RecordCause::Extra));
+    if is_blank_from(row, 1) {
+        Ok(DayProgress::Ended(draft))
+    } else {
+        drop(draft);
+        Err(RecordRefusal::bad(RecordCause::Extra))
     }
-    Ok(DayProgress::Ended(draft))
 }

@@ -23,8 +23,15 @@ impl DayFile {
         ensures scripts { IfOk result (λ parts. AreScripts parts.2.items self.commands) }
     {
         let (base, day, actors, orders) = self.into_parts();
-        let scripts = scripts_of(alloc, actors.len(), orders)?;
-        Ok((base, day, scripts))
+        let count = actors.len();
+        drop(actors);
+        match scripts_of(alloc, count, orders) {
+            Ok(scripts) => Ok((base, day, scripts)),
+            Err(no_memory) => {
+                drop(base);
+                Err(no_memory)
+            }
+        }
     }
 }
 
