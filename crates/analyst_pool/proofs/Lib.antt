@@ -5,5 +5,6 @@ pub mod Lengths
 pub mod Runs
 pub mod Memory
 pub mod Scripts
+pub mod Crossing
 pub mod Interrupting
 pub mod Followings

@@ -1,10 +1,12 @@
-ghost use Rattle.std.specs.Prelude.{◌≡◌, false};
+ghost use Rattle.std.specs.Prelude.{◌≡◌, ◌≤◌, All, false, IfOk, vec_len};
 ghost use Rattle.trip_analysis.specs.Applications.{Sound};
 ghost use Rattle.office_core.specs.Replies.{is_full};
+ghost use Rattle.office_core.specs.Seats.{calls_of};
 ghost use Rattle.analyst_pool.specs.Interrupted.{Interrupts, IsPosted};
 ghost use Rattle.analyst_pool.specs.Leaves.{MayCarryOut};
+ghost use Rattle.analyst_pool.specs.Ran.{IsReady};
 
-use crate::{Docket, Gate, OpenGate, carry_out, decide};
+use crate::{Docket, Gate, OpenGate, Outcome, Worker, carry_out, decide, run_actors};
 use axle_train::{Axle, Train};
 use clearance_rules::Load;
 use office_core::{Command, Looked, Office, OfficeCalls, OneSeat, Reply};
@@ -16,7 +18,9 @@ use std::alloc::Global;
 use std::cell::Cell;
 use std::process::Abort;
 use std::sync::Arc;
+use std::sync::atomic::{AtomicU64, Ordering};
 use std::test::Fail;
+use std::thread::{Threads, yield_now};
 use trip_analysis::{Application, Base, Proposal, Truck};
 
 // Writes down what it is told as the digits of a number: 1 first, then 0 ahead of the command, the number
@@ -403,5 +407,150 @@ fn decides_an_application(rt: HostRuntime) -> Result<(), Fail> {
     let issued = "Issued { number: 1, version: 0, route: Numbers { list: [0] } }";
     assert_eq!(rt; format!(in alloc; "{reply:?}")?.as_str(), issued);
     assert_eq!(rt; office.history().len(), 2);
+    Ok(())
+}
+
+// How many entries a history may hold, and which commands are asked; and then the outcome, and how many
+// entries the history has.
+type Scripted = (u32, &'static [u32], Outcome, usize);
+
+const SCRIPTS: &[Scripted] = &[
+    (100, &[], Outcome::Done, 0),
+    (100, &[1, 0, 2, 4], Outcome::Done, 5),
+    (
+        2,
+        &[1, 2, 4, 3],
+        Outcome::Full {
+            command: 2,
+            entries: 2,
+        },
+        2,
+    ),
+    // a history that is full behind a snapshot
+    (
+        2,
+        &[1, 0],
+        Outcome::Full {
+            command: 1,
+            entries: 2,
+        },
+        2,
+    ),
+];
+
+// Commands of these kinds.
+fn script(rt: &impl Abort, alloc: Global, base: &Base, kinds: &[u32]) -> Result<Vec<Command>, Fail>
+    ensures sound { IfOk result (λ script. All (MayCarryOut base.now) script.items) }
+    ensures short { IfOk result (λ script. vec_len script ≤ 100) }
+{
+    let mut script = Vec::new(alloc);
+    for &kind in kinds {
+        script.push(command(rt, base, kind))?;
+    }
+    assert!(rt; script.len() <= 100);
+    Ok(script)
+}
+
+// An actor with these commands for an office that nobody else calls.
+fn worker<'a>(
+    _base: &Base,
+    office: &'a mut Office,
+    actor: u32,
+    script: Vec<Command>,
+) -> Worker<OneSeat<'a>>
+    requires base { office.old.base ≡ _base.now }
+    requires sound { All (MayCarryOut _base.now) script.items }
+    requires short { vec_len script ≤ 100 }
+    ensures { IsReady _base.now calls_of result }
+{
+    Worker::new(OneSeat::new(office, 0), actor, script)
+}
+
+// Two actors carry out the same script, each for an office of its own.
+fn carries_out_twice<R: Threads + Abort + Sync, G: Gate + Sync>(
+    rt: &R,
+    alloc: Global,
+    gate: &G,
+    scripted: &Scripted,
+) -> Result<(), Fail> {
+    let &(most, kinds, wanted, entries) = scripted;
+    if most == 0 || most > 100 {
+        rt.abort();
+    }
+    let base = Arc::new(alloc, base(rt, alloc, ALONE, 168)?)?;
+    let mut one = Office::start(alloc, base.clone()?, day(rt, b"2026-03-02"), most)?;
+    let mut two = Office::start(alloc, base.clone()?, day(rt, b"2026-03-02"), most)?;
+    let about: &Base = &base;
+    let first = script(rt, alloc, about, kinds)?;
+    let second = script(rt, alloc, about, kinds)?;
+    let mut workers = Vec::new(alloc);
+    workers.push(worker(about, &mut one, 0, first))?;
+    workers.push(worker(about, &mut two, 1, second))?;
+    run_actors(rt, alloc, about, &mut workers, gate);
+    for worker in &workers {
+        assert_eq!(rt; worker.outcome(), wanted);
+    }
+    drop(workers);
+    assert_eq!(rt;
+        (one.history().len(), two.history().len()),
+        (entries, entries)
+    );
+    Ok(())
+}
+
+#[test]
+fn carries_out_scripts(rt: HostRuntime) -> Result<(), Fail> {
+    for scripted in SCRIPTS {
+        carries_out_twice(&rt, rt.alloc(), &OpenGate, scripted)?;
+    }
+    Ok(())
+}
+
+// Keeps each of two actors ahead of its command, and behind what it found for it, until the other has come
+// as far. It has failed where one has looked 10,000,000 times and the other has not come.
+#[derive(Drop)]
+struct Meeting {
+    came: AtomicU64,
+    failed: AtomicU64,
+}
+
+impl Meeting {
+    fn wait_for(&self, wanted: u64) {
+        self.came.fetch_add(1, Ordering::SeqCst);
+        for _ in 0..10_000_000 {
+            if self.came.load(Ordering::SeqCst) >= wanted {
+                return;
+            }
+            yield_now();
+        }
+        self.failed.store(1, Ordering::SeqCst);
+    }
+}
+
+impl Gate for Meeting {
+    fn before(&self, _actor: u32, _command: u32) {
+        self.wait_for(2);
+    }
+
+    fn between(&self, _actor: u32, _command: u32, _attempt: u32) {
+        self.wait_for(4);
+    }
+
+    fn answered(&self, _actor: u32, _command: u32) {
+        self.came.fetch_add(1, Ordering::SeqCst);
+    }
+}
+
+// Each actor begins before the other has what it proposes, and has that before the other submits.
+#[test]
+fn two_actors_find_what_they_propose_at_once(rt: HostRuntime) -> Result<(), Fail> {
+    let meeting = Meeting {
+        came: AtomicU64::new(0),
+        failed: AtomicU64::new(0),
+    };
+    let once = (100, [0].as_slice(), Outcome::Done, 2);
+    carries_out_twice(&rt, rt.alloc(), &meeting, &once)?;
+    assert_eq!(rt; meeting.failed.load(Ordering::SeqCst), 0);
+    assert_eq!(rt; meeting.came.load(Ordering::SeqCst), 6);
     Ok(())
 }

@@ -1,0 +1,6 @@
+use Rattle.std.proofs.Common.{All}
+use Rattle.analyst_pool.specs.Leaves.{MayCarryOut}
+use Rattle.analyst_pool.proofs.tests.script.Given as goal
+
+abbrev pub invariant-loop-kind : goal.invariant-loop-kind
+invariant-loop-kind g l = All (MayCarryOut l.base) l.script.items
