@@ -7,6 +7,7 @@ use restriction_log::{Change, PostRefusal, State};
 use road_graph::Network;
 use std::alloc::Global;
 use std::process::Abort;
+use std::str::SplitWhitespace;
 use std::test::Fail;
 
 // A name of these bytes, which are one.
@@ -59,57 +60,47 @@ fn posted(text: &str) -> Change {
     }
 }
 
-// A version and its state, in words: of each segment whether it is closed, and its height; then the rating of each span.
-fn told(alloc: Global, network: &Network, version: u32, state: &State) -> Result<String, Fail>
+// Whether the next word is this number.
+fn is_next(words: &mut SplitWhitespace, wanted: u32) -> bool {
+    words.next().unwrap_or("").parse() == Ok(wanted)
+}
+
+// Whether a text has a version and its state: of each segment 1 where it is closed, else 0, and its height; then the
+// rating of each span.
+fn are_told(network: &Network, version: u32, state: &State, text: &str) -> bool
     requires { AreOf network.now state.now }
 {
-    let mut all = format!(in alloc; "{version}:")?;
+    let mut words = text.split_whitespace();
+    let mut told = is_next(&mut words, version);
     for i in 0..network.segments() {
         let values = state.segment(i);
-        let text = format!(in alloc; " [{} {}]", values.closed, values.height)?;
-        all.push_str(text.as_str())?;
+        told &= is_next(&mut words, u32::from(values.closed));
+        told &= is_next(&mut words, values.height);
     }
     for i in 0..network.spans() {
-        let text = format!(in alloc; " {}", state.rating(i))?;
-        all.push_str(text.as_str())?;
+        told &= is_next(&mut words, state.rating(i));
     }
-    Ok(all)
+    told && words.next().is_none()
 }
 
 // What no posting has changed.
-const BASE: &str = "0: [false 999] [false 999] 1000 900 800";
+const BASE: &str = "0 0 999 0 999 1000 900 800";
 
 // Postings, what answers each, and what is in force then.
 const POSTINGS: &str = "\
-height,0,168/1/1: [false 168] [false 999] 1000 900 800
-height,0,0/0/1: [false 168] [false 999] 1000 900 800
-height,0,1000/0/1: [false 168] [false 999] 1000 900 800
-height,2,168/0/1: [false 168] [false 999] 1000 900 800
-rating,1,750/2/2: [false 168] [false 999] 1000 750 800
-rating,1,100001/0/2: [false 168] [false 999] 1000 750 800
-rating,3,750/0/2: [false 168] [false 999] 1000 750 800
-closed,1,1/3/3: [false 168] [true 999] 1000 750 800
-closed,2,1/0/3: [false 168] [true 999] 1000 750 800
-rating,2,0/4/4: [false 168] [true 999] 1000 750 0
-closed,1,0/5/5: [false 168] [false 999] 1000 750 0
-closed,1,0/6/6: [false 168] [false 999] 1000 750 0
+height,0,168/1/1 0 168 0 999 1000 900 800
+height,0,0/0/1 0 168 0 999 1000 900 800
+height,0,1000/0/1 0 168 0 999 1000 900 800
+height,2,168/0/1 0 168 0 999 1000 900 800
+rating,1,750/2/2 0 168 0 999 1000 750 800
+rating,1,100001/0/2 0 168 0 999 1000 750 800
+rating,3,750/0/2 0 168 0 999 1000 750 800
+closed,1,1/3/3 0 168 1 999 1000 750 800
+closed,2,1/0/3 0 168 1 999 1000 750 800
+rating,2,0/4/4 0 168 1 999 1000 750 0
+closed,1,0/5/5 0 168 0 999 1000 750 0
+closed,1,0/6/6 0 168 0 999 1000 750 0
 ";
-
-// Whether a version and its state are what a text says.
-fn check_told(
-    rt: &impl Abort,
-    alloc: Global,
-    network: &Network,
-    version: u32,
-    state: &State,
-    wanted: &str,
-) -> Result<(), Fail>
-    requires { AreOf network.now state.now }
-{
-    let all = told(alloc, network, version, state)?;
-    assert_eq!(rt; all.as_str(), wanted);
-    Ok(())
-}
 
 // The number of the new version, or the refusal, of which `Range` is 0.
 fn number_of(answer: Result<u32, PostRefusal>) -> u32 {
@@ -148,14 +139,7 @@ fn post(network: &Network, store: &mut Store, change: Change, in_two_steps: bool
 }
 
 // Posts what a line says, and compares what is in force then.
-fn post_line(
-    rt: &impl Abort,
-    alloc: Global,
-    network: &Network,
-    store: &mut Store,
-    line: &str,
-    in_two_steps: bool,
-) -> Result<(), Fail>
+fn post_line(rt: &impl Abort, network: &Network, store: &mut Store, line: &str, in_two_steps: bool)
     requires { network.now ≡ store.old.roads }
     ensures { store.new.roads ≡ store.old.roads }
 {
@@ -163,27 +147,19 @@ fn post_line(
     let change = posted(parts.next().unwrap_or(""));
     let wanted = number(parts.next().unwrap_or(""));
     let version = post(network, store, change, in_two_steps);
-    assert_eq!(rt; version, wanted, "{line}");
     let text = parts.next().unwrap_or("");
-    check_told(rt, alloc, network, store.version(), store.now(), text)
+    let told = are_told(network, store.version(), store.now(), text);
+    assert!(rt; version == wanted, "{line}: {version}");
+    assert!(rt; told, "{line}");
 }
 
-// Posts each line, and compares what a snapshot says that was taken before all of them.
-fn post_each(
-    rt: &impl Abort,
-    alloc: Global,
-    network: &Network,
-    store: &mut Store,
-    in_two_steps: bool,
-) -> Result<(), Fail>
+fn post_each(rt: &impl Abort, network: &Network, store: &mut Store, in_two_steps: bool)
     requires { network.now ≡ store.old.roads }
     ensures { store.new.roads ≡ store.old.roads }
 {
-    let first = store.snapshot()?;
     for line in POSTINGS.lines() {
-        post_line(rt, alloc, network, store, line, in_two_steps)?;
+        post_line(rt, network, store, line, in_two_steps);
     }
-    check_told(rt, alloc, network, first.version(), first.state(), BASE)
 }
 
 // Whether a posting above a number named the segment: numbers 1 and 4 name segment 0, the second by its span 2, and the
@@ -200,28 +176,48 @@ const CHANGED: [(u32, u32, bool); 9] = [
     (1, 6, false),
 ];
 
-// Posts to a new store, and asks what changed.
-fn check_store(rt: &impl Abort, alloc: Global, in_two_steps: bool) -> Result<(), Fail> {
-    let network = roads(rt, alloc);
-    let mut store = Store::start(alloc, &network)?;
-    post_each(rt, alloc, &network, &mut store, in_two_steps)?;
-    for (segment, after, changed) in CHANGED {
+fn ask_each(rt: &impl Abort, network: &Network, store: &Store, rows: &[(u32, u32, bool)])
+    requires { network.now ≡ store.now.roads }
+{
+    for &(segment, after, changed) in rows {
         assert!(rt; segment < network.segments());
-        assert_eq!(rt;
-            store.changed(&network, segment, after),
-            changed,
-            "{segment} {after}"
-        );
+        let found = store.changed(network, segment, after);
+        assert_eq!(rt; found, changed, "{segment} {after}");
     }
+}
+
+// Posts to a new store, asks what changed, and compares what a snapshot says that was taken before all postings.
+fn check_store(
+    rt: &impl Abort,
+    alloc: Global,
+    network: &Network,
+    in_two_steps: bool,
+) -> Result<(), Fail> {
+    let mut store = Store::start(alloc, network)?;
+    let first = store.snapshot();
+    post_each(rt, network, &mut store, in_two_steps);
+    ask_each(rt, network, &store, &CHANGED);
+    drop(store);
+    let first = first?;
+    let told = are_told(network, first.version(), first.state(), BASE);
+    drop(first);
+    assert!(rt; told);
     Ok(())
+}
+
+fn check_over_roads(rt: &impl Abort, alloc: Global, in_two_steps: bool) -> Result<(), Fail> {
+    let network = roads(rt, alloc);
+    let checked = check_store(rt, alloc, &network, in_two_steps);
+    drop(network);
+    checked
 }
 
 #[test]
 fn leaves_a_snapshot_as_it_was(rt: HostRuntime) -> Result<(), Fail> {
-    check_store(&rt, rt.alloc(), false)
+    check_over_roads(&rt, rt.alloc(), false)
 }
 
 #[test]
 fn posts_the_same_in_two_steps(rt: HostRuntime) -> Result<(), Fail> {
-    check_store(&rt, rt.alloc(), true)
+    check_over_roads(&rt, rt.alloc(), true)
 }
