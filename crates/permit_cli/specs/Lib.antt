@@ -1,5 +1,4 @@
+pub mod Headline
 pub mod Tasks
-pub mod Days
-pub mod Serving
 pub mod Outputs
 pub mod Runs

@@ -195,3 +195,27 @@ pub(crate) const DAYS: [(&str, &str); 9] = [
          end 2\n",
     ),
 ];
+
+/// A day of two actors on the same road: one applies for a load as high as the road's posting, the other posts an inch less.
+pub(crate) const MEETING: &str = "\
+    day,2026-03-02,,,,,,\n\
+    node,A,,,,,,\n\
+    node,B,,,,,,\n\
+    segment,S1,A,B,5000,,,\n\
+    limit,S1,height,168,,,,\n\
+    truck,T1,ACME,168,102,720,0:12000 180:17000 228:17000,\n\
+    actor,ann,,,,,,\n\
+    actor,eng,,,,,,\n\
+    apply,ann,T1,A,B,,2026-03-02,2026-03-06\n\
+    post,eng,S1,height,167,,,\n\
+    end,,,,,,,\n";
+
+/// Its journal, where the posting comes between what the first found and its submit.
+pub(crate) const MET: &str = "\
+    permit-journal 1\n\
+    1 snapshot = at 0\n\
+    2 post segment 1 height 167 = posted 1 recalled -\n\
+    1 submit truck 1 from 1 to 2 asked none days 2026-03-02 2026-03-06 seen 0 route 1 = outdated 1 fails segment 1 height 168 over 167\n\
+    1 snapshot = at 1\n\
+    1 submit truck 1 from 1 to 2 asked none days 2026-03-02 2026-03-06 seen 1 cut 1 = refused 1 segment 1 height 168 over 167\n\
+    end 5\n";

@@ -5,11 +5,11 @@
 mod days;
 mod output;
 mod run;
-mod serving;
 mod task;
 #[cfg(test)]
 mod tests;
 
+use analyst_pool::OpenGate;
 use office_io::{StdSink, StdSource};
 use run::{refuse_words, run};
 use std::alloc::AllocFailed;
@@ -23,7 +23,7 @@ fn main(rt: HostRuntime) -> ExitCode {
     let mut source = StdSource::new(rt.stdin());
     let mut sink = StdSink::new(rt.stdout());
     let status = match words_of(&rt) {
-        Ok(words) => run(&rt, words.as_slice(), &mut source, &mut sink),
+        Ok(words) => run(&rt, words.as_slice(), &mut source, &mut sink, &OpenGate),
         Err(WordsRefusal::NotText) => refuse_words(&mut sink),
         Err(WordsRefusal::NoMemory) => 7,
     };

@@ -1,17 +1,18 @@
 // What a task writes for the bytes that it reads.
 
 ghost use Rattle.std.specs.Prelude.{◌≡◌, IfOk, IsErrOf, OnOk, true, false};
-ghost use Rattle.permit_cli.specs.Outputs.{IsJournalOn, IsOnlyOutputOf, IsOutputOf, IsReportOn, takes};
+ghost use Rattle.permit_cli.specs.Outputs.{IsOnlyOutputOf, IsOutputOf, takes};
 ghost use Rattle.permit_cli.specs.declared.task.Task.TheVariants as task;
 
-use crate::serving::serve;
-use crate::task::Task;
-use analyst_pool::runs_are_one;
+use analyst_pool::Gate;
 use check_report::report;
+use day_run::{lone_actors_are_one, serve};
 use day_text::{DayFileRefusal, read_check, read_day};
 use journal_text::print;
 use office_io::NoMemory;
 use std::alloc::Global;
+use std::sync::Wait;
+use std::thread::Threads;
 use thiserror::Error;
 
 /// Why a task writes nothing for some bytes.
@@ -48,25 +49,9 @@ impl From<NoMemory> for OutputRefusal {
     }
 }
 
-/// What the task writes for the bytes, whatever they are: for `check` the report on the check file that they are, and for
-/// `day` the journal of one legal history, whose entries are those of the commands of the day file that they are, carried out
-/// one after another.
-/// `Refused` comes exactly where they are no such file.
-pub fn output(alloc: Global, task: Task, bytes: &[u8]) -> Result<Vec<u8>, OutputRefusal>
-    ensures promise { IfOk result (λ text. IsOutputOf task bytes.now text.items) }
-    ensures only { IfOk result (λ text. IsOnlyOutputOf task bytes.now text.items) }
-    ensures taken { OnOk result (takes task bytes.now ≡ true) }
-    ensures refused { IsErrOf result OutputRefusal.Refused → takes task bytes.now ≡ false }
-{
-    match task {
-        Task::Check => check(alloc, bytes),
-        Task::Day => day(alloc, bytes),
-    }
-}
-
-// The report on a check file.
-fn check(alloc: Global, bytes: &[u8]) -> Result<Vec<u8>, OutputRefusal>
-    ensures promise { IfOk result (λ text. IsReportOn bytes.now text.items) }
+/// The report on the check file that the bytes are. `Refused` comes exactly where they are none.
+pub fn check(alloc: Global, bytes: &[u8]) -> Result<Vec<u8>, OutputRefusal>
+    ensures promise { IfOk result (λ text. IsOutputOf task.Check bytes.now text.items) }
     ensures only { IfOk result (λ text. IsOnlyOutputOf task.Check bytes.now text.items) }
     ensures taken { OnOk result (takes task.Check bytes.now ≡ true) }
     ensures refused { IsErrOf result OutputRefusal.Refused → takes task.Check bytes.now ≡ false }
@@ -76,17 +61,25 @@ fn check(alloc: Global, bytes: &[u8]) -> Result<Vec<u8>, OutputRefusal>
     Ok(text.into_bytes())
 }
 
-// The journal of a day.
-fn day(alloc: Global, bytes: &[u8]) -> Result<Vec<u8>, OutputRefusal>
-    ensures promise { IfOk result (λ text. IsJournalOn bytes.now text.items) }
+/// The journal of the day file that the bytes are: of an office whose actors carried out their commands, each on a thread of
+/// its own. The gate is told how far each actor is. `Refused` comes exactly where the bytes are no day file.
+///
+/// It waits until all actors are done.
+pub fn day<R: Threads + Wait + AllocGlobal + Sync, G: Gate + Sync>(
+    rt: &R,
+    bytes: &[u8],
+    gate: &G,
+) -> Result<Vec<u8>, OutputRefusal>
+    ensures promise { IfOk result (λ text. IsOutputOf task.Day bytes.now text.items) }
     ensures only { IfOk result (λ text. IsOnlyOutputOf task.Day bytes.now text.items) }
     ensures taken { OnOk result (takes task.Day bytes.now ≡ true) }
     ensures refused { IsErrOf result OutputRefusal.Refused → takes task.Day bytes.now ≡ false }
 {
+    let alloc = rt.alloc();
     let file = read_day(alloc, bytes)?;
-    let office = serve(alloc, file)?;
-    // the law by which no other history serves the day
-    runs_are_one();
+    let office = serve(rt, file, gate)?;
+    // the law by which no other history serves a day of one actor
+    lone_actors_are_one();
     let text = print(alloc, office.history())?;
     Ok(text)
 }

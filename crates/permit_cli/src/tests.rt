@@ -1,7 +1,11 @@
-use crate::days::DAYS;
+use crate::days::{DAYS, MEETING, MET};
 use crate::run::{Alone, run, run_alone};
+use analyst_pool::{Gate, OpenGate};
 use office_io::{MemorySink, MemorySource};
+use std::sync::Wait;
+use std::sync::atomic::{AtomicU64, Ordering};
 use std::test::Fail;
+use std::thread::{Threads, yield_now};
 
 const FHWA: &str =
     "truck,FHWA,ACME,162,102,720,0:12000 192:17000 240:17000 564:17000 612:17000,\nend,,,,,,,\n";
@@ -16,12 +20,24 @@ struct Ran {
 }
 
 // Runs the words over an input, of which some reads fail, and a sink of which some writes fail.
-fn run_words(
-    rt: &HostRuntime,
+fn run_words<R: Threads + Wait + AllocGlobal + Sync>(
+    rt: &R,
     words: &[&str],
     input: &[u8],
     reads: &[u32],
     writes: &[u32],
+) -> Result<Ran, Fail> {
+    run_at(rt, words, input, reads, writes, &OpenGate)
+}
+
+// The same with a gate of the actors.
+fn run_at<R: Threads + Wait + AllocGlobal + Sync, G: Gate + Sync>(
+    rt: &R,
+    words: &[&str],
+    input: &[u8],
+    reads: &[u32],
+    writes: &[u32],
+    gate: &G,
 ) -> Result<Ran, Fail> {
     let mut list = Vec::new(rt.alloc());
     for word in words {
@@ -29,7 +45,7 @@ fn run_words(
     }
     let mut source = MemorySource::new(input.to_vec(rt.alloc())?, reads.to_vec(rt.alloc())?);
     let mut sink = MemorySink::new(rt.alloc(), 100_000, writes.to_vec(rt.alloc())?)?;
-    let status = run(rt, list.as_slice(), &mut source, &mut sink);
+    let status = run(rt, list.as_slice(), &mut source, &mut sink, gate);
     Ok(Ran {
         status,
         text: sink.bytes().to_vec(rt.alloc())?,
@@ -130,5 +146,104 @@ fn leaves_a_day_alone(rt: HostRuntime) -> Result<(), Fail> {
     let mut sink = MemorySink::new(rt.alloc(), 10, Vec::new(rt.alloc()))?;
     assert_eq!(rt; run_alone(&rt, &words, &mut source, &mut sink), Alone::Day);
     assert!(rt; sink.bytes().is_empty());
+    Ok(())
+}
+
+// A gate at which the second actor waits, ahead of its command, until the first has found what to propose, and the first,
+// ahead of its submit, until the second has its reply. A wait that is too long marks the gate.
+#[derive(Drop)]
+struct Meeting {
+    found: AtomicU64,
+    answered: AtomicU64,
+    failed: AtomicU64,
+}
+
+impl Meeting {
+    fn wait_for(&self, told: &AtomicU64) {
+        for _ in 0..100_000_000u64 {
+            if told.load(Ordering::SeqCst) > 0 {
+                return;
+            }
+            yield_now();
+        }
+        self.failed.store(1, Ordering::SeqCst);
+    }
+}
+
+impl Gate for Meeting {
+    fn before(&self, actor: u32, _command: u32) {
+        if actor == 1 {
+            self.wait_for(&self.found);
+        }
+    }
+
+    fn between(&self, actor: u32, _command: u32, _attempt: u32) {
+        if actor == 0 {
+            self.found.store(1, Ordering::SeqCst);
+            self.wait_for(&self.answered);
+        }
+    }
+
+    fn answered(&self, actor: u32, _command: u32) {
+        if actor == 1 {
+            self.answered.store(1, Ordering::SeqCst);
+        }
+    }
+}
+
+// Another posts between what an actor finds and its submit, which only actors at work at once can come to.
+#[test]
+fn posts_while_another_analyses(rt: HostRuntime) -> Result<(), Fail> {
+    let gate = Meeting {
+        found: AtomicU64::new(0),
+        answered: AtomicU64::new(0),
+        failed: AtomicU64::new(0),
+    };
+    let ran = run_at(&rt, &["day"], MEETING.as_bytes(), &[], &[], &gate)?;
+    assert_eq!(rt; ran.status, 0);
+    assert_eq!(rt; gate.failed.load(Ordering::SeqCst), 0);
+    assert_eq!(rt; ran.text.as_slice(), MET.as_bytes());
+    Ok(())
+}
+
+// How often a line stands in a text.
+fn lines_like(text: &[u8], wanted: &str) -> usize {
+    let mut count = 0;
+    for line in text.split(|byte| *byte == b'\n') {
+        if line == wanted.as_bytes() {
+            count += 1;
+        }
+    }
+    count
+}
+
+// Sixteen actors, of whom the odd ones ask for a permit that nobody has and the others ask for nothing; and no actor at all.
+#[test]
+fn runs_sixteen_actors_and_none(rt: HostRuntime) -> Result<(), Fail> {
+    let alloc = rt.alloc();
+    let mut input = "day,2026-03-02,,,,,,\n".to_string(alloc)?;
+    for actor in 1..17u32 {
+        input.push_str(format!(in alloc; "actor,a{actor},,,,,,\n")?.as_str())?;
+    }
+    for actor in 0..8u32 {
+        let odd = 2 * actor + 1;
+        input.push_str(format!(in alloc; "show,a{odd},0,,,,,\n")?.as_str())?;
+    }
+    input.push_str("end,,,,,,,\n")?;
+    let ran = run_words(&rt, &["day"], input.as_bytes(), &[], &[])?;
+    assert_eq!(rt; ran.status, 0);
+    for actor in 0..8u32 {
+        let odd = 2 * actor + 1;
+        let line = format!(in alloc; "{odd} show 0 = unknown")?;
+        assert_eq!(rt; lines_like(&ran.text, line.as_str()), 1, "{line}");
+    }
+    assert_eq!(rt; lines_like(&ran.text, "end 8"), 1);
+    let none = "day,2026-03-02,,,,,,\nend,,,,,,,\n";
+    let ran = run_words(&rt, &["day"], none.as_bytes(), &[], &[])?;
+    assert_eq!(rt; ran.status, 0);
+    assert_eq!(rt;
+        ran.text.as_slice(),
+        b"permit-journal 1\nend 0\n".as_slice()
+    );
     Ok(())
 }

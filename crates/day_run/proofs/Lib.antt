@@ -1,0 +1,6 @@
+mod Lists
+mod Crossing
+mod Fresh
+mod Callers
+mod Scripts
+mod Histories

@@ -1,0 +1,92 @@
+// The actors of a day at their desk.
+
+ghost use Rattle.std.specs.Prelude.{◌≡◌, ◌+◌, ◌<◌, ◌≤◌, [], length, vec_len, vec_capacity, IfOk};
+ghost use Rattle.office_turn.specs.Told.{opening_root};
+ghost use Rattle.office_desk.specs.Desks.{terms_in};
+ghost use Rattle.day_run.specs.declared.ended.Ended.TheVariants as ended;
+ghost use Rattle.day_run.specs.Workers.{AreAt, AreDoneFrom, AreFresh, AreReceivedFrom, AreShort, AreSound, HaveRun, OneIsFull};
+
+use crate::ended::Ended;
+use analyst_pool::{Gate, Worker, run_actors};
+use office_core::Command;
+use office_desk::{Desk, Root, Seat};
+use office_io::NoMemory;
+use std::sync::Wait;
+use std::thread::Threads;
+use trip_analysis::Base;
+
+/// An actor with its script and its seat at the desk.
+type Actor<'a, R> = Worker<Seat<'a, R>>;
+
+/// Admits a pass for each script, has the actors carry out their scripts, all at once, and takes the passes in.
+pub(crate) fn work_all<R: Threads + Wait + AllocGlobal + Sync, G: Gate + Sync>(
+    rt: &R,
+    desk: &Desk,
+    root: &mut Root,
+    base: &Base,
+    scripts: Vec<Vec<Command>>,
+    gate: &G,
+) -> Result<Ended, NoMemory>
+    requires root { root.old ≡ opening_root desk.now }
+    requires base { (terms_in desk.now).0 ≡ base.now }
+    requires sound { AreSound base.now scripts.items }
+    requires short { AreShort scripts.items }
+    requires few { vec_len scripts < 65536 }
+    ensures lock { root.new.lock ≡ desk.now }
+    ensures admitted { IfOk result (λ _. root.new.admitted ≡ vec_len scripts) }
+    ensures joined { IfOk result (λ _. length root.new.receipts ≡ vec_len scripts) }
+    ensures run { IfOk result (HaveRun desk.now root.new.receipts scripts.items) }
+{
+    let alloc = rt.alloc();
+    let mut workers: Vec<Actor<'_, R>> = Vec::with_capacity(alloc, scripts.len())?;
+    admit_all(rt, desk, root, scripts, &mut workers);
+    run_actors(rt, alloc, base, &mut workers, gate);
+    Ok(take_all(desk, root, workers))
+}
+
+// Admits a pass for each script, in their order. There is room for the workers.
+fn admit_all<'a, R: Wait>(
+    rt: &'a R,
+    desk: &'a Desk,
+    root: &mut Root,
+    scripts: Vec<Vec<Command>>,
+    workers: &mut Vec<Actor<'a, R>>,
+)
+    requires root { root.old ≡ opening_root desk.now }
+    requires none { workers.old.items ≡ [] }
+    requires room { vec_len scripts ≤ vec_capacity workers.old }
+    requires few { vec_len scripts < 65536 }
+    requires short { AreShort scripts.items }
+    ensures lock { root.new.lock ≡ desk.now }
+    ensures admitted { root.new.admitted ≡ vec_len scripts }
+    ensures joined { root.new.receipts ≡ [] }
+    ensures count { length workers.new.items ≡ vec_len scripts }
+    ensures fresh { AreFresh (λ s. s.pass) desk.now scripts.items workers.new.items }
+{
+    let mut number = 0;
+    for script in scripts {
+        let pass = desk.admit(root);
+        workers.push_reserved(Worker::new(Seat::new(rt, desk, pass), number, script));
+        number += 1;
+    }
+}
+
+// Takes all passes in, and tells how their actors ended.
+fn take_all<'a, R: Wait>(desk: &'a Desk, root: &mut Root, mut workers: Vec<Actor<'a, R>>) -> Ended
+    requires lock { root.old.lock ≡ desk.now }
+    requires passes { AreAt (λ s. s.pass) desk.now workers.items }
+    ensures lock { root.new.lock ≡ desk.now }
+    ensures admitted { root.new.admitted ≡ root.old.admitted }
+    ensures joined { length root.new.receipts ≡ length root.old.receipts + vec_len workers.entry }
+    ensures received { AreReceivedFrom (λ s. s.pass) 0 root.new.receipts workers.entry.items }
+    ensures done { result ≡ ended.Done → AreDoneFrom 0 workers.entry.items }
+    ensures full { result ≡ ended.Full → OneIsFull workers.entry.items }
+{
+    let mut ended = Ended::Done;
+    while let Some(worker) = workers.pop() {
+        ended = ended.and(worker.outcome());
+        desk.leave(root, worker.into_calls().into_pass());
+    }
+    workers.destroy_empty();
+    ended
+}

@@ -1,6 +1,0 @@
-use Rattle.std.proofs.Common.{IfSome, take}
-use Rattle.permit_cli.specs.Serving.{FollowsOffice, HasServed}
-use Rattle.permit_cli.proofs.serving.carry_out_all.Given as goal
-
-abbrev pub invariant-orders : goal.invariant-orders
-invariant-orders l = HasServed l.fn.office l.office (take l.i l.orders) × IfSome l.analyst (FollowsOffice l.office)
