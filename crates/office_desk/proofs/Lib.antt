@@ -1,2 +1,3 @@
 pub mod Turns
 pub mod Looking
+pub mod Crosses

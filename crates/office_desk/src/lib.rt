@@ -10,6 +10,9 @@
 //! that its pass has seen, and that the office which comes back at the end has those entries and no others: what the
 //! passes that left say that they added, each once and in order. How threads take turns is the promise of the lock, and
 //! what a step answers is that of the office. Nothing is said of waiting: not that a turn ever comes, nor when.
+//!
+//! A desk may be shared by threads, and a pass or a seat may go to one. An office has too many parts for a search to find
+//! that by itself, so a call that starts threads cites `desk_sync`, `pass_send` or `seat_send` of `proofs/Crosses.antt`.
 #![tactic(auto)]
 
 mod desk;
@@ -19,3 +22,6 @@ mod seat;
 pub use desk::{Desk, Pass, Root};
 pub use desked::Desked;
 pub use seat::Seat;
+
+#[cfg(test)]
+mod tests;
