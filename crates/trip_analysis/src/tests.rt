@@ -7,7 +7,7 @@ ghost use Rattle.trip_analysis.specs.Followers.{GoesOn, followed};
 ghost use Rattle.trip_analysis.specs.Known.{AreKnown};
 
 use crate::{
-    Analyst, Application, ApplicationRefusal, Base, Failing, Follower, Truck, What,
+    Analyst, Application, ApplicationRefusal, Base, Failing, Follower, Proposal, Truck, What,
     asked_findings_are_of_the_route, failing_limit, find, findings_hold, first_meeting_out,
     first_on, free_findings_are_of_walks, next_leaving, routes_break_off_where_walks_do,
 };
@@ -23,6 +23,9 @@ use std::marker::Brand;
 use std::process::Abort;
 use std::sync::ledger::{Blank, Ledger};
 use std::test::Fail;
+
+// What was built is let go by a call of `drop`: where a scope lets it go, the proof of the whole function goes through
+// its parts.
 
 // A name of these bytes, which are one.
 fn named(rt: &impl Abort, bytes: &[u8]) -> Name {
@@ -150,7 +153,10 @@ const ANSWERS: &str = "\
 
 // Compares what a line says at its end.
 fn check_text(rt: &impl Abort, text: &str, line: &str) {
-    assert_eq!(rt; text, line.rsplit('/').next().unwrap_or(""), "{line}");
+    assert!(rt;
+        text == line.rsplit('/').next().unwrap_or(""),
+        "{line}: {text}"
+    );
 }
 
 // Compares an answer with what a line says at its end.
@@ -179,16 +185,19 @@ fn ask_each(rt: &impl Abort, alloc: Global, base: &Base) -> Result<(), Fail> {
 #[test]
 fn refuses_an_application_for_its_first_cause(rt: HostRuntime) -> Result<(), Fail> {
     let base = base(&rt, rt.alloc())?;
-    ask_each(&rt, rt.alloc(), &base)
+    let done = ask_each(&rt, rt.alloc(), &base);
+    drop(base);
+    done
 }
 
 // Whether these are the fields of the application of the test below.
 fn check_fields(rt: &impl Abort, a: &Application) {
     assert_eq!(rt; (a.truck(), a.from(), a.to()), (1, 0, 1));
-    assert!(rt;
-        a.asked()
-            .is_some_and(|route| route.as_slice() == [1, 2].as_slice())
-    );
+    let asked = match a.asked() {
+        Some(route) => route.as_slice(),
+        None => &[],
+    };
+    assert!(rt; asked.len() == 2 && asked[0] == 1 && asked[1] == 2);
     assert!(rt; a.first() == day(rt, "2026-03-02"));
     assert!(rt; a.last() == day(rt, "2026-03-05"));
 }
@@ -198,29 +207,49 @@ fn copy_fields(rt: &impl Abort, alloc: Global, base: &Base) -> Result<(), Fail> 
     let text = "1,0,1,1 2,2026-03-02,2026-03-05";
     let taken = applied(rt, alloc, base, text)?.expect(rt, "an application");
     check_fields(rt, &taken);
-    check_fields(rt, &taken.try_clone(alloc)?);
+    let copy = taken.try_clone(alloc);
+    drop(taken);
+    let copy = copy?;
+    check_fields(rt, &copy);
+    drop(copy);
     Ok(())
 }
 
 #[test]
 fn keeps_what_is_asked_for(rt: HostRuntime) -> Result<(), Fail> {
     let base = base(&rt, rt.alloc())?;
-    copy_fields(&rt, rt.alloc(), &base)
+    let done = copy_fields(&rt, rt.alloc(), &base);
+    drop(base);
+    done
 }
 
-// The state of the roads where the segments of a text are posted at 167 in, an inch less than truck 0 is high.
+// The state in which one more segment is posted at 167 in, an inch less than truck 0 is high.
+fn lower(
+    rt: &impl Abort,
+    alloc: Global,
+    network: &Network,
+    state: &State,
+    segment: u32,
+) -> Result<State, Fail>
+    requires { AreOf network.now state.now }
+    ensures { IfOk result (λ state. AreOf network.now state) }
+{
+    let change = Change::Height {
+        segment,
+        inches: 167,
+    };
+    assert!(rt; takes(network, &change));
+    Ok(state.with(alloc, &change)?)
+}
+
+// The state of the roads where the segments of a text are posted so.
 fn lowered(rt: &impl Abort, alloc: Global, network: &Network, text: &str) -> Result<State, Fail>
     ensures { IfOk result (λ state. AreOf network.now state) }
 {
     let mut state = State::base(alloc, network)?;
     assert!(rt; network.segments() == 3);
     'low: for part in text.split_whitespace() {
-        let change = Change::Height {
-            segment: number(part),
-            inches: 167,
-        };
-        assert!(rt; takes(network, &change));
-        state = state.with(alloc, &change)?;
+        state = lower(rt, alloc, network, &state, number(part))?;
     }
     Ok(state)
 }
@@ -265,8 +294,13 @@ fn find_line(rt: &impl Abort, alloc: Global, base: &Base, line: &str) -> Result<
     let low = parts.next().unwrap_or("");
     let application = applied(rt, alloc, base, text)?.expect(rt, "an application");
     let state = lowered(rt, alloc, base.network(), low)?;
-    let what = find(alloc, base, &state, &application)?;
-    check_found(rt, alloc, &what, line)
+    let what = find(alloc, base, &state, &application);
+    drop(state);
+    drop(application);
+    let what = what?;
+    let checked = check_found(rt, alloc, &what, line);
+    drop(what);
+    checked
 }
 
 fn find_each(rt: &impl Abort, alloc: Global, base: &Base) -> Result<(), Fail> {
@@ -279,7 +313,9 @@ fn find_each(rt: &impl Abort, alloc: Global, base: &Base) -> Result<(), Fail> {
 #[test]
 fn finds_a_route_or_why_there_is_none(rt: HostRuntime) -> Result<(), Fail> {
     let base = base(&rt, rt.alloc())?;
-    find_each(&rt, rt.alloc(), &base)
+    let done = find_each(&rt, rt.alloc(), &base);
+    drop(base);
+    done
 }
 
 // What is posted, what is asked for then, the version, and what is found, one after another. At twice the HS20-44 truck the
@@ -331,8 +367,30 @@ struct Turned {
     analyst: Analyst,
 }
 
-// Goes on by each of the changes of a text.
+// Goes on by the change of a text.
 #[tactic(auto, using(restriction_log::proofs::Standing::stays_of, restriction_log::proofs::Standing::named_of))]
+fn turn_by<L: Ledger>(
+    rt: &impl Abort,
+    alloc: Global,
+    base: &Base,
+    turned: &mut Turned,
+    text: &str,
+    steps: &mut Steps<L>,
+)
+    requires state { AreOf base.now.roads turned.old.state }
+    requires known { AreKnown base.now turned.old.state turned.old.analyst }
+    ensures state { AreOf base.now.roads turned.new.state }
+    ensures known { AreKnown base.now turned.new.state turned.new.analyst }
+{
+    let change = posted(text);
+    assert!(rt; takes(base.network(), &change));
+    let next = turned.state.with(alloc, &change).expect(rt, "memory");
+    let state = &turned.state;
+    turned.analyst.turn(base, state, &next, &change, steps);
+    turned.state = next;
+}
+
+// Goes on by each of the changes of a text.
 fn turn_each<L: Ledger>(
     rt: &impl Abort,
     alloc: Global,
@@ -340,21 +398,15 @@ fn turn_each<L: Ledger>(
     turned: &mut Turned,
     text: &str,
     steps: &mut Steps<L>,
-) -> Result<(), Fail>
+)
     requires state { AreOf base.now.roads turned.old.state }
     requires known { AreKnown base.now turned.old.state turned.old.analyst }
-    ensures state { IfOk result (λ _. AreOf base.now.roads turned.new.state) }
-    ensures known { IfOk result (λ _. AreKnown base.now turned.new.state turned.new.analyst) }
+    ensures state { AreOf base.now.roads turned.new.state }
+    ensures known { AreKnown base.now turned.new.state turned.new.analyst }
 {
     'postings: for text in text.split_whitespace() {
-        let change = posted(text);
-        assert!(rt; takes(base.network(), &change));
-        let next = turned.state.with(alloc, &change)?;
-        let state = &turned.state;
-        turned.analyst.turn(base, state, &next, &change, steps);
-        turned.state = next;
+        turn_by(rt, alloc, base, turned, text, steps);
     }
-    Ok(())
 }
 
 // Goes on by what a line says, and compares what is found then.
@@ -372,12 +424,16 @@ fn turn_line<L: Ledger>(
     ensures known { IfOk result (λ _. AreKnown base.now turned.new.state turned.new.analyst) }
 {
     let mut parts = line.split('/');
-    turn_each(rt, alloc, base, turned, parts.next().unwrap_or(""), steps)?;
+    turn_each(rt, alloc, base, turned, parts.next().unwrap_or(""), steps);
     let text = parts.next().unwrap_or("");
     let application = applied(rt, alloc, base, text)?.expect(rt, "an application");
     let state = &turned.state;
-    let what = turned.analyst.find(alloc, base, state, &application)?;
-    check_found(rt, alloc, &what, line)
+    let what = turned.analyst.find(alloc, base, state, &application);
+    drop(application);
+    let what = what?;
+    let checked = check_found(rt, alloc, &what, line);
+    drop(what);
+    checked
 }
 
 // An analyst who knows nothing yet.
@@ -421,13 +477,17 @@ fn turn_counted<L: Ledger>(
     requires some { 0 < blank.parts }
 {
     let mut turned = unturned(alloc, base)?;
-    turn_lines(rt, alloc, base, &mut turned, &mut Steps::<L>::new(blank))
+    let done = turn_lines(rt, alloc, base, &mut turned, &mut Steps::<L>::new(blank));
+    drop(turned);
+    done
 }
 
 #[test]
 fn goes_on_from_posting_to_posting(rt: HostRuntime) -> Result<(), Fail> {
     let base = base(&rt, rt.alloc())?;
-    turn_counted::<Brand>(&rt, rt.alloc(), &base, Blank::new(1))
+    let done = turn_counted::<Brand>(&rt, rt.alloc(), &base, Blank::new(1));
+    drop(base);
+    done
 }
 
 // Posts each of the changes of a text.
@@ -461,9 +521,14 @@ fn follow_line(
     post_each(rt, base.network(), store, parts.next().unwrap_or(""));
     let text = parts.next().unwrap_or("");
     let application = applied(rt, alloc, base, text)?.expect(rt, "an application");
-    let proposal = follower.analyse(alloc, base, store.snapshot()?, &application)?;
-    assert_eq!(rt; proposal.seen, number(parts.next().unwrap_or("")), "{line}");
-    check_found(rt, alloc, &proposal.what, line)
+    let snapshot = store.snapshot().expect(rt, "memory");
+    let proposal = follower.analyse(alloc, base, snapshot, &application);
+    drop(application);
+    let Proposal { seen, what } = proposal?;
+    let checked = check_found(rt, alloc, &what, line);
+    drop(what);
+    assert!(rt; seen == number(parts.next().unwrap_or("")), "{line}");
+    checked
 }
 
 // Follows a store over all lines.
@@ -487,15 +552,20 @@ fn follow_lines(
 
 // The same from the first version on.
 fn follow_store(rt: &impl Abort, alloc: Global, base: &Base) -> Result<(), Fail> {
-    let mut store = Store::start(alloc, base.network())?;
-    let mut follower = Follower::new(alloc, base)?;
-    follow_lines(rt, alloc, base, &mut store, &mut follower)
+    let mut store = Store::start(alloc, base.network()).expect(rt, "memory");
+    let mut follower = Follower::new(alloc, base).expect(rt, "memory");
+    let done = follow_lines(rt, alloc, base, &mut store, &mut follower);
+    drop(follower);
+    drop(store);
+    done
 }
 
 #[test]
 fn follows_a_store_from_version_to_version(rt: HostRuntime) -> Result<(), Fail> {
     let base = base(&rt, rt.alloc())?;
-    follow_store(&rt, rt.alloc(), &base)
+    let done = follow_store(&rt, rt.alloc(), &base);
+    drop(base);
+    done
 }
 
 // Whether the limit is that of segment 1, which at 167 in is too low for truck 0.
@@ -568,13 +638,16 @@ fn tell_both<L: Ledger>(rt: &impl Abort, base: &Base, state: &State, blank: Blan
 fn tell_lowered(rt: &impl Abort, alloc: Global, base: &Base) -> Result<(), Fail> {
     let state = lowered(rt, alloc, base.network(), "0 1")?;
     tell_both::<Brand>(rt, base, &state, Blank::new(1));
+    drop(state);
     Ok(())
 }
 
 #[test]
 fn tells_segments_that_fail_and_segments_that_leave(rt: HostRuntime) -> Result<(), Fail> {
     let base = base(&rt, rt.alloc())?;
-    tell_lowered(&rt, rt.alloc(), &base)
+    let done = tell_lowered(&rt, rt.alloc(), &base);
+    drop(base);
+    done
 }
 
 #[test]
