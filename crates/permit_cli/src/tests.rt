@@ -208,10 +208,10 @@ fn posts_while_another_analyses(rt: HostRuntime) -> Result<(), Fail> {
 
 // How often a line stands in a text.
 fn lines_like(text: &[u8], wanted: &str) -> usize {
-    let mut count = 0;
+    let mut count = 0_usize;
     for line in text.split(|byte| *byte == b'\n') {
         if line == wanted.as_bytes() {
-            count += 1;
+            count = count.wrapping_add(1);
         }
     }
     count
