@@ -53,7 +53,7 @@ office_send : IsSend Office.the_row
 office_send = search (view_send, declared_send, office_fields)
 
 pub desked_send : IsSend Desked.the_row
-desked_send = search (declared_send, office_send, tt)
+desked_send = search (declared_send, office_send, tt) depth 8
 
 abbrev terms_row : RattleType
 terms_row = Tuple (Base.the_row ∷ Day.the_row ∷ u32 ∷ [])
