@@ -4,7 +4,7 @@ ghost use Rattle.std.specs.Prelude.{◌≡◌, ◌+◌, ◌++◌, ◌∷◌, [],
 ghost use Rattle.csv.specs.Records.{fields_of};
 ghost use Rattle.day_text.specs.Spans.{AreSpans, IsSpan};
 ghost use Rattle.record_text.specs.Causes.{Judges, Tells};
-ghost use Rattle.day_text.specs.Checks.{check_of, ended_check, judge_check, judge_probe, judge_truck, probe_of, truck_of};
+ghost use Rattle.day_text.specs.Checks.{check_of, ended_check, is_check_kind, judge_check, judge_check_kind, judge_probe, judge_truck, probe_of, truck_of};
 
 use crate::refusal::DayFileRefusal;
 use crate::truck::{load_of, parse_truck};
@@ -121,14 +121,37 @@ impl Progress for CheckProgress {
     ghost judge = { judge_check };
 
     fn take(self, alloc: Global, row: &StringRecord) -> Result<CheckProgress, RecordRefusal> {
-        let kind = field(row, 0);
-        if kind != "truck" && kind != "probe" && kind != "end" {
-            return Err(RecordRefusal::bad(RecordCause::Kind));
+        if is_check_kind(row) {
+            take_kind(self, alloc, row)
+        } else {
+            drop(self);
+            Err(RecordRefusal::bad(RecordCause::Kind))
         }
-        match self {
-            CheckProgress::Start => take_truck(alloc, row),
-            CheckProgress::Open(file) => take_probe(file, row),
-            CheckProgress::Ended(_) => Err(RecordRefusal::bad(RecordCause::Order)),
+    }
+}
+
+// Whether the record is of a kind of this file.
+fn is_check_kind(row: &StringRecord) -> bool
+    ensures { result ≡ is_check_kind (fields_of row.now) }
+{
+    let kind = field(row, 0);
+    kind == "truck" || kind == "probe" || kind == "end"
+}
+
+// Where a record of a known kind leads.
+fn take_kind(
+    progress: CheckProgress,
+    alloc: Global,
+    row: &StringRecord,
+) -> Result<CheckProgress, RecordRefusal>
+    ensures { Judges result (judge_check_kind progress (fields_of row.now)) }
+{
+    match progress {
+        CheckProgress::Start => take_truck(alloc, row),
+        CheckProgress::Open(file) => take_probe(file, row),
+        CheckProgress::Ended(file) => {
+            drop(file);
+            Err(RecordRefusal::bad(RecordCause::Order))
         }
     }
 }

@@ -4,7 +4,7 @@ ghost use Rattle.std.specs.Prelude.{◌≡◌};
 ghost use Rattle.day_text.specs.Kinds.{command_kind_of, kind_of, road_kind_of};
 
 /// The kind of a record: its first field.
-#[derive(Clone, Copy, Debug, PartialEq, Eq)]
+#[derive(Clone, Copy)]
 pub(crate) enum RecordKind {
     Day,
     Road(RoadKind),
@@ -15,7 +15,7 @@ pub(crate) enum RecordKind {
 }
 
 /// What a record says of the road network.
-#[derive(Clone, Copy, Debug, PartialEq, Eq)]
+#[derive(Clone, Copy)]
 pub(crate) enum RoadKind {
     Node,
     Segment,
@@ -24,7 +24,7 @@ pub(crate) enum RoadKind {
 }
 
 /// What an actor has the office do.
-#[derive(Clone, Copy, Debug, PartialEq, Eq)]
+#[derive(Clone, Copy)]
 pub(crate) enum CommandKind {
     Apply,
     Post,

@@ -142,13 +142,17 @@ const EMPTY: &str = "day,2026-03-02,,,,,,\nend,,,,,,,\n";
 // The kinds of the commands of each actor, in order.
 type Scripts = &'static [&'static [u8]];
 
+fn is_script(rt: &impl Abort, script: &[Command], letters: &[u8]) {
+    same(rt, 0, &script.len(), &letters.len());
+    for (row, (command, wanted)) in script.iter().zip(letters).enumerate() {
+        same(rt, row, &letter(command), wanted);
+    }
+}
+
 fn are_scripts(rt: &impl Abort, scripts: &[Vec<Command>], wanted: Scripts) {
     same(rt, 0, &scripts.len(), &wanted.len());
-    for (script, letters) in scripts.iter().zip(wanted) {
-        same(rt, 0, &script.len(), &letters.len());
-        for (row, (command, wanted)) in script.iter().zip(*letters).enumerate() {
-            same(rt, row, &letter(command), wanted);
-        }
+    for (script, &letters) in scripts.iter().zip(wanted) {
+        is_script(rt, script.as_slice(), letters);
     }
 }
 
