@@ -26,7 +26,7 @@ def day_file(side, applications, analysts):
     rows += ["actor,a%d,,,,,," % i for i in range(analysts)]
     for i in range(applications):
         a, b = draw.sample(range(side * side), 2)
-        rows.append("apply,a%d,t,n%d,n%d,,2026-01-01,2026-12-31" % (i % analysts, a, b))
+        rows.append("apply,a%d,t,n%d,n%d,,2026-01-01,2026-12-28" % (i % analysts, a, b))
     return "\n".join(rows + ["end,,,,,,,", ""]).encode()
 
 
