@@ -34,7 +34,7 @@ first_less (x ∷ xs) (y ∷ ys) e h = by (nat_cmp x y) (ranked x y (nat_cmp x y
     by Greater more rest k = cc
 
 -- one year, month and day before another
-abbrev IsBefore : ℕ → ℕ → ℕ → ℕ → ℕ → ℕ → Type 0
+abbrev pub IsBefore : ℕ → ℕ → ℕ → ℕ → ℕ → ℕ → Type 0
 IsBefore y m d y' m' d' = (y < y') ⊎ ((y ≡ y') × ((m < m') ⊎ ((m ≡ m') × (d < d'))))
 
 not_both : (y m d y' m' d' : ℕ) → IsBefore y m d y' m' d' → IsBefore y' m' d' y m d → ⊥

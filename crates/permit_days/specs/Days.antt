@@ -1,9 +1,10 @@
 -- Days and their text, YYYY-MM-DD: the extended form of a calendar date in ISO 8601.
-use Rattle.std.specs.Prelude.{ℕ, ◌+◌, ◌-◌, ◌*◌, Bool, not, ◌&&◌, ◌==◌, nat_le, List, length, slice_index, slice_range, Result, Ok, Err, if◌then◌else◌}
+use Rattle.std.specs.Prelude.{ℕ, ◌+◌, ◌-◌, ◌*◌, ℤ, pos, Bool, not, ◌&&◌, ◌==◌, nat_le, List, length, slice_index, slice_range, Result, Ok, Err, if◌then◌else◌}
 use Rattle.std.specs.List.{list_all}
 use Rattle.std.specs.Char.{is_ascii_digit}
 use Rattle.std.specs.Cmp.Lexicographic.{slice_cmp}
 use Rattle.std.specs.Ordering.{is_lt, nat_cmp}
+use Rattle.jiff_core.specs.Calendar.{days_from_civil, days_in_month}
 use Rattle.permit_days.specs.declared.refusal.DayRefusal.{DayRefusal}
 use Rattle.permit_days.specs.declared.refusal.DayRefusal.TheVariants.{Shape, NoSuchDay}
 
@@ -31,14 +32,19 @@ month_of text = pair_at text 5
 abbrev pub day_of : List ℕ → ℕ
 day_of text = pair_at text 8
 
--- there is a day of this year, month and day of the month: a year from 1 on, twelve months, and 28 days in each, which every
--- month of the civil calendar has
+-- the civil calendar has a day of this year, month and day of the month: the years 1 to 9999 of the Gregorian calendar, which is
+-- also taken for the years before its introduction, twelve months, and each month's days
 abbrev pub is_day : ℕ → ℕ → ℕ → Bool
-is_day year month day = nat_le 1 year && nat_le 1 month && nat_le month 12 && nat_le 1 day && nat_le day 28
+is_day year month day =
+    nat_le 1 year && nat_le year 9999 && nat_le 1 month && nat_le month 12 && nat_le 1 day && nat_le day (days_in_month (pos year) month)
 
 -- the text of a day
 abbrev pub is_day_text : List ℕ → Bool
 is_day_text text = has_shape text && is_day (year_of text) (month_of text) (day_of text)
+
+-- the number of the day that a text writes: how many days it lies after 1 January 1970
+abbrev pub number_of : List ℕ → ℤ
+number_of text = days_from_civil (pos (year_of text)) (month_of text) (day_of text)
 
 -- the day that a text writes, or why it is none: its shape, or that there is no such day
 abbrev pub reading_of : List ℕ → Result (List ℕ) DayRefusal

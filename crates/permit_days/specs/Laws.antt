@@ -1,9 +1,9 @@
 -- Laws of days.
-use Rattle.std.specs.Prelude.{◌≡◌, ◌⊎◌, ◌↔◌, ℕ, ◌<◌, true, List, Ok}
+use Rattle.std.specs.Prelude.{◌≡◌, ◌⊎◌, ◌↔◌, ℕ, ◌<◌, ◌<ℤ◌, true, List, Ok}
 use Rattle.std.specs.declared.cmp.Ordering.TheVariants.{Less}
 use Rattle.std.specs.Ordering.{nat_cmp}
 use Rattle.std.specs.Cmp.Lexicographic.{slice_cmp}
-use Rattle.permit_days.specs.Days.{day_of, is_day_text, month_of, reading_of, year_of}
+use Rattle.permit_days.specs.Days.{day_of, is_day_text, month_of, number_of, reading_of, year_of}
 
 -- the text of a day is read as that day
 abbrev pub ReadsBack : Type 0
@@ -19,3 +19,9 @@ IsEarlier a b =
 abbrev pub AreOrderedByCalendar : Type 0
 AreOrderedByCalendar =
     (a b : List ℕ) → is_day_text a ≡ true → is_day_text b ≡ true → (slice_cmp nat_cmp a b ≡ Less) ↔ IsEarlier a b
+
+-- the order of the bytes is the order of the day numbers
+abbrev pub AreOrderedByNumber : Type 0
+AreOrderedByNumber =
+    (a b : List ℕ) → is_day_text a ≡ true → is_day_text b ≡ true
+    → (slice_cmp nat_cmp a b ≡ Less) ↔ (number_of a <ℤ number_of b)

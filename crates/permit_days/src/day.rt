@@ -1,9 +1,9 @@
 // A day.
 
 ghost use Rattle.std.specs.Prelude.{◌≡◌, Some, Ok, Err, true};
-ghost use Rattle.permit_days.specs.Days.{is_day_text, reading_of};
+ghost use Rattle.permit_days.specs.Days.{is_day_text, number_of, reading_of};
 
-use crate::calendar::{is_shaped, is_there};
+use crate::calendar::{is_shaped, is_there, number};
 use crate::refusal::DayRefusal;
 use std::cmp::Ordering;
 use std::hash::{Hash, Hasher};
@@ -52,6 +52,13 @@ impl Day {
         ensures day { is_day_text self ≡ true }
     {
         self.bytes
+    }
+
+    /// How many days it lies after 1970-01-01; negative before. Takes no memory.
+    pub fn number(self) -> i32
+        ensures { result ≡ number_of self }
+    {
+        number(&self.text())
     }
 }
 
