@@ -1,0 +1,4 @@
+pub mod Places
+pub mod Serving
+pub mod Resuming
+pub mod Ready
