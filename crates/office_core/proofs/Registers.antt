@@ -22,7 +22,7 @@ use Rattle.office_core.specs.Machine.{IsGood, Machine, machine_at, posted_reply,
 use Rattle.office_core.specs.Registers.{HeldAt, IsNext, IsRegister, RegisterParts, parts_of, posting_reply, recalls_of, state_now, stored_now}
 use Rattle.office_core.proofs.Founds.{found_in_range, holds_now}
 use Rattle.office_core.proofs.Goods.{good_entered, good_posted}
-use Rattle.office_core.proofs.Recalls.{recalled_live, recalled_marked}
+use Rattle.office_core.proofs.ByNumber.{recalled_live, recalled_marked}
 
 -- the state of the store is that of the postings
 pub kept_state : (i : Inside) → IsRegister i → store_state i.store ≡ state_now (parts_of i)

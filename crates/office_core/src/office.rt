@@ -9,6 +9,7 @@ ghost use Rattle.office_core.specs.Replies.{is_full};
 ghost use Rattle.office_core.specs.Machine.{IsLegal, MayAsk, state_in, version_of};
 ghost use Rattle.office_core.specs.Offices.{HasPlace, IsFull, IsStep, entry, grown, machine_in, newly_opened, stored_in_office};
 ghost use Rattle.office_core.specs.Promises.{KeepsPromises};
+ghost use Rattle.office_core.specs.RecallLists.{RecalledWereIssued};
 
 use crate::entry::{Call, Entry, Reply};
 use crate::register::Register;
@@ -101,6 +102,7 @@ impl Office {
         ensures entries { result.now ≡ self.now.history }
         ensures legal { IsLegal self.now.base self.now.opening self.now.history }
         ensures promises { KeepsPromises self.now.base self.now.opening self.now.history }
+        ensures recalled { RecalledWereIssued self.now.base self.now.history }
         ensures callers { All (λ e. e.caller < 65536) self.now.history }
     {
         self.base().lists_are_in_order();

@@ -73,7 +73,7 @@ impl Register {
     }
 
     // The numbers of the permits that a state recalls, where each in force is known to meet it but at one segment.
-    #[tactic(auto, using(crate::proofs::Recalls::recalled_more))]
+    #[tactic(auto, using(crate::proofs::ByNumber::recalled_more))]
     fn recalled_by<L: Ledger>(
         &self,
         state: &State,

@@ -7,9 +7,10 @@ ghost use Rattle.office_core.specs.Machine.{MayAsk};
 ghost use Rattle.office_core.specs.Offices.{machine_in};
 ghost use Rattle.office_core.specs.Calls.{machine_seen};
 
-use crate::{Call, Looked, Office, OfficeCalls, OneSeat, Reply};
+use crate::{Call, Looked, Office, OfficeCalls, OneSeat, Reply, recalls};
 use axle_train::{Axle, Train};
 use clearance_rules::{Load, Steps};
+use notice_desk::Recall;
 use office_io::Name;
 use permit_days::Day;
 use restriction_log::Change;
@@ -65,14 +66,14 @@ fn roads(rt: &impl Abort, alloc: Global, segments: &str, height: u32) -> Network
     network
 }
 
-// A truck of this height and width, with three axles that are within the federal limits.
-fn truck(rt: &impl Abort, name: &[u8], height: u32, width: u32) -> Truck {
+// A truck of this carrier, height and width, with three axles that are within the federal limits.
+fn truck(rt: &impl Abort, name: &[u8], carrier: &[u8], height: u32, width: u32) -> Truck {
     let axles = [(0, 12_000), (180, 17_000), (228, 17_000)];
     let axles = axles.map(|(place, weight)| Axle { place, weight });
     let train = Train::new(axles.as_slice()).expect(rt, "a train");
     Truck {
         name: named(rt, name),
-        carrier: named(rt, b"acme"),
+        carrier: named(rt, carrier),
         load: Load::new(height, width, 720, train).expect(rt, "a load"),
     }
 }
@@ -80,9 +81,9 @@ fn truck(rt: &impl Abort, name: &[u8], height: u32, width: u32) -> Truck {
 // These roads, and three trucks: one 168 in high, one that is lower and wide, and a legal one.
 fn base(rt: &impl Abort, alloc: Global, segments: &str, height: u32) -> Result<Base, Fail> {
     let mut fleet = Vec::new(alloc);
-    fleet.push(truck(rt, b"t1", 168, 102))?;
-    fleet.push(truck(rt, b"t2", 150, 110))?;
-    fleet.push(truck(rt, b"t3", 162, 102))?;
+    fleet.push(truck(rt, b"t1", b"ACME", 168, 102))?;
+    fleet.push(truck(rt, b"t2", b"BETA", 150, 110))?;
+    fleet.push(truck(rt, b"t3", b"ACME", 162, 102))?;
     Ok(Base::new(roads(rt, alloc, segments, height), fleet))
 }
 
@@ -380,6 +381,34 @@ fn recalls_just_what_a_posting_makes_fail(rt: HostRuntime) -> Result<(), Fail> {
 0 surrender 1/NotInForce { status: Recalled { version: 1 } }
 ";
     check(&rt, rt.alloc(), "0-1", 168, 100, 6, lines)
+}
+
+// A posting for each of two trucks, of two carriers.
+#[test]
+fn lists_what_postings_recalled(rt: HostRuntime) -> Result<(), Fail> {
+    let lines = "\
+0 held 0 2/Issued { number: 1, version: 0, route: Numbers { list: [0] } }
+0 held 1 2/Issued { number: 2, version: 0, route: Numbers { list: [0] } }
+1 height 0 167/Posted { version: 1, recalled: Numbers { list: [1] } }
+1 height 0 149/Posted { version: 2, recalled: Numbers { list: [2] } }
+";
+    let alloc = rt.alloc();
+    let base = Arc::new(alloc, base(&rt, alloc, "0-1", 168)?)?;
+    let mut office = Office::start(alloc, base, march(&rt, 2), 100)?;
+    serve_each(&rt, alloc, &mut office, lines, false)?;
+    let listed = recalls(alloc, office.base(), office.history())?;
+    drop(office);
+    let wanted = [recall(&rt, 1, 1, b"ACME"), recall(&rt, 2, 2, b"BETA")];
+    assert!(&rt; listed.as_slice() == wanted.as_slice(), "{listed:?}");
+    Ok(())
+}
+
+fn recall(rt: &impl Abort, permit: u32, version: u32, carrier: &[u8]) -> Recall {
+    Recall {
+        permit,
+        version,
+        carrier: named(rt, carrier),
+    }
 }
 
 // A trip that would begin too late and a legal truck, a day set back, a permit given back by another and twice, and a later

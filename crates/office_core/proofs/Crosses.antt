@@ -1,0 +1,48 @@
+-- What may go to another thread, since each of its fields may: an office and all that it keeps, and by it a seat. A search
+-- that goes down through all of it at once runs out of steps, so each part has its lemma.
+use Rattle.std.proofs.Common.{[], ◌∷◌}
+use denote.Param.Send.{IsSend, sendable, view_send}
+use denote.Param.SendFields.{FieldsHave, declared_send}
+use denote.Ref.{NamedLft}
+use denote.Struct.Field.{u32-field}
+use Rattle.std.proofs.Crossing.{Arc-send, Vec-send, crosses, send as heap_send}
+use Rattle.std.specs.contracts.alloc.Global as Global
+use Rattle.std.specs.contracts.impls.GlobalAllocator.TheImpl.{ghosts}
+use Rattle.std.specs.contracts.sync.Arc as Arc
+use Rattle.std.specs.contracts.vec.Vec as Vec
+use Rattle.restriction_log.proofs.log.Log.TheSendSync as log
+use Rattle.restriction_log.proofs.state.State.TheSendSync as state
+use Rattle.snapshot_store.specs.contracts.store.Store as Store
+use Rattle.permit_days.proofs.day.Day.TheSendSync as day
+use Rattle.permit_days.specs.contracts.day.Day as Day
+use Rattle.permit_book.proofs.book.Book.TheSendSync as book
+use Rattle.permit_book.specs.contracts.book.Book as Book
+use Rattle.trip_analysis.proofs.analyst.Analyst.TheSendSync as analyst
+use Rattle.trip_analysis.proofs.base.Base.TheSendSync as base
+use Rattle.trip_analysis.specs.contracts.analyst.Analyst as Analyst
+use Rattle.trip_analysis.specs.contracts.base.Base as Base
+use Rattle.office_core.specs.contracts.entry.Entry as Entry
+use Rattle.office_core.specs.contracts.office.Office as Office
+use Rattle.office_core.specs.contracts.register.Register as Register
+use Rattle.office_core.specs.contracts.seat.OneSeat as OneSeat
+
+store_send : IsSend Store.the_row
+store_send = search (sendable, crosses, log.the_send, state.the_send, state.the_sync) depth 20
+
+register_fields : FieldsHave IsSend (Global.the_field ∷ Arc.the_field Base.the_row Global.the_row ghosts ∷ Day.the_field ∷ Store.the_field ∷ Book.the_field ∷ Analyst.the_field ∷ [])
+register_fields = (heap_send, (Arc-send Base.the_row base.the_send base.the_sync, (day.the_send, (store_send, (book.the_send, (analyst.the_send, tt))))))
+
+register_send : IsSend Register.the_row
+register_send = search (view_send, declared_send, register_fields)
+
+entry_send : IsSend Entry.the_row
+entry_send = search (sendable, crosses) depth 40 fits 20000
+
+office_fields : FieldsHave IsSend (Register.the_field ∷ Day.the_field ∷ u32-field ∷ Vec.the_field Entry.the_row Global.the_row ghosts ∷ [])
+office_fields = (register_send, (day.the_send, (search sendable, (Vec-send Entry.the_row entry_send, tt))))
+
+pub office_send : IsSend Office.the_row
+office_send = search (view_send, declared_send, office_fields)
+
+pub seat_send : (κ : NamedLft) → IsSend (OneSeat.the_row κ)
+seat_send κ = search (sendable, crosses, office_send) depth 40 fits 20000
