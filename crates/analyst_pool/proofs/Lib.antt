@@ -5,6 +5,5 @@ pub mod Lengths
 pub mod Runs
 pub mod Memory
 pub mod Scripts
-pub mod Crossing
 pub mod Interrupting
 pub mod Followings

@@ -1,11 +1,7 @@
 -- The calls of one caller of an office that another calls too, as a test has them.
 use Rattle.std.specs.Prelude.{◌≡◌, ◌++◌, ℕ, List, Some, None}
-use Rattle.std.specs.Borrow.{GName}
-use Rattle.restriction_log.specs.declared.change.Change.{Change}
-use Rattle.office_core.specs.declared.entry.Call.TheVariants as call
 use Rattle.office_core.specs.declared.entry.Entry.{Entry}
-use Rattle.office_core.specs.declared.entry.Reply.{Reply}
-use Rattle.office_core.specs.Calls.{Answered, Calling, full_in, one_seat}
+use Rattle.office_core.specs.Calls.{Calling, full_in}
 use Rattle.office_core.specs.Machine.{entries_by}
 use Rattle.office_core.specs.Offices.{Opened}
 
@@ -33,8 +29,3 @@ pub record Interrupts (o next : Opened) : Type 0 where
   pub more : List Entry
   pub history : next.history ≡ o.history ++ more
   pub own : entries_by 0 next.history ≡ entries_by 0 o.history
-
--- caller 1 posted a change
-abbrev pub IsPosted : GName → Opened → Change → Reply → Opened → Type 0
-IsPosted reference o change r next =
-    Answered {P = Unit {0}} (one_seat reference 1 o) (call.Post change) r (one_seat reference 1 next)

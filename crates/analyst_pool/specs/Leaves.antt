@@ -1,19 +1,11 @@
 -- What a command leaves of the calls of its caller.
 use Rattle.std.specs.Prelude.{◌≡◌, ◌++◌, ℕ, List, Some, None}
-use Rattle.trip_analysis.specs.Applications.{Sound}
-use Rattle.trip_analysis.specs.Bases.{BaseLists}
 use Rattle.office_core.specs.declared.entry.Command.{Command}
-use Rattle.office_core.specs.declared.entry.Command.TheVariants as command
 use Rattle.office_core.specs.declared.entry.Entry.{Entry}
 use Rattle.office_core.specs.declared.entry.Reply.{Reply}
 use Rattle.office_core.specs.declared.entry.Reply.TheVariants as reply
 use Rattle.office_core.specs.Calls.{Calling}
 use Rattle.analyst_pool.specs.Unfolds.{Unfolds}
-
--- what may be carried out: an application that is sound, and every other command
-abbrev pub MayCarryOut : BaseLists → Command → Type 0
-MayCarryOut base (command.Apply a) = Sound base a
-MayCarryOut base _ = Unit {0}
 
 module _ {P : Type 0} where
   -- what was seen is gone on from; where nobody else calls, by these entries and no others

@@ -7,7 +7,8 @@ use Rattle.office_core.specs.Calls.{Calling}
 use Rattle.analyst_pool.specs.declared.worker.Outcome.{Outcome}
 use Rattle.analyst_pool.specs.declared.worker.Outcome.TheVariants as outcome
 use Rattle.analyst_pool.specs.declared.worker.Worker.{Worker}
-use Rattle.analyst_pool.specs.Leaves.{Grew, MayCarryOut}
+use Rattle.office_core.specs.Commands.{MayCarryOut}
+use Rattle.analyst_pool.specs.Leaves.{Grew}
 use Rattle.analyst_pool.specs.Unfolds.{AreFinished, IsBrokenOff, IsStopped}
 
 -- the entries of a script that went no further than the command at this place: those ahead of it were

@@ -9,7 +9,8 @@ ghost use Rattle.office_core.specs.Replies.{is_outdated};
 ghost use Rattle.analyst_pool.specs.Attempts.{Concluded, DecidedAfter, IsAgain};
 ghost use Rattle.analyst_pool.specs.Attempts.{IsDrafted, IsSubmitted, IsUnlessOutdated, MaySubmit};
 ghost use Rattle.analyst_pool.specs.Following.{FollowsAt, MayFollow};
-ghost use Rattle.analyst_pool.specs.Leaves.{CarriedOut, MayCarryOut};
+ghost use Rattle.analyst_pool.specs.Leaves.{CarriedOut};
+ghost use Rattle.office_core.specs.Commands.{MayCarryOut};
 
 use crate::gate::Gate;
 use office_core::{Command, Looked, OfficeCalls, Reply};

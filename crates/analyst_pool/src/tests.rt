@@ -2,8 +2,8 @@ ghost use Rattle.std.specs.Prelude.{◌≡◌, ◌≤◌, All, false, IfOk, vec_
 ghost use Rattle.trip_analysis.specs.Applications.{Sound};
 ghost use Rattle.office_core.specs.Replies.{is_full};
 ghost use Rattle.office_core.specs.Seats.{calls_of};
-ghost use Rattle.analyst_pool.specs.Interrupted.{Interrupts, IsPosted};
-ghost use Rattle.analyst_pool.specs.Leaves.{MayCarryOut};
+ghost use Rattle.analyst_pool.specs.Interrupted.{Interrupts};
+ghost use Rattle.office_core.specs.Commands.{MayCarryOut};
 ghost use Rattle.analyst_pool.specs.Ran.{IsReady};
 
 use crate::{Docket, Gate, OpenGate, Outcome, Worker, carry_out, decide, run_actors};
@@ -62,11 +62,11 @@ struct Interrupted<'a, R: Abort> {
 }
 
 // Posts a change as caller 1.
-fn post(office: &mut Office, change: Change) -> Reply
-    ensures { IsPosted office.entry.ghost_name office.old change result office.new }
+fn post(office: &mut Office, change: Change)
+    ensures { Interrupts office.old office.new }
 {
     let mut seat = OneSeat::new(office, 1);
-    seat.post(change)
+    drop(seat.post(change));
 }
 
 // Posts the last of these changes as caller 1, if one is left.
@@ -74,7 +74,7 @@ fn interrupt(office: &mut Office, changes: &mut Vec<Change>)
     ensures { Interrupts office.old office.new }
 {
     match changes.pop() {
-        Some(change) => drop(post(office, change)),
+        Some(change) => post(office, change),
         None => (),
     }
 }

@@ -13,7 +13,7 @@ use Rattle.office_turn.specs.Told.{Lock, Passing, receipt_for}
 use Rattle.office_turn.specs.declared.view.Receipt.{Receipt}
 use Rattle.office_desk.specs.Desks.{Terms, calls_of, terms_in}
 use Rattle.trip_analysis.specs.Bases.{BaseLists}
-use Rattle.analyst_pool.specs.Leaves.{MayCarryOut}
+use Rattle.office_core.specs.Commands.{MayCarryOut}
 use Rattle.analyst_pool.specs.Ran.{Adds, IsReady, Ran}
 use Rattle.analyst_pool.specs.declared.worker.Outcome.TheVariants as outcome
 use Rattle.analyst_pool.specs.declared.worker.Worker.{Worker}

@@ -1,5 +1,4 @@
 mod Lists
-mod Crossing
 mod Fresh
 mod Callers
 mod Scripts

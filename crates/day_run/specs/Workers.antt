@@ -7,7 +7,7 @@ use Rattle.office_core.specs.declared.entry.Entry.{Entry}
 use Rattle.office_turn.specs.Told.{IsReady, Lock, Passing, receipt_for}
 use Rattle.office_turn.specs.declared.view.Receipt.{Receipt}
 use Rattle.office_desk.specs.Desks.{Terms}
-use Rattle.analyst_pool.specs.Leaves.{MayCarryOut}
+use Rattle.office_core.specs.Commands.{MayCarryOut}
 use Rattle.analyst_pool.specs.Ran.{Adds}
 use Rattle.analyst_pool.specs.declared.worker.Outcome.{Outcome}
 use Rattle.analyst_pool.specs.declared.worker.Outcome.TheVariants as outcome

@@ -27,6 +27,7 @@ pub fn serve<R: Threads + Wait + AllocGlobal + Sync, G: Gate + Sync>(
 ) -> Result<Office, NoMemory>
     requires { IsDayFile file }
     ensures served { IfOk result (λ office. IsServed file office.history) }
+    ensures base { IfOk result (λ office. office.base ≡ file.base) }
     ensures roads { OnOk result (IsRoads file.base.roads) }
 {
     let alloc = rt.alloc();

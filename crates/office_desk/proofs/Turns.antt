@@ -10,7 +10,7 @@ use Rattle.office_turn.specs.Told.{Lock, Passing}
 use Rattle.office_desk.specs.Desks.{MayAskWith, Terms, no_terms, terms_in, terms_of}
 
 -- the terms that a turn finds are those of the lock
-terms_found : (lock : Lock Terms) (o : Opened) → Some (terms_of o) ≡ lock.terms → terms_of o ≡ terms_in lock
+pub terms_found : (lock : Lock Terms) (o : Opened) → Some (terms_of o) ≡ lock.terms → terms_of o ≡ terms_in lock
 terms_found lock o is = ap (λ (t : Option Terms). unwrap_or t no_terms) is
 
 -- what may be asked of what the pass has seen may be asked of what the turn finds, which goes on from it

@@ -6,7 +6,7 @@ use Rattle.office_core.specs.declared.seat.OneSeat.{OneSeat}
 use Rattle.office_core.specs.Seats.{calls_of}
 use Rattle.analyst_pool.specs.declared.worker.Worker.{Worker}
 use Rattle.analyst_pool.specs.Ran.{IsReady}
-use Rattle.analyst_pool.proofs.Crossing.{seat_send}
+use Rattle.office_core.proofs.Crosses.{seat_send}
 use Rattle.analyst_pool.proofs.tests.carries_out_twice.Goals as goal
 
 abbrev Ready : BaseLists → Worker OneSeat → Type 0

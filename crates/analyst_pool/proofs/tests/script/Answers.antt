@@ -1,6 +1,6 @@
 use Rattle.std.proofs.Common.{[], ◌∷◌, ◌++◌}
 use Rattle.std.proofs.lemmas.List.Elements.{All-push, All-same}
-use Rattle.analyst_pool.specs.Leaves.{MayCarryOut}
+use Rattle.office_core.specs.Commands.{MayCarryOut}
 use Rattle.analyst_pool.proofs.tests.script.Goals as goal
 
 pub loop-kind-preserved : goal.loop-kind-preserved

@@ -1,5 +1,5 @@
 use Rattle.std.proofs.Common.{All}
-use Rattle.analyst_pool.specs.Leaves.{MayCarryOut}
+use Rattle.office_core.specs.Commands.{MayCarryOut}
 use Rattle.analyst_pool.proofs.tests.script.Given as goal
 
 abbrev pub invariant-loop-kind : goal.invariant-loop-kind

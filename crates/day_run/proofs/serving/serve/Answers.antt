@@ -27,6 +27,15 @@ returns-in-Done-clause-served g c =
     all c.in_ok-base.ensures.scripts closes.own office.opening office.base (ap (λ (t : Terms). t.0) same ∙ base) (ap (λ (t : Terms). t.1) same ∙ c.in_ok-base.ensures.day)
     closes.legal closes.promises (ran.run.done c.in-Done.is) (subst (λ (n : ℕ). All (λ e. e.caller < n) office.history) few closes.callers)
 
+pub returns-in-Done-clause-base : goal.returns-in-Done-clause-base
+returns-in-Done-clause-base g c =
+    let ran = c.in_ok-ended.ensures in let closes = c.close-office.ensures in let office = c.close-office.result in
+    let terms : Some (terms_of office) ≡ Some (arc_value c.in_ok-try_clone.field-0, c.in_ok-base.day, c.most_entries-most.result) =
+    closes.terms ∙ (ap (λ l. l.terms) ran.lock ∙ c.in_ok-desk.ensures.terms) in
+    let same = ap (λ (t : Option Terms). unwrap_or t no_terms) terms in
+    let base : arc_value c.in_ok-try_clone.field-0 ≡ c.args.file.base = search rules in
+    ap (λ (t : Terms). t.0) same ∙ base
+
 pub unreachable-requires : goal.unreachable-requires
 unreachable-requires g c =
     let ran = c.in_ok-ended.ensures in let closes = c.close-office.ensures in let office = c.close-office.result in let file = c.args.file in
