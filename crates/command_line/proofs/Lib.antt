@@ -1,0 +1,4 @@
+pub mod Getters
+pub mod Refusals
+pub mod Values
+pub mod Options

@@ -1,0 +1,36 @@
+// What words ask for.
+
+use thiserror::Error;
+
+/// What the program can be asked for.
+#[derive(Clone, Copy, Debug, PartialEq, Eq)]
+pub enum Task {
+    /// One truck is judged.
+    Check,
+    /// An office is run for a day.
+    Day,
+    /// A day file is made.
+    Make,
+    /// A day file is made and run, and summed up.
+    Trial,
+}
+
+/// A task, with the numbers of the options.
+#[derive(Clone, Copy, Debug, PartialEq, Eq)]
+pub struct Asked {
+    pub task: Task,
+    /// Where a made day file begins: 0 to 65,535.
+    pub seed: u32,
+    /// How large a made day file is: 1 to 40.
+    pub size: u32,
+}
+
+/// Why words ask for nothing.
+#[derive(Clone, Copy, Debug, PartialEq, Eq, Error)]
+pub enum WordsRefusal {
+    /// The command line does not take them, or COMMAND is no task. `--help` is among these.
+    #[error("these words ask for nothing")]
+    Usage,
+    #[error("out of memory")]
+    NoMemory,
+}

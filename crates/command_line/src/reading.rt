@@ -1,0 +1,106 @@
+// Reading the words of a command line.
+
+ghost use Rattle.std.specs.Prelude.{◌≡◌, ◌≢◌, ◌≤◌, IfErr, IfOk, IfSome, IsSomeAnd, None, Some, codes, map};
+ghost use Rattle.std.specs.String.{string_bytes};
+ghost use Rattle.clap.specs.Words.{FailsBy, fault_of, found_of, kind_of, matches_of, rows_of};
+ghost use Rattle.command_line.specs.Office.{office};
+ghost use Rattle.command_line.specs.Asking.{AreAccepted, HasNumberIn, asked_in, asked_of, number_at, task_at, task_named};
+ghost use Rattle.command_line.specs.declared.asked.WordsRefusal.TheVariants.{Usage};
+
+use crate::asked::{Asked, Task, WordsRefusal};
+use crate::office::office;
+use clap::error::ErrorKind;
+use clap::{ArgMatches, Error};
+use std::alloc::Global;
+
+/// What the words after the program's name ask for: `Usage` exactly where they ask for nothing, but that want of memory may
+/// come in the place of either answer.
+#[tactic(auto, unfolding(crate::specs::Asking::asked_of, crate::specs::Asking::AreAccepted))]
+pub fn read_words(alloc: Global, words: &[String]) -> Result<Asked, WordsRefusal>
+    ensures asked { IfOk result (λ asked. asked_of (map string_bytes words.now) ≡ Some asked) }
+    ensures seed { IfOk result (λ asked. asked.seed ≤ 65535) }
+    ensures size { IfOk result (λ asked. (1 ≤ asked.size) × (asked.size ≤ 40)) }
+    ensures usage { IfErr result (λ r. r ≡ Usage → asked_of (map string_bytes words.now) ≡ None) }
+    ensures refused { IfErr result (λ r. r ≡ Usage → AreAccepted (map string_bytes words.now) → ⊥) }
+{
+    match match_words(alloc, words) {
+        Ok(matches) => read_matches(&matches).ok_or(WordsRefusal::Usage),
+        Err(error) => Err(refusal_of(&error)),
+    }
+}
+
+// The matches of the words, where the command line takes them.
+fn match_words<'a>(alloc: Global, words: &'a [String]) -> Result<ArgMatches<'a>, Error>
+    ensures fails { FailsBy (fault_of office (map string_bytes words.entry.now)) result }
+    ensures rows { IfOk result (λ m.
+        rows_of (found_of m) ≡ matches_of office (map string_bytes words.entry.now)) }
+    ensures seed { IfOk result (HasNumberIn (codes "seed") 0 65535) }
+    ensures size { IfOk result (HasNumberIn (codes "size") 1 40) }
+{
+    let office = office(alloc)?;
+    office.try_get_matches_from(words)
+}
+
+// Why words with this error ask for nothing.
+fn refusal_of(error: &Error) -> WordsRefusal
+    ensures { result ≡ Usage → kind_of error.now ≢ ErrorKind.OutOfMemory }
+{
+    match error.kind() {
+        ErrorKind::OutOfMemory => WordsRefusal::NoMemory,
+        _ => WordsRefusal::Usage,
+    }
+}
+
+// What the matches ask for.
+fn read_matches(matches: &ArgMatches<'_>) -> Option<Asked>
+    requires seed_in { HasNumberIn (codes "seed") 0 65535 matches.now }
+    requires size_in { HasNumberIn (codes "size") 1 40 matches.now }
+    ensures value { result ≡ asked_in (rows_of (found_of matches.now)) }
+    ensures none { result ≡ None → task_at (rows_of (found_of matches.now)) ≡ None }
+    ensures seed { IfSome result (λ asked. asked.seed ≤ 65535) }
+    ensures size { IfSome result (λ asked. (1 ≤ asked.size) × (asked.size ≤ 40)) }
+{
+    Some(Asked {
+        task: task_at(matches)?,
+        seed: seed_at(matches)?,
+        size: size_at(matches)?,
+    })
+}
+
+// The task at COMMAND.
+fn task_at(matches: &ArgMatches<'_>) -> Option<Task>
+    ensures { result ≡ task_at (rows_of (found_of matches.now)) }
+{
+    task_named(matches.get_str("COMMAND")?)
+}
+
+// The task that a word names.
+fn task_named(word: &str) -> Option<Task>
+    ensures { result ≡ task_named word.now }
+{
+    match word {
+        "check" => Some(Task::Check),
+        "day" => Some(Task::Day),
+        "make" => Some(Task::Make),
+        "trial" => Some(Task::Trial),
+        _ => None,
+    }
+}
+
+// The number at --seed.
+fn seed_at(matches: &ArgMatches<'_>) -> Option<u32>
+    requires { HasNumberIn (codes "seed") 0 65535 matches.now }
+    ensures value { result ≡ number_at (codes "seed") (rows_of (found_of matches.now)) }
+    ensures range { IsSomeAnd result (λ n. n ≤ 65535) }
+{
+    matches.get_one("seed")
+}
+
+// The number at --size.
+fn size_at(matches: &ArgMatches<'_>) -> Option<u32>
+    requires { HasNumberIn (codes "size") 1 40 matches.now }
+    ensures value { result ≡ number_at (codes "size") (rows_of (found_of matches.now)) }
+    ensures range { IsSomeAnd result (λ n. (1 ≤ n) × (n ≤ 40)) }
+{
+    matches.get_one("size")
+}
