@@ -1,0 +1,9 @@
+pub mod Pieces
+pub mod Numerals
+pub mod Lowest
+pub mod Only
+pub mod Clean
+pub mod Spelled
+pub mod Whole
+pub mod Rows
+pub mod Answers

@@ -1,0 +1,62 @@
+-- The number that a word spells.
+use Rattle.std.proofs.Common.{◌≡◌, ◌∙◌, ◌<◌, ◌≤◌, ◌+◌, ◌*◌, ◌-◌, ◌^◌, ◌∷◌, [], ℕ, zero, suc, List, Some, None, Bool, true, false, cond, ltb, refl, ap, sym, subst, arith, length, get_or, take, rules}
+use Rattle.std.specs.Prelude.{◌&&◌, min}
+use Rattle.std.specs.Fmt.{decimal}
+use Rattle.std.specs.Str.{bytes_eq}
+use Rattle.std.specs.Str.Parse.{AllDigits, digits_value}
+use Rattle.std.proofs.lemmas.Fmt.{decimal_is_IsNumeral_wide}
+use Rattle.std.proofs.lemmas.Str.Parse.{IsNumeralModel, numerals_by_fold, tells_digits}
+use Rattle.std.proofs.lemmas.Slice.Eq.{bytes_eq-Decides}
+use Rattle.std.proofs.lemmas.Bool.Decides.{nat_tests}
+use Rattle.journal_reader.specs.Words.{number_of, value_from}
+
+own : IsNumeralModel (AllDigits 10) (value_from 0)
+own = numerals_by_fold _ tells_digits value_from (search rules)
+
+value_suc : (xs : List ℕ) (n i : ℕ) → i < length xs → value_from n (take (suc i) xs) ≡ value_from n (take i xs) * 10 + (get_or xs i 0 - 48)
+value_suc [] n i h = absurd (omega arith)
+value_suc (x ∷ xs) n zero h = refl
+value_suc (x ∷ xs) n (suc i) h = value_suc xs (n * 10 + (x - 48)) i (omega arith)
+
+pub value_step : (xs : List ℕ) (n i : ℕ) → i < length xs → value_from n (take (i + 1) xs) ≡ value_from n (take i xs) * 10 + (get_or xs i 0 - 48)
+value_step xs n i h = let e : i + 1 ≡ suc i = omega arith in ap (λ k. value_from n (take k xs)) e ∙ value_suc xs n i h
+
+-- the loop's number, cut off at most, is the number, where its text is the word
+pub number_yes : (most : ℕ) (word : List ℕ) (value : ℕ) → most < 10 ^ 64 → value ≤ most → decimal value ≡ word → number_of (most + 1) word ≡ Some value
+unfolding number_of
+number_yes most word value small below same =
+    let v : digits_value 10 word ≡ value = ap (digits_value 10) (sym same) ∙ (decimal_is_IsNumeral_wide value (omega arith)).1 in
+    rw (v, (bytes_eq-Decides (decimal value) word).1 same, lt_true value (most + 1) (omega arith)) refl
+  where
+    lt_true : (a b : ℕ) → a < b → ltb a b ≡ true
+    lt_true a b h = grind (arith, nat_tests)
+
+pub number_no : (most : ℕ) (word : List ℕ) (value : ℕ) → most < 10 ^ 64 → value ≡ min (value_from 0 word) most → (decimal value ≡ word → ⊥) → number_of (most + 1) word ≡ None
+unfolding number_of
+number_no most word value small is other = by (bytes_eq (decimal (digits_value 10 word)) word) (ltb (digits_value 10 word) (most + 1)) refl refl
+  where
+    lt_of : (a b : ℕ) → ltb a b ≡ true → a < b
+    lt_of a b h = grind (arith, nat_tests)
+
+    by : (a b : Bool) → bytes_eq (decimal (digits_value 10 word)) word ≡ a → ltb (digits_value 10 word) (most + 1) ≡ b → cond (a && b) (Some (digits_value 10 word)) None ≡ None
+    by false b p q = refl
+    by true false p q = refl
+    by true true p q =
+        let n : ℕ = digits_value 10 word in
+        let text : decimal n ≡ word = (bytes_eq-Decides (decimal n) word).0 p in
+        let low : n < most + 1 = lt_of n (most + 1) q in
+        let digits : AllDigits 10 word = subst (AllDigits 10) text (decimal_is_IsNumeral_wide n (omega arith)).0.1 in
+        let v : value_from 0 word ≡ n = own.same word digits in
+        let same : value ≡ n = omega arith in
+        absurd (other (ap decimal same ∙ text))
+
+-- one digit more
+pub value_more : (most : ℕ) (xs : List ℕ) (i value ten digit next : ℕ) → i < length xs → value ≡ min (value_from 0 (take i xs)) most → ten ≡ min (value * 10) most → digit ≡ get_or xs i 0 - 48 → next ≡ min (ten + digit) most → next ≡ min (value_from 0 (take (i + 1) xs)) most
+value_more most xs i value ten digit next h a b c d = rw (value_step xs 0 i h) (omega arith)
+
+-- what is read of a word
+pub number_is : (most : ℕ) (word : List ℕ) (value : ℕ) (b : Bool) → most < 10 ^ 64 → value ≡ min (value_from 0 word) most → b ≡ bytes_eq (decimal value) word → (b ≡ true → Some value ≡ number_of (most + 1) word) × (b ≡ false → None ≡ number_of (most + 1) word)
+number_is most word value b small is test = (λ yes. sym (number_yes most word value small (omega arith) ((bytes_eq-Decides (decimal value) word).0 (sym test ∙ yes))), λ no. sym (number_no most word value small is (λ e. absurd (differs no (test ∙ (bytes_eq-Decides (decimal value) word).1 e)))))
+  where
+    differs : {x : Bool} → x ≡ false → x ≡ true → ⊥
+    differs p q = cc

@@ -1,0 +1,63 @@
+-- The parts of a text around a separator.
+use Rattle.std.proofs.Common.{◌≡◌, ◌≢◌, ◌∙◌, ◌<◌, ◌≤◌, ◌+◌, ◌∷◌, ◌++◌, [], ℕ, zero, suc, List, Bool, true, false, cond, eqb, refl, ap, sym, arith, length, get_or, take, drop, inl, inr, ◌⊎◌}
+use Rattle.std.specs.List.{slice_split, onto_first}
+use Rattle.std.proofs.lemmas.Bool.{eqb-true}
+use Rattle.std.proofs.lemmas.List.Splits.{slice_split-cons_yes, slice_split-cons_no}
+use Rattle.std.proofs.lemmas.Bool.Decides.{nat_tests}
+use Rattle.journal_text.specs.Journals.{ended}
+use Rattle.journal_reader.specs.Words.{is_empty, parts_left}
+use Rattle.journal_reader.specs.Journals.{IsLine}
+
+eqb_no : (a b : ℕ) → a ≢ b → eqb a b ≡ false
+eqb_no a b h = by (eqb a b) refl
+  where
+    by : (t : Bool) → eqb a b ≡ t → t ≡ false
+    by true e = absurd (h (eqb-true a b e))
+    by false e = refl
+
+eqb_same : (a : ℕ) → eqb a a ≡ true
+eqb_same a = grind (arith, nat_tests)
+
+-- the part before the first separator
+pub first_part_is : (bytes : List ℕ) (sep i : ℕ) → i ≤ length bytes → ((k : ℕ) → k < i → get_or bytes k 0 ≢ sep) → (i ≡ length bytes) ⊎ (get_or bytes i 0 ≡ sep)
+    → slice_split (λ x. eqb x sep) bytes ≡ take i bytes ∷ parts_left sep (drop i bytes)
+first_part_is [] sep zero w none end = refl
+first_part_is [] sep (suc i) w none end = absurd (omega arith)
+first_part_is (b ∷ bytes) sep zero w none (inl e) = absurd (omega arith)
+first_part_is (b ∷ bytes) sep zero w none (inr e) = slice_split-cons_yes (λ x. eqb x sep) b bytes (rw e (eqb_same sep))
+first_part_is (b ∷ bytes) sep (suc i) w none end =
+    slice_split-cons_no (λ x. eqb x sep) b bytes (eqb_no b sep (none 0 (omega arith))) ∙ rw (first_part_is bytes sep i (omega arith) (λ k h. none (suc k) (omega arith)) (next end)) refl
+  where
+    next : (suc i ≡ length (b ∷ bytes)) ⊎ (get_or (b ∷ bytes) (suc i) 0 ≡ sep) → (i ≡ length bytes) ⊎ (get_or bytes i 0 ≡ sep)
+    next (inl e) = inl (omega arith)
+    next (inr e) = inr e
+
+pub split_some : (p : ℕ → Bool) (xs : List ℕ) → is_empty (slice_split p xs) ≡ false
+split_some p [] = refl
+split_some p (x ∷ xs) = by (p x) (slice_split p xs)
+  where
+    by : (b : Bool) (parts : List (List ℕ)) → is_empty (cond b ([] ∷ parts) (onto_first x parts)) ≡ false
+    by true parts = refl
+    by false [] = refl
+    by false (part ∷ parts) = refl
+
+-- where a separator stands, a part is left
+pub parts_left_some : (sep : ℕ) (rest : List ℕ) → 0 < length rest → false ≡ is_empty (parts_left sep rest)
+parts_left_some sep [] h = absurd (omega arith)
+parts_left_some sep (b ∷ rest) h = sym (split_some (λ x. eqb x sep) rest)
+
+-- a text without a line feed
+pub is_line : (text : List ℕ) (i : ℕ) → i ≡ length text → ((k : ℕ) → k < i → get_or text k 0 ≢ 10) → IsLine text
+is_line [] i h none = tt
+is_line (b ∷ text) zero h none = absurd (omega (arith, h))
+is_line (b ∷ text) (suc i) h none = (none 0 (omega arith), is_line text i (omega (arith, h)) (λ k low. none (suc k) (omega (arith, low))))
+
+-- the line before the first line feed, and what follows it
+pub line_at : (text : List ℕ) (i : ℕ) → i < length text → ((k : ℕ) → k < i → get_or text k 0 ≢ 10) → (i ≡ length text) ⊎ (get_or text i 0 ≡ 10) → (text ≡ ended (take i text) ++ drop (i + 1) text) × IsLine (take i text)
+line_at text i low none (inl is) = absurd (omega (arith, low, is))
+line_at [] i low none (inr at) = absurd (omega (arith, low))
+line_at (b ∷ text) zero low none (inr at) = (ap (λ (c : ℕ). c ∷ text) at, tt)
+line_at (b ∷ text) (suc i) low none (inr at) =
+    let next = line_at text i (omega (arith, low)) (λ k less. none (suc k) (omega (arith, less))) (inr at) in
+    let e : suc (i + 1) ≡ suc i + 1 = omega arith in
+    (ap (λ t. b ∷ t) next.0 ∙ ap (λ (n : ℕ). ended (take (suc i) (b ∷ text)) ++ drop n (b ∷ text)) e, (none 0 (omega arith), next.1))

@@ -1,0 +1,189 @@
+-- Journals, line by line: what follows lines that are read, and that each text is the journal of one history.
+use Rattle.std.proofs.Common.{◌≡◌, ◌≢◌, ◌∙◌, ◌∷◌, ◌++◌, [], ℕ, List, Option, Some, None, Bool, true, false, cond, eqb, refl, ap, sym, subst, arith, length, append_assoc, inl, inr, ◌⊎◌}
+use Rattle.std.specs.Prelude.{codes, ◌&&◌, IfSome}
+use Rattle.std.specs.Fmt.{digits}
+use Rattle.std.specs.List.{join_with_byte, list_all}
+use Rattle.std.proofs.lemmas.Bool.Decides.{nat_tests}
+use Rattle.std.proofs.lemmas.List.Splits.{join_with_byte-slice_split}
+use Rattle.office_core.specs.declared.entry.Entry.{Entry}
+use Rattle.journal_text.specs.Words.{Words, index, spaced}
+use Rattle.journal_text.specs.Journals.{end_line, ended, journal_of, line_of}
+use Rattle.journal_reader.specs.Words.{number_of, parts, place_of}
+use Rattle.journal_reader.specs.Fits.{FitsEntry, FitsHistory}
+use Rattle.journal_reader.specs.Readers.{entry_of, entry_words}
+use Rattle.journal_reader.specs.Journals.{IsJournalOf, IsLine, front_of, lines_of}
+use Rattle.journal_reader.proofs.Clean.{all_append, all_words, append_nil, dark_is_no, is_no, is_word, no_digit}
+use Rattle.journal_reader.proofs.Spelled.{entry_again, line_words}
+
+-- the words of a line are its text
+join_spaced : (w : List ℕ) (ws : Words) → join_with_byte 32 (w ∷ ws) ≡ w ++ spaced ws
+unfolding spaced
+join_spaced w [] = sym (append_nil w)
+join_spaced w (v ∷ ws) = ap (λ t. w ++ (32 ∷ t)) (join_spaced v ws)
+
+pub line_found : (line : List ℕ) (found : Option Entry) → IfSome found (λ e. (parts 32 line ≡ entry_words e) × FitsEntry e) → IfSome found (λ e. (line ≡ line_of e) × FitsEntry e)
+line_found line None h = tt
+line_found line (Some e) (h, k) = (sym (join_with_byte-slice_split 32 line) ∙ (ap (join_with_byte 32) h ∙ join_spaced (index e.caller) _), k)
+
+-- a line has no line feed
+spaced_no : (ws : Words) → all_words ws ≡ true → list_all (is_no 10) (spaced ws) ≡ true
+unfolding spaced
+spaced_no [] h = refl
+spaced_no (w ∷ ws) h = by (is_word w) refl h (spaced_no ws)
+  where
+    by : (b : Bool) → is_word w ≡ b → (b && all_words ws) ≡ true → (all_words ws ≡ true → list_all (is_no 10) (spaced ws) ≡ true) → list_all (is_no 10) (w ++ spaced ws) ≡ true
+    by true e g more = all_append (is_no 10) w (spaced ws) (dark_is_no 10 (omega arith) w e) (more g)
+    by false e g more = absurd (cc g)
+
+line_from : (text : List ℕ) → list_all (is_no 10) text ≡ true → IsLine text
+line_from [] h = tt
+line_from (b ∷ text) h = by (eqb b 10) refl h (line_from text)
+  where
+    differs : eqb b 10 ≡ false → b ≢ 10
+    differs e = grind (arith, nat_tests)
+
+    by : (t : Bool) → eqb b 10 ≡ t → (cond t false true && list_all (is_no 10) text) ≡ true → (list_all (is_no 10) text ≡ true → IsLine text) → IsLine (b ∷ text)
+    by true e g more = absurd (cc g)
+    by false e g more = (differs e, more g)
+
+pub entry_line : (e : Entry) → FitsEntry e → IsLine (line_of e)
+unfolding spaced
+entry_line e h = line_from (line_of e) (spaced_no (entry_words e) (line_words e h))
+
+pub end_is_line : (n : ℕ) → IsLine (end_line n)
+end_is_line n = line_from (end_line n) (no_digit 10 (omega arith) n)
+
+pub header_is_line : IsLine (codes "permit-journal 1")
+header_is_line = line_from (codes "permit-journal 1") refl
+
+-- two texts that are equal have one first line
+pub first_lines : (a b x y : List ℕ) → IsLine a → IsLine b → ended a ++ x ≡ ended b ++ y → (a ≡ b) × (x ≡ y)
+first_lines [] [] x y h k e = (refl, tail e)
+  where
+    tail : {c d : ℕ} {s t : List ℕ} → c ∷ s ≡ d ∷ t → s ≡ t
+    tail q = cc
+first_lines [] (b ∷ t) x y h (k, ks) e = absurd (k (sym (head e)))
+  where
+    head : {c d : ℕ} {s t : List ℕ} → c ∷ s ≡ d ∷ t → c ≡ d
+    head q = cc
+first_lines (a ∷ s) [] x y (h, hs) k e = absurd (h (head e))
+  where
+    head : {c d : ℕ} {s t : List ℕ} → c ∷ s ≡ d ∷ t → c ≡ d
+    head q = cc
+first_lines (a ∷ s) (b ∷ t) x y (h, hs) (k, ks) e =
+    let (l, r) = first_lines s t x y hs ks (tail e) in
+    (two (head e) l, r)
+  where
+    head : {c d : ℕ} {s t : List ℕ} → c ∷ s ≡ d ∷ t → c ≡ d
+    head q = cc
+
+    tail : {c d : ℕ} {s t : List ℕ} → c ∷ s ≡ d ∷ t → s ≡ t
+    tail q = cc
+
+    two : {c d : ℕ} {s t : List ℕ} → c ≡ d → s ≡ t → c ∷ s ≡ d ∷ t
+    two p q = cc
+
+-- a line feed is in no line
+pub no_feed : (a x : List ℕ) → IsLine (ended a ++ x) → ⊥
+no_feed [] x (h, hs) = h refl
+no_feed (b ∷ a) x (h, hs) = no_feed a x hs
+
+-- an end line is no entry
+no_entry : (n : ℕ) → entry_of (end_line n) ≡ None
+unfolding entry_of place_of number_of digits
+no_entry n = refl
+
+pub entry_is_no_end : (e : Entry) (n : ℕ) → FitsEntry e → line_of e ≢ end_line n
+entry_is_no_end e n h is = differ (sym (entry_again e h) ∙ (ap entry_of is ∙ no_entry n))
+  where
+    differ : Some e ≡ None → ⊥
+    differ q = cc
+
+one_entry : (e f : Entry) → FitsEntry e → FitsEntry f → line_of e ≡ line_of f → e ≡ f
+one_entry e f h k is = same (sym (entry_again e h) ∙ (ap entry_of is ∙ entry_again f k))
+  where
+    same : Some e ≡ Some f → e ≡ f
+    same q = cc
+
+-- a journal that begins with the lines of some entries has these entries first, and the lines of the others follow
+pub record Follows (h k : List Entry) (n : ℕ) (rest : List ℕ) : Type 0 where
+  pub others : List Entry
+  pub fits : FitsHistory others
+  pub all : k ≡ h ++ others
+  pub lines : rest ≡ lines_of others ++ ended (end_line n)
+
+pub follows : (h k : List Entry) (n : ℕ) (rest : List ℕ) → FitsHistory h → FitsHistory k → lines_of k ++ ended (end_line n) ≡ lines_of h ++ rest → Follows h k n rest
+follows [] k n rest fits fits' e = record { others = k; fits = fits'; all = refl; lines = sym e }
+follows (e ∷ h) [] n rest (fit, fits) fits' is =
+    absurd (entry_is_no_end e n fit (sym (first_lines (end_line n) (line_of e) [] (lines_of h ++ rest) (end_is_line n) (entry_line e fit)
+    (append_nil (ended (end_line n)) ∙ (is ∙ append_assoc (ended (line_of e)) (lines_of h) rest))).0))
+follows (e ∷ h) (f ∷ k) n rest (fit, fits) (fit', fits') is =
+    let two = first_lines (line_of f) (line_of e) (lines_of k ++ ended (end_line n)) (lines_of h ++ rest) (entry_line f fit') (entry_line e fit)
+    (sym (append_assoc (ended (line_of f)) (lines_of k) (ended (end_line n))) ∙ (is ∙ append_assoc (ended (line_of e)) (lines_of h) rest)) in
+    let more = follows h k n rest fits fits' two.1 in
+    record { others = more.others; fits = more.fits; all = both (one_entry f e fit' fit two.0) more.all; lines = more.lines }
+  where
+    both : {a b : Entry} {s t : List Entry} → a ≡ b → s ≡ t → a ∷ s ≡ b ∷ t
+    both p q = cc
+
+pub journal_front : (h : List Entry) → journal_of h ≡ front_of h ++ ended (end_line (length h))
+journal_front h = sym (append_assoc (ended (codes "permit-journal 1")) (lines_of h) (ended (end_line (length h))))
+
+append_same : (a x y : List ℕ) → a ++ x ≡ a ++ y → x ≡ y
+append_same [] x y e = e
+append_same (b ∷ a) x y e = append_same a x y (tail e)
+  where
+    tail : {c d : ℕ} {s t : List ℕ} → c ∷ s ≡ d ∷ t → s ≡ t
+    tail q = cc
+
+pub journal_follows : (h k : List Entry) (rest : List ℕ) → FitsHistory h → FitsHistory k → journal_of k ≡ front_of h ++ rest → Follows h k (length k) rest
+journal_follows h k rest fits fits' e =
+    follows h k (length k) rest fits fits' (append_same (ended (codes "permit-journal 1")) _ _ (e ∙ append_assoc (ended (codes "permit-journal 1")) (lines_of h) rest))
+
+-- what follows is a line and more: it is the line of an entry, or the end line
+pub next_line : (h k : List Entry) (line more : List ℕ) → FitsHistory h → FitsHistory k → IsLine line → journal_of k ≡ front_of h ++ (ended line ++ more)
+    → ((e : Entry) × FitsEntry e × (line ≡ line_of e)) ⊎ ((k ≡ h) × (line ≡ end_line (length h)) × (more ≡ []))
+next_line h k line more fits fits' clean e =
+    let f = journal_follows h k (ended line ++ more) fits fits' e in by f.others f.fits f.all f.lines
+  where
+    alone : (o : List Entry) → o ≡ [] → k ≡ h ++ o → k ≡ h
+    alone [] z all = all ∙ nil h
+      where
+        nil : (xs : List Entry) → xs ++ [] ≡ xs
+        nil [] = refl
+        nil (x ∷ xs) = ap (λ t. x ∷ t) (nil xs)
+    alone (x ∷ o) z all = absurd (cc z)
+
+    by : (o : List Entry) → FitsHistory o → k ≡ h ++ o → ended line ++ more ≡ lines_of o ++ ended (end_line (length k))
+        → ((e : Entry) × FitsEntry e × (line ≡ line_of e)) ⊎ ((k ≡ h) × (line ≡ end_line (length h)) × (more ≡ []))
+    by [] fit all lines =
+        let same : k ≡ h = alone [] refl all in
+        let two = first_lines line (end_line (length k)) more [] clean (end_is_line (length k)) (lines ∙ sym (append_nil (ended (end_line (length k))))) in
+        inr (same, two.0 ∙ ap (λ (x : List Entry). end_line (length x)) same, two.1)
+    by (x ∷ o) (fit, fits) all lines =
+        inl (x, fit, (first_lines line (line_of x) more (lines_of o ++ ended (end_line (length k))) clean (entry_line x fit) (lines ∙ append_assoc (ended (line_of x)) (lines_of o) (ended (end_line (length k))))).0)
+
+-- what follows is not without a line feed
+pub never_unended : (h k : List Entry) (rest : List ℕ) → FitsHistory h → FitsHistory k → IsLine rest → journal_of k ≢ front_of h ++ rest
+never_unended h k rest fits fits' clean e =
+    let f = journal_follows h k rest fits fits' e in by f.others f.lines
+  where
+    by : (o : List Entry) → rest ≡ lines_of o ++ ended (end_line (length k)) → ⊥
+    by [] lines = no_feed (end_line (length k)) [] (subst (λ (t : List ℕ). IsLine t) (lines ∙ sym (append_nil (ended (end_line (length k))))) clean)
+    by (x ∷ o) lines = no_feed (line_of x) (lines_of o ++ ended (end_line (length k))) (subst (λ (t : List ℕ). IsLine t) (lines ∙ append_assoc (ended (line_of x)) (lines_of o) (ended (end_line (length k)))) clean)
+
+-- after a whole journal nothing follows, and it is that of one history
+pub nothing_follows : (h k : List Entry) (more : List ℕ) → FitsHistory h → FitsHistory k → journal_of k ≡ journal_of h ++ more → (k ≡ h) × (more ≡ [])
+nothing_follows h k more fits fits' e =
+    by (next_line h k (end_line (length h)) more fits fits' (end_is_line (length h)) (e ∙ (ap (λ t. t ++ more) (journal_front h) ∙ append_assoc (front_of h) (ended (end_line (length h))) more)))
+  where
+    by : ((x : Entry) × FitsEntry x × (end_line (length h) ≡ line_of x)) ⊎ ((k ≡ h) × (end_line (length h) ≡ end_line (length h)) × (more ≡ [])) → (k ≡ h) × (more ≡ [])
+    by (inl (x, fit, is)) = absurd (entry_is_no_end x (length h) fit (sym is))
+    by (inr (same, is, none)) = (same, none)
+
+pub one_history : (h k : List Entry) (text : List ℕ) → IsJournalOf h text → IsJournalOf k text → h ≡ k
+one_history h k text (fits, is) (fits', is') =
+    sym (nothing_follows h k [] fits fits' (sym is' ∙ (is ∙ sym (append_nil (journal_of h))))).0
+
+pub no_proper_prefix : (h k : List Entry) (more : List ℕ) → FitsHistory h → FitsHistory k → journal_of k ≡ journal_of h ++ more → more ≡ []
+no_proper_prefix h k more fits fits' e = (nothing_follows h k more fits fits' e).1

@@ -1,0 +1,27 @@
+-- Laws of journals.
+use Rattle.std.specs.Prelude.{◌≡◌, ◌≢◌, ◌⊎◌, List, [], ◌++◌, ℕ, Result, Ok, Err}
+use Rattle.office_core.specs.declared.entry.Entry.{Entry}
+use Rattle.journal_text.specs.Journals.{journal_of}
+use Rattle.journal_reader.specs.Fits.{FitsHistory}
+use Rattle.journal_reader.specs.Journals.{IsAnswer, IsJournalOf}
+use Rattle.journal_reader.specs.declared.refusal.JournalRefusal.{JournalRefusal}
+use Rattle.journal_reader.specs.declared.refusal.JournalRefusal.TheVariants.{NoMemory}
+
+-- a text is the journal of one history at most
+abbrev pub OneHistory : Type 0
+OneHistory = (h k : List Entry) (text : List ℕ) → IsJournalOf h text → IsJournalOf k text → h ≡ k
+
+-- no journal is a proper prefix of another
+abbrev pub NoProperPrefix : Type 0
+NoProperPrefix =
+    (h k : List Entry) (more : List ℕ) → FitsHistory h → FitsHistory k → journal_of k ≡ journal_of h ++ more → more ≡ []
+
+-- an answer other than want of memory is determined by the text
+abbrev pub OneAnswer : Type 0
+OneAnswer = (text : List ℕ) (a b : Result (List Entry) JournalRefusal)
+    → IsAnswer text a → IsAnswer text b → a ≢ Err NoMemory → b ≢ Err NoMemory → a ≡ b
+
+-- what is printed is read back, unless there is no memory
+abbrev pub PrintedIsRead : Type 0
+PrintedIsRead = (history : List Entry) (answer : Result (List Entry) JournalRefusal)
+    → FitsHistory history → IsAnswer (journal_of history) answer → (answer ≡ Ok history) ⊎ (answer ≡ Err NoMemory)

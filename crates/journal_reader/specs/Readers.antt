@@ -1,0 +1,374 @@
+-- What words spell: each function gives what it found and the words that follow. They are the inverses of the functions
+-- that put words in front of others.
+use Rattle.std.specs.Prelude.{[], ◌∷◌, ℕ, List, Bool, true, false, codes, if◌then◌else◌, Option, Some, None, option_map, IfSome, ◌≡◌}
+use Rattle.std.specs.Str.{bytes_eq}
+use Rattle.std.specs.Borrow.{Bor}
+use Rattle.std.specs.Fmt.{decimal}
+use Rattle.influence_line.specs.Fractions.{Ratio, ratio_text}
+use Rattle.restriction_log.specs.declared.change.Change.{Change}
+use Rattle.restriction_log.specs.declared.change.Change.TheVariants as change
+use Rattle.clearance_rules.specs.declared.limit.Limit.{Limit}
+use Rattle.clearance_rules.specs.declared.limit.Limit.TheVariants as limit
+use Rattle.trip_analysis.specs.declared.application.Application.{Application}
+use Rattle.trip_analysis.specs.declared.finding.What.{What}
+use Rattle.trip_analysis.specs.declared.finding.What.TheVariants as what
+use Rattle.permit_book.specs.declared.permit.Status.{Status}
+use Rattle.permit_book.specs.declared.permit.Status.TheVariants as status
+use Rattle.office_core.specs.declared.entry.Call.{Call}
+use Rattle.office_core.specs.declared.entry.Call.TheVariants as call
+use Rattle.office_core.specs.declared.entry.Cause.{Cause}
+use Rattle.office_core.specs.declared.entry.Cause.TheVariants as cause
+use Rattle.office_core.specs.declared.entry.Reply.{Reply}
+use Rattle.office_core.specs.declared.entry.Reply.TheVariants as reply
+use Rattle.office_core.specs.declared.entry.Entry.{Entry}
+use Rattle.journal_text.specs.Words.{Words, index, list_text}
+use Rattle.journal_text.specs.Entries.{call_words, change_words, days_words, limit_words, reply_words, shown_words, standing_words}
+use Rattle.journal_reader.specs.Fits.{FitsChange, FitsDay, FitsEntry, FitsIndex, FitsLimit, FitsNumber, FitsRatio, FitsStatus}
+use Rattle.journal_reader.specs.Words.{Spells, after_word, day_at, fraction_of, group_of, is_empty, list_of, number32, number_at, parts, place_at, place_of, word_at, ◌>>=◌}
+
+-- words that are read in one go
+abbrev pub trip_words : (ℕ × ℕ × ℕ) → Words → Words
+trip_words t ws = codes "truck" ∷ index t.0 ∷ codes "from" ∷ index t.1 ∷ codes "to" ∷ index t.2 ∷ ws
+
+abbrev pub FitsTrip : (ℕ × ℕ × ℕ) → Type 0
+FitsTrip t = FitsIndex t.0 × FitsIndex t.1 × FitsIndex t.2
+
+abbrev pub term_words : (List ℕ × List ℕ) → Words → Words
+term_words d ws = days_words d.0 d.1 ws
+
+abbrev pub FitsTerm : (List ℕ × List ℕ) → Type 0
+FitsTerm d = FitsDay d.0 × FitsDay d.1
+
+abbrev pub rated_words : (Ratio × Ratio × ℕ) → Words → Words
+rated_words e ws = ratio_text e.0 ∷ codes "hs20" ∷ ratio_text e.1 ∷ codes "rating" ∷ decimal e.2 ∷ ws
+
+abbrev pub FitsRated : (Ratio × Ratio × ℕ) → Type 0
+FitsRated e = FitsRatio e.0 × FitsRatio e.1 × FitsNumber e.2
+
+abbrev pub whose_words : (ℕ × ℕ × ℕ) → Words → Words
+whose_words w ws = shown_words w.0 w.1 w.2 ws
+
+abbrev pub FitsWhose : (ℕ × ℕ × ℕ) → Type 0
+FitsWhose w = FitsNumber w.0 × FitsIndex w.1 × FitsIndex w.2
+
+abbrev pub stands_words : (ℕ × ℕ × Status) → Words → Words
+stands_words s ws = standing_words s.0 s.1 s.2 ws
+
+abbrev pub FitsStanding : (ℕ × ℕ × Status) → Type 0
+FitsStanding s = FitsNumber s.0 × FitsNumber s.1 × FitsStatus s.2
+
+abbrev pub list_words : List ℕ → Words → Words
+list_words xs ws = list_text index xs ∷ ws
+
+-- the words of an entry's line
+abbrev pub entry_words : Entry → Words
+entry_words e = index e.caller ∷ call_words e.call (codes "=" ∷ reply_words e.reply [])
+
+abbrev pub IsWordsOf : Words → Option Entry → Type 0
+IsWordsOf ws found = IfSome found (λ e. (ws ≡ entry_words e) × FitsEntry e)
+
+-- a change or a limit of this segment was found behind this name
+abbrev pub SpellsChangeOf : ℕ → List ℕ → Words → Option (Change × Bor (List ℕ)) → Type 0
+SpellsChangeOf segment named before found =
+    FitsIndex segment → Spells change_words FitsChange (codes "segment" ∷ index segment ∷ named ∷ before) found
+
+abbrev pub SpellsLimitOf : ℕ → List ℕ → Words → Option (Limit × Bor (List ℕ)) → Type 0
+SpellsLimitOf segment named before found =
+    FitsIndex segment → Spells limit_words FitsLimit (codes "segment" ∷ index segment ∷ named ∷ before) found
+
+-- a list of numbers or of indices behind this word
+unfoldable pub numbers_at : List ℕ → Words → Option (List ℕ × Words)
+numbers_at named ws = do
+  rest ← after_word named ws
+  w ← word_at rest
+  xs ← list_of number32 w.0
+  Some (xs, w.1)
+
+unfoldable pub places_at : List ℕ → Words → Option (List ℕ × Words)
+places_at named ws = do
+  rest ← after_word named ws
+  w ← word_at rest
+  xs ← list_of place_of w.0
+  Some (xs, w.1)
+
+-- a number or an index behind this word
+unfoldable pub named_number : List ℕ → Words → Option (ℕ × Words)
+named_number named ws = do
+  rest ← after_word named ws
+  number_at rest
+
+unfoldable pub named_place : List ℕ → Words → Option (ℕ × Words)
+named_place named ws = do
+  rest ← after_word named ws
+  place_at rest
+
+-- a fraction
+unfoldable pub fraction_at : Words → Option (Ratio × Words)
+fraction_at ws = do
+  w ← word_at ws
+  f ← fraction_of w.0
+  Some (f, w.1)
+
+unfoldable pub flag_at : Words → Option (Bool × Words)
+flag_at ws = do
+  w ← word_at ws
+  if bytes_eq w.0 (codes "0") then Some (false, w.1)
+      else if bytes_eq w.0 (codes "1") then Some (true, w.1)
+      else None
+
+unfoldable pub value_change : ℕ → List ℕ → Words → Option (Change × Words)
+value_change segment named ws = do
+  n ← number_at ws
+  if bytes_eq named (codes "height") then Some (change.Height segment n.0, n.1)
+      else if bytes_eq named (codes "width") then Some (change.Width segment n.0, n.1)
+      else if bytes_eq named (codes "length") then Some (change.Length segment n.0, n.1)
+      else if bytes_eq named (codes "gross") then Some (change.Gross segment n.0, n.1)
+      else if bytes_eq named (codes "allowance") then Some (change.Allowance segment n.0, n.1)
+      else None
+
+unfoldable pub segment_change : Words → Option (Change × Words)
+segment_change ws = do
+  s ← place_at ws
+  named ← word_at s.1
+  if bytes_eq named.0 (codes "closed") then option_map (λ x. (change.Closed s.0 x.0, x.1)) (flag_at named.1)
+      else value_change s.0 named.0 named.1
+
+unfoldable pub span_change : Words → Option (Change × Words)
+span_change ws = do
+  b ← place_at ws
+  n ← named_number (codes "rating") b.1
+  Some (change.Rating b.0 n.0, n.1)
+
+unfoldable pub change_at : Words → Option (Change × Words)
+change_at ws = do
+  kind ← word_at ws
+  if bytes_eq kind.0 (codes "segment") then segment_change kind.1
+      else if bytes_eq kind.0 (codes "span") then span_change kind.1
+      else None
+
+unfoldable pub over_limit : ℕ → List ℕ → Words → Option (Limit × Words)
+over_limit segment named ws = do
+  has ← number_at ws
+  allowed ← named_number (codes "over") has.1
+  if bytes_eq named (codes "height") then Some (limit.Height segment has.0 allowed.0, allowed.1)
+      else if bytes_eq named (codes "width") then Some (limit.Width segment has.0 allowed.0, allowed.1)
+      else if bytes_eq named (codes "length") then Some (limit.Length segment has.0 allowed.0, allowed.1)
+      else if bytes_eq named (codes "gross") then Some (limit.Gross segment has.0 allowed.0, allowed.1)
+      else None
+
+unfoldable pub group_limit : ℕ → Words → Option (Limit × Words)
+group_limit segment ws = do
+  w ← word_at ws
+  g ← group_of w.0
+  weight ← named_number (codes "weight") w.1
+  most ← named_number (codes "limit") weight.1
+  allowance ← named_number (codes "allowance") most.1
+  Some (limit.Group segment g.0 g.1 weight.0 most.0 allowance.0, allowance.1)
+
+-- an effect behind its name
+unfoldable pub effect_at : Words → Option ((Ratio × Ratio × ℕ) × Words)
+effect_at ws = do
+  has ← fraction_at ws
+  rest ← after_word (codes "hs20") has.1
+  design ← fraction_at rest
+  rating ← named_number (codes "rating") design.1
+  Some ((has.0, design.0, rating.0), rating.1)
+
+unfoldable pub span_limit : ℕ → Words → Option (Limit × Words)
+span_limit segment ws = do
+  span ← place_at ws
+  named ← word_at span.1
+  e ← effect_at named.1
+  if bytes_eq named.0 (codes "moment") then Some (limit.Moment segment span.0 e.0.0 e.0.1 e.0.2, e.1)
+      else if bytes_eq named.0 (codes "shear") then Some (limit.Shear segment span.0 e.0.0 e.0.1 e.0.2, e.1)
+      else None
+
+unfoldable pub limit_at : Words → Option (Limit × Words)
+limit_at ws = do
+  s ← named_place (codes "segment") ws
+  named ← word_at s.1
+  if bytes_eq named.0 (codes "closed") then Some (limit.Closed s.0, named.1)
+      else if bytes_eq named.0 (codes "group") then group_limit s.0 named.1
+      else if bytes_eq named.0 (codes "span") then span_limit s.0 named.1
+      else over_limit s.0 named.0 named.1
+
+-- the first and the last day
+unfoldable pub days_at : Words → Option ((List ℕ × List ℕ) × Words)
+days_at ws = do
+  rest ← after_word (codes "days") ws
+  first ← day_at rest
+  last ← day_at first.1
+  Some ((first.0, last.0), last.1)
+
+-- the asked route, if one is asked for
+unfoldable pub asked_at : Words → Option (Option (List ℕ) × Words)
+asked_at ws = do
+  rest ← after_word (codes "asked") ws
+  w ← word_at rest
+  if bytes_eq w.0 (codes "none") then Some (None, w.1)
+      else option_map (λ route. (Some route, w.1)) (list_of place_of w.0)
+
+-- the truck, and the nodes where the trip begins and ends
+unfoldable pub trip_at : Words → Option ((ℕ × ℕ × ℕ) × Words)
+trip_at ws = do
+  truck ← named_place (codes "truck") ws
+  from ← named_place (codes "from") truck.1
+  to ← named_place (codes "to") from.1
+  Some ((truck.0, from.0, to.0), to.1)
+
+unfoldable pub application_at : Words → Option (Application × Words)
+application_at ws = do
+  trip ← trip_at ws
+  asked ← asked_at trip.1
+  days ← days_at asked.1
+  Some (record { truck = trip.0.0; from = trip.0.1; to = trip.0.2; asked = asked.0; first = days.0.0; last = days.0.1 }, days.1)
+
+-- a list of indices that stands here
+unfoldable pub list_at : Words → Option (List ℕ × Words)
+list_at ws = do
+  w ← word_at ws
+  xs ← list_of place_of w.0
+  Some (xs, w.1)
+
+unfoldable pub what_at : Words → Option (What × Words)
+what_at ws = do
+  kind ← word_at ws
+  if bytes_eq kind.0 (codes "none") then Some (what.NotNeeded, kind.1)
+      else if bytes_eq kind.0 (codes "route") then option_map (λ x. (what.Route x.0, x.1)) (list_at kind.1)
+      else if bytes_eq kind.0 (codes "fails") then option_map (λ s. (what.Fails s.0, s.1)) (place_at kind.1)
+      else if bytes_eq kind.0 (codes "cut") then option_map (λ x. (what.Cut x.0, x.1)) (list_at kind.1)
+      else None
+
+unfoldable pub submit_at : Words → Option (Call × Words)
+submit_at ws = do
+  a ← application_at ws
+  seen ← named_number (codes "seen") a.1
+  found ← what_at seen.1
+  Some (call.Submit a.0 (record { seen = seen.0; what = found.0 }), found.1)
+
+unfoldable pub held_at : Words → Option (Call × Words)
+held_at ws = do
+  a ← application_at ws
+  Some (call.Held a.0, a.1)
+
+-- a call that holds no list
+unfoldable pub plain_call : List ℕ → Words → Option (Call × Words)
+plain_call kind ws =
+    if bytes_eq kind (codes "snapshot") then Some (call.Snapshot, ws)
+    else if bytes_eq kind (codes "post") then option_map (λ c. (call.Post c.0, c.1)) (change_at ws)
+    else if bytes_eq kind (codes "day") then option_map (λ d. (call.Day d.0, d.1)) (day_at ws)
+    else if bytes_eq kind (codes "surrender") then option_map (λ n. (call.Surrender n.0, n.1)) (number_at ws)
+    else if bytes_eq kind (codes "show") then option_map (λ n. (call.Show n.0, n.1)) (number_at ws)
+    else None
+
+unfoldable pub call_at : Words → Option (Call × Words)
+call_at ws = do
+  kind ← word_at ws
+  if bytes_eq kind.0 (codes "submit") then submit_at kind.1
+      else if bytes_eq kind.0 (codes "held") then held_at kind.1
+      else plain_call kind.0 kind.1
+
+unfoldable pub status_at : Words → Option (Status × Words)
+status_at ws = do
+  w ← word_at ws
+  if bytes_eq w.0 (codes "inforce") then Some (status.InForce, w.1)
+      else if bytes_eq w.0 (codes "recalled") then option_map (λ n. (status.Recalled n.0, n.1)) (number_at w.1)
+      else if bytes_eq w.0 (codes "surrendered") then Some (status.Surrendered, w.1)
+      else if bytes_eq w.0 (codes "expired") then Some (status.Expired, w.1)
+      else None
+
+unfoldable pub cause_at : Words → Option (Cause × Words)
+cause_at ws = do
+  w ← word_at ws
+  if bytes_eq w.0 (codes "fails") then option_map (λ l. (cause.NowFails l.0, l.1)) (limit_at w.1)
+      else if bytes_eq w.0 (codes "meets") then option_map (λ s. (cause.NowMeets s.0, s.1)) (named_place (codes "segment") w.1)
+      else None
+
+unfoldable pub issued_at : Words → Option (Reply × Words)
+issued_at ws = do
+  number ← number_at ws
+  version ← named_number (codes "at") number.1
+  route ← places_at (codes "route") version.1
+  Some (reply.Issued number.0 version.0 route.0, route.1)
+
+unfoldable pub posted_at : Words → Option (Reply × Words)
+posted_at ws = do
+  version ← number_at ws
+  recalled ← numbers_at (codes "recalled") version.1
+  Some (reply.Posted version.0 recalled.0, recalled.1)
+
+unfoldable pub refused_at : Words → Option (Reply × Words)
+refused_at ws = do
+  version ← number_at ws
+  why ← limit_at version.1
+  Some (reply.Refused version.0 why.0, why.1)
+
+unfoldable pub outdated_at : Words → Option (Reply × Words)
+outdated_at ws = do
+  version ← number_at ws
+  why ← cause_at version.1
+  Some (reply.Outdated version.0 why.0, why.1)
+
+-- whose permit is shown, and how it stands
+unfoldable pub whose_at : Words → Option ((ℕ × ℕ × ℕ) × Words)
+whose_at ws = do
+  number ← number_at ws
+  caller ← named_place (codes "caller") number.1
+  truck ← named_place (codes "truck") caller.1
+  Some ((number.0, caller.0, truck.0), truck.1)
+
+unfoldable pub standing_at : Words → Option ((ℕ × ℕ × Status) × Words)
+standing_at ws = do
+  version ← named_number (codes "at") ws
+  seen ← named_number (codes "seen") version.1
+  now ← status_at seen.1
+  Some ((version.0, seen.0, now.0), now.1)
+
+unfoldable pub shown_at : Words → Option (Reply × Words)
+shown_at ws = do
+  whose ← whose_at ws
+  days ← days_at whose.1
+  standing ← standing_at days.1
+  Some (reply.Shown whose.0.0 whose.0.1 whose.0.2 days.0.0 days.0.1 standing.0.0 standing.0.1 standing.0.2, standing.1)
+
+-- a reply of one word
+unfoldable pub bare_reply : List ℕ → Option Reply
+bare_reply kind =
+    if bytes_eq kind (codes "notneeded") then Some reply.NotNeeded
+    else if bytes_eq kind (codes "noroad") then Some reply.NoRoad
+    else if bytes_eq kind (codes "range") then Some reply.OutOfRange
+    else if bytes_eq kind (codes "surrendered") then Some reply.Surrendered
+    else if bytes_eq kind (codes "notyours") then Some reply.NotYours
+    else if bytes_eq kind (codes "unknown") then Some reply.Unknown
+    else if bytes_eq kind (codes "nomemory") then Some reply.NoMemory
+    else None
+
+-- a reply that holds no list
+unfoldable pub plain_reply : List ℕ → Words → Option (Reply × Words)
+plain_reply kind ws =
+    if bytes_eq kind (codes "at") then option_map (λ n. (reply.SnapshotAt n.0, n.1)) (number_at ws)
+    else if bytes_eq kind (codes "refused") then refused_at ws
+    else if bytes_eq kind (codes "outdated") then outdated_at ws
+    else if bytes_eq kind (codes "late") then option_map (λ d. (reply.Late d.0, d.1)) (day_at ws)
+    else if bytes_eq kind (codes "day") then option_map (λ d. (reply.DayIs d.0, d.1)) (day_at ws)
+    else if bytes_eq kind (codes "dayback") then option_map (λ d. (reply.DayBack d.0, d.1)) (day_at ws)
+    else if bytes_eq kind (codes "notinforce") then option_map (λ s. (reply.NotInForce s.0, s.1)) (status_at ws)
+    else if bytes_eq kind (codes "shown") then shown_at ws
+    else option_map (λ r. (r, ws)) (bare_reply kind)
+
+unfoldable pub reply_at : Words → Option (Reply × Words)
+reply_at ws = do
+  kind ← word_at ws
+  if bytes_eq kind.0 (codes "issued") then issued_at kind.1
+      else if bytes_eq kind.0 (codes "posted") then posted_at kind.1
+      else plain_reply kind.0 kind.1
+
+-- the entry of a line
+unfoldable pub entry_of : List ℕ → Option Entry
+entry_of line = do
+  w ← word_at (parts 32 line)
+  caller ← place_of w.0
+  c ← call_at w.1
+  rest ← after_word (codes "=") c.1
+  r ← reply_at rest
+  if is_empty r.1 then Some (record { caller = caller; call = c.0; reply = r.0 }) else None

@@ -1,0 +1,236 @@
+// Replies.
+
+ghost use Rattle.std.specs.Prelude.{◌≡◌, ◌<◌, ◌∷◌, IfSome, IfOk, codes, ℕ, List, length, option_map};
+ghost use Rattle.std.specs.Fmt.{decimal};
+ghost use Rattle.journal_text.specs.Words.{index, numbers_words, places_words};
+ghost use Rattle.journal_text.specs.Entries.{cause_words, days_words, limit_words, reply_words, shown_words, standing_words, status_words};
+ghost use Rattle.journal_reader.specs.Words.{Spells, left, seen, word_at};
+ghost use Rattle.journal_reader.specs.Fits.{FitsCause, FitsDay, FitsIndex, FitsIndices, FitsLimit, FitsNumber, FitsNumbers, FitsReply, FitsStatus};
+ghost use Rattle.journal_reader.specs.Readers.{FitsStanding, FitsWhose, stands_words, whose_words, bare_reply, issued_at, outdated_at, plain_reply, posted_at, refused_at, reply_at, shown_at, standing_at, status_at, whose_at};
+
+use crate::calls::days;
+use crate::limits::{cause, limit};
+use crate::numbers::is;
+use crate::words::{day, named_number, named_numbers, named_place, named_places, number, word};
+use office_core::Reply;
+use permit_book::Status;
+use std::alloc::{AllocError, Global};
+
+/// A reply.
+#[tactic(auto, unfolding(crate::specs::Readers::reply_at))]
+pub fn reply(alloc: Global, rest: &[u8]) -> Result<Option<(Reply, &[u8])>, AllocError>
+    ensures exact { IfOk result (λ found. seen found ≡ reply_at (left rest.now)) }
+    ensures sound { IfOk result (Spells reply_words FitsReply (left rest.now)) }
+{
+    let Some((kind, rest)) = word(rest) else {
+        return Ok(None);
+    };
+    if is(kind, "issued") {
+        issued(alloc, rest)
+    } else if is(kind, "posted") {
+        posted(alloc, rest)
+    } else {
+        Ok(plain_reply(kind, rest))
+    }
+}
+
+// That a permit is issued.
+#[tactic(auto, unfolding(crate::specs::Readers::issued_at))]
+fn issued(alloc: Global, rest: &[u8]) -> Result<Option<(Reply, &[u8])>, AllocError>
+    ensures exact { IfOk result (λ found. seen found ≡ issued_at (left rest.now)) }
+    ensures sound { IfOk result (Spells reply_words FitsReply (codes "issued" ∷ left rest.now)) }
+{
+    let Some((number, rest)) = number(rest) else {
+        return Ok(None);
+    };
+    let Some((version, rest)) = named_number(rest, "at") else {
+        return Ok(None);
+    };
+    let Some((route, rest)) = named_places(alloc, rest, "route")? else {
+        return Ok(None);
+    };
+    Ok(Some((
+        Reply::Issued {
+            number,
+            version,
+            route,
+        },
+        rest,
+    )))
+}
+
+// That a change is posted.
+#[tactic(auto, unfolding(crate::specs::Readers::posted_at))]
+fn posted(alloc: Global, rest: &[u8]) -> Result<Option<(Reply, &[u8])>, AllocError>
+    ensures exact { IfOk result (λ found. seen found ≡ posted_at (left rest.now)) }
+    ensures sound { IfOk result (Spells reply_words FitsReply (codes "posted" ∷ left rest.now)) }
+{
+    let Some((version, rest)) = number(rest) else {
+        return Ok(None);
+    };
+    let Some((recalled, rest)) = named_numbers(alloc, rest, "recalled")? else {
+        return Ok(None);
+    };
+    Ok(Some((Reply::Posted { version, recalled }, rest)))
+}
+
+// A reply that holds no list.
+#[tactic(auto, unfolding(crate::specs::Readers::plain_reply))]
+fn plain_reply<'a>(kind: &[u8], rest: &'a [u8]) -> Option<(Reply, &'a [u8])>
+    ensures exact { seen result ≡ plain_reply kind.now (left rest.now) }
+    ensures sound { Spells reply_words FitsReply (kind.now ∷ left rest.now) result }
+{
+    if is(kind, "at") {
+        let (version, rest) = number(rest)?;
+        Some((Reply::SnapshotAt { version }, rest))
+    } else if is(kind, "refused") {
+        refused(rest)
+    } else if is(kind, "outdated") {
+        outdated(rest)
+    } else if is(kind, "late") {
+        let Some((day, rest)) = day(rest) else {
+            return None;
+        };
+        Some((Reply::Late { day }, rest))
+    } else if is(kind, "day") {
+        let Some((day, rest)) = day(rest) else {
+            return None;
+        };
+        Some((Reply::DayIs { day }, rest))
+    } else if is(kind, "dayback") {
+        let Some((day, rest)) = day(rest) else {
+            return None;
+        };
+        Some((Reply::DayBack { day }, rest))
+    } else if is(kind, "notinforce") {
+        let (status, rest) = status(rest)?;
+        Some((Reply::NotInForce { status }, rest))
+    } else if is(kind, "shown") {
+        shown(rest)
+    } else {
+        let reply = bare_reply(kind)?;
+        Some((reply, rest))
+    }
+}
+
+// A reply of one word.
+#[tactic(auto, unfolding(crate::specs::Readers::bare_reply))]
+fn bare_reply(kind: &[u8]) -> Option<Reply>
+    ensures exact { result ≡ bare_reply kind.now }
+    ensures sound { IfSome result (λ r. ((ws : _) → kind.now ∷ ws ≡ reply_words r ws) × FitsReply r) }
+{
+    if is(kind, "notneeded") {
+        Some(Reply::NotNeeded)
+    } else if is(kind, "noroad") {
+        Some(Reply::NoRoad)
+    } else if is(kind, "range") {
+        Some(Reply::OutOfRange)
+    } else if is(kind, "surrendered") {
+        Some(Reply::Surrendered)
+    } else if is(kind, "notyours") {
+        Some(Reply::NotYours)
+    } else if is(kind, "unknown") {
+        Some(Reply::Unknown)
+    } else if is(kind, "nomemory") {
+        Some(Reply::NoMemory)
+    } else {
+        None
+    }
+}
+
+// That a limit fails.
+#[tactic(auto, unfolding(crate::specs::Readers::refused_at))]
+fn refused(rest: &[u8]) -> Option<(Reply, &[u8])>
+    ensures exact { seen result ≡ refused_at (left rest.now) }
+    ensures sound { Spells reply_words FitsReply (codes "refused" ∷ left rest.now) result }
+{
+    let (version, rest) = number(rest)?;
+    let Some((limit, rest)) = limit(rest) else {
+        return None;
+    };
+    Some((Reply::Refused { version, limit }, rest))
+}
+
+// That a proposal is outdated.
+#[tactic(auto, unfolding(crate::specs::Readers::outdated_at))]
+fn outdated(rest: &[u8]) -> Option<(Reply, &[u8])>
+    ensures exact { seen result ≡ outdated_at (left rest.now) }
+    ensures sound { Spells reply_words FitsReply (codes "outdated" ∷ left rest.now) result }
+{
+    let (version, rest) = number(rest)?;
+    let Some((cause, rest)) = cause(rest) else {
+        return None;
+    };
+    Some((Reply::Outdated { version, cause }, rest))
+}
+
+// What a permit says.
+#[tactic(auto, unfolding(crate::specs::Readers::shown_at))]
+fn shown(rest: &[u8]) -> Option<(Reply, &[u8])>
+    ensures exact { seen result ≡ shown_at (left rest.now) }
+    ensures sound { Spells reply_words FitsReply (codes "shown" ∷ left rest.now) result }
+{
+    let ((number, caller, truck), rest) = whose(rest)?;
+    let Some(((first, last), rest)) = days(rest) else {
+        return None;
+    };
+    let ((version, seen, status), rest) = standing(rest)?;
+    Some((
+        Reply::Shown {
+            number,
+            caller,
+            truck,
+            first,
+            last,
+            version,
+            seen,
+            status,
+        },
+        rest,
+    ))
+}
+
+// Whose permit is shown.
+#[tactic(auto, unfolding(crate::specs::Readers::whose_at))]
+fn whose(rest: &[u8]) -> Option<((u32, u32, u32), &[u8])>
+    ensures exact { seen result ≡ whose_at (left rest.now) }
+    ensures sound { Spells whose_words FitsWhose (codes "shown" ∷ left rest.now) result }
+{
+    let (number, rest) = number(rest)?;
+    let (caller, rest) = named_place(rest, "caller")?;
+    let (truck, rest) = named_place(rest, "truck")?;
+    Some(((number, caller, truck), rest))
+}
+
+// The versions that a permit was issued at and found at, and how it stands.
+#[tactic(auto, unfolding(crate::specs::Readers::standing_at))]
+fn standing(rest: &[u8]) -> Option<((u32, u32, Status), &[u8])>
+    ensures exact { seen result ≡ standing_at (left rest.now) }
+    ensures sound { Spells stands_words FitsStanding (left rest.now) result }
+{
+    let (version, rest) = named_number(rest, "at")?;
+    let (seen, rest) = named_number(rest, "seen")?;
+    let (status, rest) = status(rest)?;
+    Some(((version, seen, status), rest))
+}
+
+// How a permit stands.
+#[tactic(auto, unfolding(crate::specs::Readers::status_at))]
+fn status(rest: &[u8]) -> Option<(Status, &[u8])>
+    ensures exact { seen result ≡ status_at (left rest.now) }
+    ensures sound { Spells status_words FitsStatus (left rest.now) result }
+{
+    let (kind, rest) = word(rest)?;
+    if is(kind, "inforce") {
+        Some((Status::InForce, rest))
+    } else if is(kind, "recalled") {
+        let (version, rest) = number(rest)?;
+        Some((Status::Recalled { version }, rest))
+    } else if is(kind, "surrendered") {
+        Some((Status::Surrendered, rest))
+    } else if is(kind, "expired") {
+        Some((Status::Expired, rest))
+    } else {
+        None
+    }
+}

@@ -1,0 +1,156 @@
+// Words that stand next in what is left of a line, with what is left behind them.
+
+ghost use Rattle.std.specs.Prelude.{◌≡◌, ◌<◌, ◌^◌, ◌∷◌, IfSome, IfOk, codes, ℕ, List, length, option_map};
+ghost use Rattle.std.specs.Fmt.{decimal};
+ghost use Rattle.influence_line.specs.Fractions.{ratio_text};
+ghost use Rattle.journal_text.specs.Words.{index, list_text, numbers_words, places_words};
+ghost use Rattle.journal_reader.specs.Words.{Spells, parts_seen, after_word, day_at, left, list_of, number32, number_at, number_of, place_at, place_of, seen, word_at};
+ghost use Rattle.journal_reader.specs.Fits.{FitsDay, FitsIndex, FitsIndices, FitsNumber, FitsNumbers, FitsRatio};
+ghost use Rattle.journal_reader.specs.Readers.{list_words, fraction_at, list_at, named_number, named_place, numbers_at, places_at};
+
+use crate::numbers::{day_in, fraction_in, indices_in, is, number_in, numbers_in, place_in};
+use crate::parts::part;
+use influence_line::Frac;
+use permit_days::Day;
+use road_graph::Numbers;
+use std::alloc::{AllocError, Global};
+
+/// The next word.
+pub fn word(rest: &[u8]) -> Option<(&[u8], &[u8])>
+    ensures exact { parts_seen 32 result ≡ word_at (left rest.now) }
+    ensures sound { IfSome result (λ x. left rest.now ≡ x.0.now ∷ left x.1.now) }
+{
+    part(rest, b' ')
+}
+
+/// What follows this word.
+pub fn after<'a>(rest: &'a [u8], text: &str) -> Option<&'a [u8]>
+    ensures exact { option_map (λ x. left x.now) result ≡ after_word text.now (left rest.now) }
+    ensures sound { IfSome result (λ x. left rest.now ≡ text.now ∷ left x.now) }
+{
+    let (word, rest) = word(rest)?;
+    if is(word, text) { Some(rest) } else { None }
+}
+
+/// A number.
+#[tactic(auto, unfolding(crate::specs::Words::number_at))]
+pub fn number(rest: &[u8]) -> Option<(u32, &[u8])>
+    ensures exact { seen result ≡ number_at (left rest.now) }
+    ensures sound { Spells (λ n ws. decimal n ∷ ws) FitsNumber (left rest.now) result }
+{
+    let (word, rest) = word(rest)?;
+    let n = number_in(word)?;
+    Some((n, rest))
+}
+
+/// An index.
+#[tactic(auto, unfolding(crate::specs::Words::place_at))]
+pub fn place(rest: &[u8]) -> Option<(u32, &[u8])>
+    ensures exact { seen result ≡ place_at (left rest.now) }
+    ensures sound { Spells (λ i ws. index i ∷ ws) FitsIndex (left rest.now) result }
+{
+    let (word, rest) = word(rest)?;
+    let i = place_in(word)?;
+    Some((i, rest))
+}
+
+/// A day.
+#[tactic(auto, unfolding(crate::specs::Words::day_at))]
+pub fn day(rest: &[u8]) -> Option<(Day, &[u8])>
+    ensures exact { seen result ≡ day_at (left rest.now) }
+    ensures sound { Spells (λ day ws. day ∷ ws) FitsDay (left rest.now) result }
+{
+    let (word, rest) = word(rest)?;
+    let day = day_in(word)?;
+    Some((day, rest))
+}
+
+/// A fraction in lowest terms.
+#[tactic(auto, unfolding(crate::specs::Readers::fraction_at))]
+pub fn fraction(rest: &[u8]) -> Option<(Frac, &[u8])>
+    ensures exact { seen result ≡ fraction_at (left rest.now) }
+    ensures sound { Spells (λ f ws. ratio_text f ∷ ws) FitsRatio (left rest.now) result }
+{
+    let (word, rest) = word(rest)?;
+    let f = fraction_in(word)?;
+    Some((f, rest))
+}
+
+/// A word and a number.
+#[tactic(auto, unfolding(crate::specs::Readers::named_number))]
+pub fn named_number<'a>(rest: &'a [u8], text: &str) -> Option<(u32, &'a [u8])>
+    ensures exact { seen result ≡ named_number text.now (left rest.now) }
+    ensures sound { Spells (λ n ws. text.now ∷ decimal n ∷ ws) FitsNumber (left rest.now) result }
+{
+    let rest = after(rest, text)?;
+    number(rest)
+}
+
+/// A word and an index.
+#[tactic(auto, unfolding(crate::specs::Readers::named_place))]
+pub fn named_place<'a>(rest: &'a [u8], text: &str) -> Option<(u32, &'a [u8])>
+    ensures exact { seen result ≡ named_place text.now (left rest.now) }
+    ensures sound { Spells (λ i ws. text.now ∷ index i ∷ ws) FitsIndex (left rest.now) result }
+{
+    let rest = after(rest, text)?;
+    place(rest)
+}
+
+/// A list of indices.
+#[tactic(auto, unfolding(crate::specs::Readers::list_at))]
+pub fn places(alloc: Global, rest: &[u8]) -> Result<Option<(Numbers, &[u8])>, AllocError>
+    ensures exact { IfOk result (λ found. seen found ≡ list_at (left rest.now)) }
+    ensures sound { IfOk result (Spells list_words FitsIndices (left rest.now)) }
+{
+    let Some((text, rest)) = word(rest) else {
+        return Ok(None);
+    };
+    let Some(list) = indices_in(alloc, text)? else {
+        return Ok(None);
+    };
+    Ok(Some((list, rest)))
+}
+
+/// A word and a list of indices.
+#[tactic(auto, unfolding(crate::specs::Readers::places_at))]
+pub fn named_places<'a>(
+    alloc: Global,
+    rest: &'a [u8],
+    text: &str,
+) -> Result<Option<(Numbers, &'a [u8])>, AllocError>
+    ensures exact { IfOk result (λ found. seen found ≡ places_at text.now (left rest.now)) }
+    ensures sound { IfOk result (Spells (places_words text.now) FitsIndices (left rest.now)) }
+{
+    let Some(rest) = after(rest, text) else {
+        return Ok(None);
+    };
+    let Some((text, rest)) = word(rest) else {
+        return Ok(None);
+    };
+    let Some(list) = indices_in(alloc, text)? else {
+        return Ok(None);
+    };
+    Ok(Some((list, rest)))
+}
+
+/// A word and a list of numbers.
+#[tactic(auto, unfolding(crate::specs::Readers::numbers_at))]
+pub fn named_numbers<'a>(
+    alloc: Global,
+    rest: &'a [u8],
+    text: &str,
+) -> Result<Option<(Numbers, &'a [u8])>, AllocError>
+    ensures exact { IfOk result (λ found. seen found ≡ numbers_at text.now (left rest.now)) }
+    ensures sound { IfOk result (Spells (numbers_words text.now) FitsNumbers (left rest.now)) }
+{
+    let Some(rest) = after(rest, text) else {
+        return Ok(None);
+    };
+    let Some((text, rest)) = word(rest) else {
+        return Ok(None);
+    };
+    let Some(list) = numbers_in(alloc, text)? else {
+        return Ok(None);
+    };
+    Ok(Some((list, rest)))
+}
