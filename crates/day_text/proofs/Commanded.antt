@@ -18,7 +18,7 @@ use Rattle.trip_analysis.proofs.Unbroken.{sound_if}
 use Rattle.day_text.specs.Commands.{all_numbers, applied, apply_fields_of, apply_of, asked_of, order_of, permit_of, post_of, posting_of, resolved_of, set_day_of, unless_refused}
 use Rattle.record_text.specs.Fields.{day_of, field_of, name_of, number_of, posted_of}
 use Rattle.day_text.specs.Fleets.{truck_names}
-use Rattle.day_text.specs.Laws.{IsSoundFor}
+use Rattle.office_core.specs.Commands.{MayCarryOut}
 use Rattle.record_text.specs.Causes.{demand, or_bad}
 use Rattle.record_text.specs.Records.{Row, is_blank_from}
 use Rattle.office_core.specs.declared.entry.Command.TheVariants as command
@@ -86,7 +86,7 @@ applied_sound d truck from to asked first last application there known e =
 
 -- the command is from an actor who is there, and may be given to an office of these roads and trucks
 abbrev pub IsGood : Draft → Order → Type 0
-IsGood d o = (o.actor < length d.actors) × IsSoundFor (base_of d) o.command
+IsGood d o = (o.actor < length d.actors) × MayCarryOut (base_of d) o.command
 
 resolved_good : (d : Draft) (f : ApplyFields) → Gives (IsGood d) (resolved_of d f)
 unfolding resolved_of

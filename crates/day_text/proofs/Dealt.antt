@@ -5,7 +5,8 @@ use Rattle.std.proofs.lemmas.List.Elements.{All-filter, All-map}
 use Rattle.std.proofs.lemmas.List.Sums.{length-filter, count_by-le-length}
 use Rattle.office_core.specs.declared.entry.Command.{Command}
 use Rattle.day_text.specs.Days.{DayParts}
-use Rattle.day_text.specs.Laws.{IsDayFile, IsSoundFor}
+use Rattle.office_core.specs.Commands.{MayCarryOut}
+use Rattle.day_text.specs.Laws.{IsDayFile}
 use Rattle.day_text.specs.Scripts.{script_of}
 use Rattle.day_text.specs.declared.orders.Order.{Order}
 use Rattle.day_text.proofs.Counts.{below, below-same, count_all}
@@ -26,8 +27,8 @@ script_within orders i =
 
 module _ (file : DayParts) (is_file : IsDayFile file) where
   -- each command of a script may be given to an office of the file's roads and trucks
-  pub script_sound : (i : ℕ) → All (λ c. IsSoundFor file.base c) (script_of i file.commands)
-  script_sound i = script_keeps (λ c. IsSoundFor file.base c) file.commands is_file.sound i
+  pub script_sound : (i : ℕ) → All (λ c. MayCarryOut file.base c) (script_of i file.commands)
+  script_sound i = script_keeps (λ c. MayCarryOut file.base c) file.commands is_file.sound i
 
   -- a script has at most as many commands as a file may have
   pub script_few : (i : ℕ) → length (script_of i file.commands) ≤ 4096

@@ -13,7 +13,8 @@ use Rattle.day_text.specs.Fleets.{actors_of, fleet_of, most_actors, truck_names}
 use Rattle.record_text.specs.Fields.{field_of, name_of}
 use Rattle.day_text.specs.Kinds.{kind_of}
 use Rattle.day_text.specs.Trucks.{load_of, truck_fields_of}
-use Rattle.day_text.specs.Laws.{IsDayFile, IsSoundFor}
+use Rattle.office_core.specs.Commands.{MayCarryOut}
+use Rattle.day_text.specs.Laws.{IsDayFile}
 use Rattle.record_text.specs.Records.{Row, is_blank_from, judged, rows_of}
 use Rattle.day_text.specs.Roads.{roads_of}
 use Rattle.office_core.specs.declared.entry.Command.{Command}
@@ -34,7 +35,7 @@ use Rattle.day_text.proofs.Kept.{IsKept, roads_kept, sound_kept}
 use Rattle.record_text.proofs.Steps.{Gives, gives, records_keep, refuses, then_gives, was_within}
 
 -- a command that might be given may be given where there is more
-sound_more : (old new : BaseLists) → IsKept old.roads new.roads → length old.fleet ≤ length new.fleet → (c : Command) → IsSoundFor old c → IsSoundFor new c
+sound_more : (old new : BaseLists) → IsKept old.roads new.roads → length old.fleet ≤ length new.fleet → (c : Command) → MayCarryOut old c → MayCarryOut new c
 sound_more old new kept fleet (command.Apply a) s = sound_kept old new kept fleet a s
 sound_more old new kept fleet (command.Post change) s = tt
 sound_more old new kept fleet (command.Day day) s = tt
@@ -44,8 +45,8 @@ sound_more old new kept fleet (command.Show number) s = tt
 abbrev Keeps : Draft → Type 0
 Keeps d = IsDayFile (parts_of d)
 
-all_sound : (old new : BaseLists) → IsKept old.roads new.roads → length old.fleet ≤ length new.fleet → (orders : List Order) → All (λ (o : Order). IsSoundFor old o.command) orders → All (λ (o : Order). IsSoundFor new o.command) orders
-all_sound old new kept fleet orders h = All-weaker (λ (o : Order). IsSoundFor old o.command) (λ (o : Order). IsSoundFor new o.command) (λ o s. sound_more old new kept fleet o.command s) orders h
+all_sound : (old new : BaseLists) → IsKept old.roads new.roads → length old.fleet ≤ length new.fleet → (orders : List Order) → All (λ (o : Order). MayCarryOut old o.command) orders → All (λ (o : Order). MayCarryOut new o.command) orders
+all_sound old new kept fleet orders h = All-weaker (λ (o : Order). MayCarryOut old o.command) (λ (o : Order). MayCarryOut new o.command) (λ o s. sound_more old new kept fleet o.command s) orders h
 
 road_keeps : (d : Draft) (kind : RoadKind) (fields : Row) → Keeps d → Gives Keeps (with_road d kind fields)
 road_keeps d kind fields h = then_gives {r = roads_of d.network kind fields} (λ roads e. gives Keeps (record d { network = roads }) (record {
@@ -113,7 +114,7 @@ order_keeps d order orders h good more = subst (λ (os : List Order). Keeps (rec
   few_actors = h.few_actors;
   few_commands = omega (arith, length-append d.orders (order ∷ []), more.1);
   callers = All-push (λ (o : Order). o.actor < length d.actors) d.orders order h.callers good.0;
-  sound = All-push (λ (o : Order). IsSoundFor (base_of d) o.command) d.orders order h.sound good.1;
+  sound = All-push (λ (o : Order). MayCarryOut (base_of d) o.command) d.orders order h.sound good.1;
 })
 
 command_keeps : (d : Draft) (kind : CommandKind) (fields : Row) → Keeps d → Gives Keeps (with_command d kind fields)

@@ -1,7 +1,8 @@
 // The check file: a truck to be judged, and spans to try it on.
 
-ghost use Rattle.std.specs.Prelude.{◌≡◌, ◌+◌, ◌++◌, ◌∷◌, [], Ok, IfOk, IfErr, OnOk, IsErrOf, IsErr};
+ghost use Rattle.std.specs.Prelude.{◌≡◌, ◌+◌, ◌++◌, ◌∷◌, [], Ok, IfOk, IfErr, OnOk};
 ghost use Rattle.csv.specs.Records.{fields_of};
+ghost use Rattle.day_text.specs.Refusals.{IsRefusedAs};
 ghost use Rattle.day_text.specs.Spans.{AreSpans, IsSpan};
 ghost use Rattle.record_text.specs.Causes.{Judges, Tells};
 ghost use Rattle.day_text.specs.Checks.{check_of, ended_check, is_check_kind, judge_check, judge_check_kind, judge_probe, judge_truck, probe_of, truck_of};
@@ -86,20 +87,14 @@ pub(crate) enum CheckProgress {
     Ended(CheckFile),
 }
 
-/// The check file that the bytes are. `Refused` comes exactly where they are none.
+/// The check file that the bytes are. `BadRecord` and `TooMany` come exactly where they are none, with the first record that is
+/// refused and the first cause that holds for it.
 pub fn read_check(alloc: Global, bytes: &[u8]) -> Result<CheckFile, DayFileRefusal>
     ensures ok { IfOk result (λ file. check_of bytes.now ≡ Ok file) }
-    ensures refused { IsErrOf result DayFileRefusal.Refused → IsErr (check_of bytes.now) }
-{
-    Ok(read_check_file(alloc, bytes)?)
-}
-
-/// The check file that the bytes are, or the first record that is refused.
-pub(crate) fn read_check_file(alloc: Global, bytes: &[u8]) -> Result<CheckFile, FileRefusal>
-    ensures { Tells result (check_of bytes.now) }
+    ensures refused { IfErr result (λ refusal. IsRefusedAs (check_of bytes.now) refusal) }
 {
     let (row, progress) = read_records(alloc, CheckProgress::Start, bytes)?;
-    progress.finish(row)
+    Ok(progress.finish(row)?)
 }
 
 impl CheckProgress {

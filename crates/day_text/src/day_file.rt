@@ -1,9 +1,10 @@
 // The day file: a road network, trucks, actors and the commands of a day.
 
-ghost use Rattle.std.specs.Prelude.{◌≡◌, Ok, IfErr, IfOk, IsErrOf, IsErr};
+ghost use Rattle.std.specs.Prelude.{◌≡◌, Ok, IfErr, IfOk};
 ghost use Rattle.record_text.specs.Causes.{Tells};
 ghost use Rattle.day_text.specs.Days.{day_of, ended_day, parts_of};
 ghost use Rattle.day_text.specs.Laws.{IsDayFile};
+ghost use Rattle.day_text.specs.Refusals.{IsRefusedAs};
 
 use crate::draft::Draft;
 use crate::orders::Order;
@@ -73,21 +74,15 @@ impl DayFile {
     }
 }
 
-/// The day file that the bytes are. `Refused` comes exactly where they are none.
+/// The day file that the bytes are. `BadRecord` and `TooMany` come exactly where they are none, with the first record that is
+/// refused and the first cause that holds for it.
 pub fn read_day(alloc: Global, bytes: &[u8]) -> Result<DayFile, DayFileRefusal>
     ensures ok { IfOk result (λ file. day_of bytes.now ≡ Ok file) }
     ensures keeps { IfOk result (λ file. IsDayFile file) }
-    ensures refused { IsErrOf result DayFileRefusal.Refused → IsErr (day_of bytes.now) }
-{
-    Ok(read_day_file(alloc, bytes)?)
-}
-
-/// The day file that the bytes are, or the first record that is refused.
-pub(crate) fn read_day_file(alloc: Global, bytes: &[u8]) -> Result<DayFile, FileRefusal>
-    ensures { Tells result (day_of bytes.now) }
+    ensures refused { IfErr result (λ refusal. IsRefusedAs (day_of bytes.now) refusal) }
 {
     let (row, progress) = read_records(alloc, DayProgress::Start, bytes)?;
-    finish(alloc, progress, row)
+    Ok(finish(alloc, progress, row)?)
 }
 
 // The file, where its end was told. The row is that after the last.

@@ -5,9 +5,9 @@
 //! the order in which a record's causes of refusal are tested, are this project's own.
 //!
 //! To the crate above it promises that a file is accepted exactly where the definition, which judges the whole list of its
-//! records, accepts it, and that what is handed out is the file of that definition; and that each command of a day file is
-//! from an actor of the file, and each application sound for its roads and trucks. It hands out each actor's script, which
-//! has the actor's commands in their order and no others. Inside, each step is proved against the exact cause and row.
+//! records, accepts it, that what is handed out is the file of that definition, and that a refusal has the row and the cause
+//! that the definition gives; and that each command of a day file is from an actor of the file, and each application sound
+//! for its roads and trucks. It hands out each actor's script, which has the actor's commands in their order and no others.
 #![tactic(auto)]
 
 mod check_file;
@@ -28,6 +28,7 @@ mod truck;
 pub use check_file::{CheckFile, Probe, Probes, read_check};
 pub use day_file::{DayFile, read_day};
 pub use orders::Order;
+pub use record_text::{Kind, RecordCause};
 pub use refusal::DayFileRefusal;
 
 #[cfg(test)]

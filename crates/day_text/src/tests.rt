@@ -1,8 +1,5 @@
-use crate::check_file::read_check_file;
-use crate::day_file::read_day_file;
-use crate::{DayFile, DayFileRefusal, Order, read_check, read_day};
+use crate::{DayFile, DayFileRefusal, Kind, Order, RecordCause, read_check, read_day};
 use office_core::Command;
-use record_text::{Cause, FileRefusal, Kind, RecordCause};
 use std::alloc::Global;
 use std::fmt::Debug;
 use std::process::Abort;
@@ -12,6 +9,13 @@ use trip_analysis::Base;
 // A load as high as the one road is posted.
 const ISSUED: &str =
     "day,2026-03-02,,,,,,\nnode,A,,,,,,\nnode,B,,,,,,\nsegment,S1,A,B,5000,,,\nlimit,S1,height,168,,,,\ntruck,T1,ACME,168,102,720,0:12000 180:17000 228:17000,\nactor,ann,,,,,,\napply,ann,T1,A,B,,2026-03-02,2026-03-06\nend,,,,,,,\n";
+
+// The same day as some programs write it: behind a byte order mark, and with lines that end with two bytes.
+const MARKED: &str =
+    "\u{feff}day,2026-03-02,,,,,,\nnode,A,,,,,,\nnode,B,,,,,,\nsegment,S1,A,B,5000,,,\nlimit,S1,height,168,,,,\ntruck,T1,ACME,168,102,720,0:12000 180:17000 228:17000,\nactor,ann,,,,,,\napply,ann,T1,A,B,,2026-03-02,2026-03-06\nend,,,,,,,\n";
+
+const RETURNED: &str =
+    "day,2026-03-02,,,,,,\r\nnode,A,,,,,,\r\nnode,B,,,,,,\r\nsegment,S1,A,B,5000,,,\r\nlimit,S1,height,168,,,,\r\ntruck,T1,ACME,168,102,720,0:12000 180:17000 228:17000,\r\nactor,ann,,,,,,\r\napply,ann,T1,A,B,,2026-03-02,2026-03-06\r\nend,,,,,,,\r\n";
 
 // Two permits, and a posting that recalls one.
 const RECALLED: &str =
@@ -91,6 +95,8 @@ fn takes_the_worked_days(rt: HostRuntime) -> Result<(), Fail> {
         rt.alloc(),
         &[
             (ISSUED, 2, 1, 0, 1, 1),
+            (MARKED, 2, 1, 0, 1, 1),
+            (RETURNED, 2, 1, 0, 1, 1),
             (RECALLED, 2, 1, 0, 2, 5),
             (CLOSED, 3, 1, 0, 1, 3),
             (SURRENDERED, 2, 1, 0, 1, 5),
@@ -173,28 +179,22 @@ fn gives_each_actor_its_commands(rt: HostRuntime) -> Result<(), Fail> {
 }
 
 // The first record of the text that is refused, and why.
-fn refusal(alloc: Global, text: &[u8]) -> Option<FileRefusal> {
-    read_day_file(alloc, text).err()
+fn refusal(alloc: Global, text: &[u8]) -> Option<DayFileRefusal> {
+    read_day(alloc, text).err()
 }
 
 // The refusal of a record as a bad one.
-fn bad(row: u64, cause: RecordCause) -> Option<FileRefusal> {
-    Some(FileRefusal::Refused {
-        row,
-        cause: Cause::Bad(cause),
-    })
+fn bad(row: u64, cause: RecordCause) -> Option<DayFileRefusal> {
+    Some(DayFileRefusal::BadRecord { row, cause })
 }
 
 // The refusal of a record as one too many.
-fn too_many(row: u64, kind: Kind) -> Option<FileRefusal> {
-    Some(FileRefusal::Refused {
-        row,
-        cause: Cause::TooMany(kind),
-    })
+fn too_many(row: u64, kind: Kind) -> Option<DayFileRefusal> {
+    Some(DayFileRefusal::TooMany { row, kind })
 }
 
 // What is refused where a record is the tenth, behind the nine of BEGUN.
-fn refusal_of_tenth(alloc: Global, record: &str) -> Result<Option<FileRefusal>, Fail> {
+fn refusal_of_tenth(alloc: Global, record: &str) -> Result<Option<DayFileRefusal>, Fail> {
     let mut text = BEGUN.as_bytes().to_vec(alloc)?;
     text.extend_from_slice(record.as_bytes())?;
     let found = refusal(alloc, text.as_slice());
@@ -390,6 +390,7 @@ fn refuses_what_stands_at_no_place(rt: HostRuntime) {
         &[
             (b"", 1, RecordCause::End),
             (b"day,\"2026-0", 1, RecordCause::Fields),
+            (b"\x1f\x8b\x08", 1, RecordCause::Fields),
             (b"node,A,,,,,,\n", 1, RecordCause::Order),
             (b"end,,,,,,,\n", 1, RecordCause::Order),
             (b"day,0000-01-01,,,,,,\n", 1, RecordCause::Range(2)),
@@ -410,8 +411,49 @@ fn refuses_what_stands_at_no_place(rt: HostRuntime) {
             ),
         ],
     );
-    let refused = read_day(rt.alloc(), b"").err();
-    assert!(rt; refused == Some(DayFileRefusal::Refused));
+}
+
+// What is refused of the first worked day with other axles, another end of the trip and another asked route.
+fn refusal_with(
+    alloc: Global,
+    axles: &str,
+    to: &str,
+    route: &str,
+) -> Result<Option<DayFileRefusal>, Fail> {
+    let text = format!(in alloc;
+        "day,2026-03-02,,,,,,\nnode,A,,,,,,\nnode,B,,,,,,\nsegment,S1,A,B,5000,,,\nlimit,S1,height,168,,,,\ntruck,T1,ACME,168,102,720,{axles},\nactor,ann,,,,,,\napply,ann,T1,A,{to},{route},2026-03-02,2026-03-06\nend,,,,,,,\n"
+    )?;
+    Ok(refusal(alloc, text.as_bytes()))
+}
+
+#[test]
+fn refuses_the_first_record_that_is_bad(rt: HostRuntime) -> Result<(), Fail> {
+    let alloc = rt.alloc();
+    let axles = "0:12000 180:17000 228:17000";
+    same(&rt, 0, &refusal_with(alloc, axles, "B", "S1")?, &None);
+    let train = refusal_with(alloc, "0:12000", "A", "S9")?;
+    same(&rt, 1, &train, &bad(6, RecordCause::Train(1)));
+    let place = refusal_with(alloc, axles, "A", "")?;
+    same(&rt, 2, &place, &bad(8, RecordCause::SamePlace));
+    let route = refusal_with(alloc, axles, "B", "S9")?;
+    same(&rt, 3, &route, &bad(8, RecordCause::Unknown(6)));
+    Ok(())
+}
+
+// The whole text is taken, also without its last line feed, and each shorter front of it has a bad record.
+fn refuse_fronts(rt: &impl Abort, alloc: Global, text: &[u8]) {
+    for length in 0..=text.len() {
+        let found = refusal(alloc, &text[..length]);
+        let taken = text.len() - length <= 1;
+        same(rt, length, &found.is_none(), &taken);
+        let bad = matches!(found, Some(DayFileRefusal::BadRecord { .. }));
+        same(rt, length, &bad, &!taken);
+    }
+}
+
+#[test]
+fn refuses_each_front_of_a_day(rt: HostRuntime) {
+    refuse_fronts(&rt, rt.alloc(), ISSUED.as_bytes());
 }
 
 // Puts so many records behind a text, with numbers from 0 between two of their parts.
@@ -436,7 +478,7 @@ fn refusal_of_many(
     before: &str,
     after: &str,
     count: u32,
-) -> Result<Option<FileRefusal>, Fail> {
+) -> Result<Option<DayFileRefusal>, Fail> {
     let mut text = begun.as_bytes().to_vec(alloc)?;
     add_records(alloc, &mut text, before, after, count)?;
     let found = refusal(alloc, text.as_slice());
@@ -492,7 +534,11 @@ fn add_spans(alloc: Global, text: &mut Vec<u8>, count: u32) -> Result<(), Fail> 
     Ok(())
 }
 
-fn refusal_of_spans(alloc: Global, segments: u32, count: u32) -> Result<Option<FileRefusal>, Fail> {
+fn refusal_of_spans(
+    alloc: Global,
+    segments: u32,
+    count: u32,
+) -> Result<Option<DayFileRefusal>, Fail> {
     let mut text = b"day,2026-03-02,,,,,,\nnode,A,,,,,,\n".to_vec(alloc)?;
     add_records(alloc, &mut text, "segment,s", ",A,A,1,,,", segments)?;
     add_spans(alloc, &mut text, count)?;
@@ -510,8 +556,8 @@ fn counts_spans(rt: HostRuntime) -> Result<(), Fail> {
 }
 
 // The first record of a check file that is refused, and why.
-fn check_refusal(alloc: Global, text: &[u8]) -> Option<FileRefusal> {
-    read_check_file(alloc, text).err()
+fn check_refusal(alloc: Global, text: &[u8]) -> Option<DayFileRefusal> {
+    read_check(alloc, text).err()
 }
 
 fn refuse_checks(rt: &impl Abort, alloc: Global, cases: &[Refused]) {
@@ -565,8 +611,6 @@ fn refuses_what_is_no_check_file(rt: HostRuntime) {
             ),
         ],
     );
-    let refused = read_check(rt.alloc(), b"").err();
-    assert!(rt; refused == Some(DayFileRefusal::Refused));
 }
 
 #[test]
