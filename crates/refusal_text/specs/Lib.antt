@@ -1,0 +1,3 @@
+pub use Rattle.record_text.specs.Causes
+pub mod Lines
+pub mod Laws
