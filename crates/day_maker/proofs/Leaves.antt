@@ -1,0 +1,94 @@
+-- Names and numbers that are made, as the fields of a record.
+use Rattle.std.proofs.Common.{◌≡◌, ◌≢◌, ◌∙◌, ◌<◌, ◌≤◌, ◌^◌, ◌∷◌, ◌++◌, [], ℕ, List, Some, Bool, true, false, eqb, ltb, leb, refl, ap, sym, arith, length, lit<, length-append}
+use Rattle.std.specs.Prelude.{◌&&◌}
+use Rattle.std.specs.Char.{is_ascii_digit}
+use Rattle.std.specs.Fmt.{decimal}
+use Rattle.std.specs.List.{All, list_all, slice_split}
+use Rattle.std.specs.Str.Parse.{AllDigits}
+use Rattle.std.proofs.lemmas.Bool.Decides.{nat_tests}
+use Rattle.std.proofs.lemmas.Fmt.{decimal_injective, decimal_is_IsNumeral, length-decimal-le}
+use Rattle.std.proofs.lemmas.List.Elements.{All-from_get_or}
+use Rattle.std.proofs.lemmas.List.Splits.{slice_split_at, slice_split_none}
+use Rattle.std.proofs.lemmas.Str.Parse.{digit_at, digit_from_value}
+use Rattle.office_io.specs.Names.{is_name_byte}
+use Rattle.record_text.specs.Fields.{name_of, number_of}
+use Rattle.record_text.proofs.Numbers.{number_read}
+use Rattle.day_maker.specs.Made.{cell, numbered}
+
+pub lt_true : (a b : ℕ) → a < b → ltb a b ≡ true
+lt_true a b h = grind (arith, nat_tests)
+
+pub lt_from : (a b : ℕ) → ltb a b ≡ true → a < b
+lt_from a b h = grind (arith, nat_tests)
+
+pub lt_false : (a b : ℕ) → b ≤ a → ltb a b ≡ false
+lt_false a b h = grind (arith, nat_tests)
+
+pub le_true : (a b : ℕ) → a ≤ b → leb a b ≡ true
+le_true a b h = grind (arith, nat_tests)
+
+pub eq_false : (a b : ℕ) → a ≢ b → eqb a b ≡ false
+eq_false a b h = grind (arith, nat_tests)
+
+-- what holds of each digit holds of a number's text
+digits_all : (P : ℕ → Bool) → ((b : ℕ) → 48 ≤ b → b ≤ 57 → P b ≡ true) → (ds : List ℕ) → AllDigits 10 ds → list_all P ds ≡ true
+digits_all P p [] h = refl
+digits_all P p (d ∷ ds) (h, hs) = let r = digit_from_value d h in rw (p d r.0 r.1) (digits_all P p ds hs)
+
+pub decimal_all : (P : ℕ → Bool) → ((b : ℕ) → 48 ≤ b → b ≤ 57 → P b ≡ true) → (n : ℕ) → n < 2 ^ 64 → list_all P (decimal n) ≡ true
+decimal_all P p n h = digits_all P p (decimal n) (decimal_is_IsNumeral n h).0.1
+
+pub all_append : (P : ℕ → Bool) (xs ys : List ℕ) → list_all P xs ≡ true → list_all P ys ≡ true → list_all P (xs ++ ys) ≡ true
+all_append P [] ys h k = k
+all_append P (x ∷ xs) ys h k = by (P x) refl h (λ g. all_append P xs ys g k)
+  where
+    by : (b : Bool) → P x ≡ b → (b && list_all P xs) ≡ true → (list_all P xs ≡ true → list_all P (xs ++ ys) ≡ true) → (P x && list_all P (xs ++ ys)) ≡ true
+    by true e g more = rw e (more g)
+    by false e g more = absurd (cc g)
+
+digit_is_name_byte : (b : ℕ) → 48 ≤ b → b ≤ 57 → is_name_byte b ≡ true
+digit_is_name_byte b h k = rw (le_true 48 b h, le_true b 57 k) refl
+
+digit_is_digit : (b : ℕ) → 48 ≤ b → b ≤ 57 → is_ascii_digit b ≡ true
+digit_is_digit b h k = grind (arith, nat_tests)
+
+-- the name of a place of the grid
+pub cell_ok : (letter r c : ℕ) → is_name_byte letter ≡ true → r < 100 → c < 100 → name_of (cell letter r c) ≡ Some (cell letter r c)
+unfolding cell
+cell_ok letter r c l hr hc =
+    let a : length (decimal r) ≤ 2 = length-decimal-le 2 r (lit< tt) hr (omega arith) in
+    let b : length (decimal c) ≤ 2 = length-decimal-le 2 c (lit< tt) hc (omega arith) in
+    let n : length (letter ∷ (decimal r ++ (45 ∷ decimal c))) ≤ 16 = simp length-append (omega arith) in
+    let all : list_all is_name_byte (decimal r ++ (45 ∷ decimal c)) ≡ true = all_append is_name_byte (decimal r) (45 ∷ decimal c) (decimal_all is_name_byte digit_is_name_byte r (omega arith)) (decimal_all is_name_byte digit_is_name_byte c (omega arith)) in
+    rw (le_true 1 (length (letter ∷ (decimal r ++ (45 ∷ decimal c)))) (omega arith), le_true (length (letter ∷ (decimal r ++ (45 ∷ decimal c)))) 16 n, l, all) refl
+
+-- a letter and a number
+pub numbered_ok : (letter n : ℕ) → is_name_byte letter ≡ true → n < 100 → name_of (numbered letter n) ≡ Some (numbered letter n)
+numbered_ok letter n l h =
+    let a : length (decimal n) ≤ 2 = length-decimal-le 2 n (lit< tt) h (omega arith) in
+    let all : list_all is_name_byte (decimal n) ≡ true = decimal_all is_name_byte digit_is_name_byte n (omega arith) in
+    rw (le_true 1 (length (letter ∷ decimal n)) (omega arith), le_true (length (letter ∷ decimal n)) 16 (omega arith), l, all) refl
+
+-- one name, one place
+no_dash : (n : ℕ) → n < 2 ^ 64 → All (λ b. eqb b 45 ≡ false) (decimal n)
+no_dash n h = All-from_get_or (λ b. eqb b 45 ≡ false) (decimal n) 0 (λ i k. let r = digit_at (decimal n) i (decimal_is_IsNumeral n h).0.1 k in let low = r.0 in eq_false _ 45 (λ e. absurd (omega arith)))
+
+pub cell_injective : (l r c l' r' c' : ℕ) → r < 100 → c < 100 → r' < 100 → c' < 100 → cell l r c ≡ cell l' r' c' → (l ≡ l') × (r ≡ r') × (c ≡ c')
+unfolding cell
+cell_injective l r c l' r' c' h k h' k' e =
+    let head : l ≡ l' = cc in
+    let tail : decimal r ++ (45 ∷ decimal c) ≡ decimal r' ++ (45 ∷ decimal c') = cc in
+    let p = slice_split_at (λ b. eqb b 45) (decimal r) 45 (decimal c) (no_dash r (omega arith)) refl in
+    let q = slice_split_at (λ b. eqb b 45) (decimal r') 45 (decimal c') (no_dash r' (omega arith)) refl in
+    let p' = slice_split_none (λ b. eqb b 45) (decimal c) (no_dash c (omega arith)) in
+    let q' = slice_split_none (λ b. eqb b 45) (decimal c') (no_dash c' (omega arith)) in
+    let parts : decimal r ∷ decimal c ∷ [] ≡ decimal r' ∷ decimal c' ∷ [] = ap (λ t. decimal r ∷ t) (sym p') ∙ (sym p ∙ (ap (slice_split (λ b. eqb b 45)) tail ∙ (q ∙ ap (λ t. decimal r' ∷ t) q'))) in
+    let one : decimal r ≡ decimal r' = cc (parts) in
+    let two : decimal c ≡ decimal c' = cc (parts) in
+    (head, decimal_injective r r' (omega arith) (omega arith) one, decimal_injective c c' (omega arith) (omega arith) two)
+
+-- a number below a billion
+pub number_ok : (n : ℕ) → n < 1000000000 → number_of (decimal n) ≡ Some n
+number_ok n h =
+    let d = decimal_is_IsNumeral n (omega arith) in
+    number_read (decimal n) d.0.0 (length-decimal-le 9 n (lit< tt) h (omega arith)) (decimal_all is_ascii_digit digit_is_digit n (omega arith)) ∙ ap Some d.1

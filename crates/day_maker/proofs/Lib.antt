@@ -1,0 +1,16 @@
+pub mod Pages
+pub mod Writing
+pub mod Leaves
+pub mod Named
+pub mod Grids
+pub mod Texts
+pub mod Plain
+pub mod Axles
+pub mod Judge
+pub mod Leading
+pub mod Nodes
+pub mod Segments
+pub mod Spans
+pub mod Fleets
+pub mod Orders
+pub mod Accepted

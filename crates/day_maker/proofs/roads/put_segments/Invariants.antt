@@ -1,0 +1,8 @@
+use Rattle.std.proofs.Common.{◌≡◌, ◌+◌, ◌-◌}
+use Rattle.day_maker.specs.Making.{each}
+use Rattle.day_maker.specs.Made.{joined}
+use Rattle.day_maker.specs.Texts.{after}
+use Rattle.day_maker.proofs.roads.put_segments.Given as goal
+
+abbrev pub invariant-rows : goal.invariant-rows
+invariant-rows l = after (each l.r (l.size + 1 - l.r) (λ r. each 0 (l.size + 1) (λ k. joined l.size r k))) l.page ≡ after (each 0 (l.size + 1) (λ r. each 0 (l.size + 1) (λ k. joined l.size r k))) l.fn.page

@@ -1,0 +1,8 @@
+use Rattle.std.proofs.Common.{◌≡◌, ◌+◌, ◌-◌}
+use Rattle.day_maker.specs.Making.{each}
+use Rattle.day_maker.specs.Made.{span}
+use Rattle.day_maker.specs.Texts.{after}
+use Rattle.day_maker.proofs.roads.put_spans.Given as goal
+
+abbrev pub invariant-rows : goal.invariant-rows
+invariant-rows l = after (each l.r (l.size + 1 - l.r) (λ r. each 0 l.size (λ k. span r k))) l.page ≡ after (each 0 (l.size + 1) (λ r. each 0 l.size (λ k. span r k))) l.fn.page

@@ -1,0 +1,22 @@
+-- The text of records, and a page that grows by what is made.
+use Rattle.std.specs.Prelude.{ℕ, ◌-◌, List, [], ◌∷◌, ◌++◌, length, replicate, flat_map}
+use Rattle.record_text.specs.Records.{Row}
+use Rattle.day_maker.specs.Making.{Maker}
+
+-- some fields, and empty ones behind them to make eight
+abbrev pub row : Row → Row
+row fields = fields ++ replicate (8 - length fields) []
+
+-- the text of a record: its fields with a comma between them, and a line feed
+abbrev pub line : Row → List ℕ
+line [] = 10 ∷ []
+line (kind ∷ fields) = kind ++ (flat_map (λ f. 44 ∷ f) fields ++ (10 ∷ []))
+
+-- a text, and the number from which the next draw is made
+pub record PageParts : Type 0 where
+  pub text : List ℕ
+  pub number : ℕ
+
+-- a page with what is made on it
+abbrev pub after : Maker → PageParts → PageParts
+after make page = record { text = page.text ++ flat_map line (make page.number).rows; number = (make page.number).next }
