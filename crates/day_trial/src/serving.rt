@@ -1,0 +1,121 @@
+// An office that carries out the commands of a day file.
+
+ghost use Rattle.std.specs.Prelude.{◌≡◌, ◌+◌, ◌*◌, ◌<◌, ◌≤◌, [], length, max, All, IfOk, IfSome, OnOk};
+ghost use Rattle.road_graph.specs.Roads.{IsRoads};
+ghost use Rattle.office_core.specs.Commands.{MayCarryOut};
+ghost use Rattle.day_text.specs.Laws.{IsDayFile};
+ghost use Rattle.day_trial.specs.Serial.{IsSerial};
+ghost use Rattle.day_trial.specs.Serving.{FollowsOffice, HasCarriedOut, HasServed, WasCarriedOut};
+
+use analyst_pool::{Docket, OpenGate, carry_out, scripts_are_short, unfoldings_are_short};
+use day_text::{DayFile, Order};
+use office_core::{Office, OneSeat, Reply};
+use office_io::NoMemory;
+use std::alloc::Global;
+use std::sync::Arc;
+use trip_analysis::{Base, Follower};
+
+/// The office of a day file's roads and trucks after each command was carried out by its actor, one after another in the order
+/// of the file. `NoMemory` where no memory was left, also where a reply says so.
+pub fn serve_in_order(alloc: Global, file: DayFile) -> Result<Office, NoMemory>
+    requires { IsDayFile file }
+    ensures served { IfOk result (λ office. IsSerial file office.history) }
+    ensures roads { OnOk result (IsRoads file.base.roads) }
+{
+    let (base, day, _actors, orders) = file.into_parts();
+    let most = most_entries(orders.as_slice());
+    let base = Arc::new(alloc, base)?;
+    let mut office = Office::start(alloc, Arc::try_clone(&base)?, day, most)?;
+    carry_out_all(alloc, &mut office, &base, orders.as_slice())?;
+    base.lists_are_in_order();
+    // an office tells that its history is legal and keeps its promises; and finished commands found memory
+    let _history = office.history();
+    scripts_are_short();
+    Ok(office)
+}
+
+// Room for the 17 entries that a command makes at the most; at least one.
+fn most_entries(orders: &[Order]) -> u32
+    requires { length orders.now ≤ 4096 }
+    ensures some { 1 ≤ result }
+    ensures enough { 17 * length orders.now ≤ result }
+    ensures bounded { result ≤ 1000000 }
+    ensures value { result ≡ max 1 (17 * length orders.now) }
+{
+    (17 * orders.len() as u32).max(1)
+}
+
+// Carries out each command in turn.
+fn carry_out_all(
+    alloc: Global,
+    office: &mut Office,
+    base: &Base,
+    orders: &[Order],
+) -> Result<(), NoMemory>
+    requires base { office.old.base ≡ base.now }
+    requires sound { All (λ o. MayCarryOut base.now o.command) orders.now }
+    requires callers { All (λ o. o.actor < 65536) orders.now }
+    requires few { length orders.now ≤ 4096 }
+    requires new { office.old.history ≡ [] }
+    requires room { 17 * length orders.now ≤ office.old.most }
+    ensures { OnOk result (HasServed office.old office.new orders.now) }
+{
+    let mut analyst = None;
+    'orders: for i in 0..orders.len() {
+        carry_out_one(alloc, office, &mut analyst, base, &orders[i], i as u32)?;
+    }
+    Ok(())
+}
+
+// Carries out one command, which has this place in the file. There is room for its entries.
+fn carry_out_one(
+    alloc: Global,
+    office: &mut Office,
+    analyst: &mut Option<Follower>,
+    base: &Base,
+    order: &Order,
+    place: u32,
+) -> Result<(), NoMemory>
+    requires base { office.old.base ≡ base.now }
+    requires sound { MayCarryOut base.now order.now.command }
+    requires caller { order.now.actor < 65536 }
+    requires room { length office.old.history + 17 ≤ office.old.most }
+    requires follows { IfSome analyst.old (FollowsOffice office.old) }
+    ensures carried { OnOk result (HasCarriedOut office.old order.now office.new) }
+    ensures follows { IfSome analyst.new (FollowsOffice office.new) }
+{
+    // the laws by which the history cannot be full
+    unfoldings_are_short();
+    match ask(alloc, office, analyst, base, order, place) {
+        Reply::NoMemory => Err(NoMemory),
+        Reply::Full { .. } => unreachable!(),
+        _ => Ok(()),
+    }
+}
+
+// Carries out one command, by the calls of its actor. The gate, which keeps nobody waiting, is told the command's place in the
+// file.
+fn ask(
+    alloc: Global,
+    office: &mut Office,
+    analyst: &mut Option<Follower>,
+    base: &Base,
+    order: &Order,
+    place: u32,
+) -> Reply
+    requires base { office.old.base ≡ base.now }
+    requires sound { MayCarryOut base.now order.now.command }
+    requires caller { order.now.actor < 65536 }
+    requires follows { IfSome analyst.old (FollowsOffice office.old) }
+    ensures carried { WasCarriedOut office.old order.now result office.new }
+    ensures follows { IfSome analyst.new (FollowsOffice office.new) }
+{
+    let docket = Docket {
+        base,
+        gate: &OpenGate,
+        actor: order.actor,
+        command: place,
+    };
+    let mut seat = OneSeat::new(office, order.actor);
+    carry_out(alloc, &mut seat, analyst, &order.command, &docket)
+}

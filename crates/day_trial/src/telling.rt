@@ -1,0 +1,151 @@
+// The summary of a history.
+
+ghost use Rattle.std.specs.Prelude.{◌≡◌, ◌≤◌, ◌++◌, ◌*◌, ◌^◌, count_by, length, sum_by, IfOk, OnOk};
+ghost use Rattle.day_trial.specs.Summaries.{is_of, is_no_road, is_not_needed, is_permit, is_refusal, recalled_by, summary_of, told, version_after, version_behind};
+
+use itoa::Buffer;
+use office_core::{Entry, Reply};
+use office_io::NoMemory;
+use std::alloc::{AllocError, Global};
+
+// What replies to applications are counted by.
+#[derive(Clone, Copy)]
+enum Kind {
+    Issued,
+    Refused,
+    NoRoad,
+    NotNeeded,
+}
+
+/// The summary of a history: seven lines, each a word, a space and a number. `NoMemory` where no memory was left.
+pub fn summary(alloc: Global, history: &[Entry]) -> Result<Vec<u8>, NoMemory>
+    ensures { IfOk result (λ text. text.items ≡ summary_of history.now) }
+{
+    Ok(text(alloc, history)?)
+}
+
+fn text(alloc: Global, history: &[Entry]) -> Result<Vec<u8>, AllocError>
+    ensures { IfOk result (λ text. text.items ≡ summary_of history.now) }
+{
+    let mut out = Vec::new(alloc);
+    line(&mut out, "entries", history.len() as u128)?;
+    line(&mut out, "issued", count(history, Kind::Issued) as u128)?;
+    line(&mut out, "refused", count(history, Kind::Refused) as u128)?;
+    line(&mut out, "noroad", count(history, Kind::NoRoad) as u128)?;
+    line(
+        &mut out,
+        "notneeded",
+        count(history, Kind::NotNeeded) as u128,
+    )?;
+    line(&mut out, "recalled", recalled(history))?;
+    line(&mut out, "version", last_version(history) as u128)?;
+    Ok(out)
+}
+
+// A word, a space, a number and a line feed.
+#[tactic(auto, using(crate::proofs::Lines::line_adds))]
+fn line(out: &mut Vec<u8>, word: &str, n: u128) -> Result<(), AllocError>
+    ensures { OnOk result (out.new.items ≡ out.old.items ++ told word.now n) }
+{
+    let mut buffer = Buffer::new();
+    out.extend_from_slice(word.as_bytes())?;
+    out.push(b' ')?;
+    out.extend_from_slice(buffer.format(n).as_bytes())?;
+    out.push(b'\n')?;
+    Ok(())
+}
+
+// How many replies are of this kind.
+fn count(history: &[Entry], kind: Kind) -> usize
+    ensures { result ≡ count_by (λ e. is_of kind e.reply) history.now }
+{
+    let mut count = 0;
+    'history: for entry in history {
+        if is_of_kind(kind, &entry.reply) {
+            count += 1;
+        }
+    }
+    count
+}
+
+// Whether a reply is of this kind.
+fn is_of_kind(kind: Kind, reply: &Reply) -> bool
+    ensures { result ≡ is_of kind reply.now }
+{
+    match kind {
+        Kind::Issued => issues(reply),
+        Kind::Refused => refuses(reply),
+        Kind::NoRoad => finds_no_road(reply),
+        Kind::NotNeeded => needs_none(reply),
+    }
+}
+
+// How many permits are recalled.
+fn recalled(history: &[Entry]) -> u128
+    ensures { result ≡ sum_by (λ e. recalled_by e.reply) history.now }
+{
+    let mut sum = 0;
+    'history: for entry in history {
+        sum += recalled_in(&entry.reply) as u128;
+    }
+    sum
+}
+
+// How many permits a reply recalls.
+fn recalled_in(reply: &Reply) -> usize
+    ensures { result ≡ recalled_by reply.now }
+{
+    match reply {
+        Reply::Posted { recalled, .. } => recalled.as_slice().len(),
+        _ => 0,
+    }
+}
+
+// The version that the last posting names, 0 where there is none.
+fn last_version(history: &[Entry]) -> u32
+    ensures { result ≡ version_after 0 history.now }
+{
+    let mut version = 0;
+    'history: for entry in history {
+        version = version_of_reply(version, &entry.reply);
+    }
+    version
+}
+
+// The version behind a reply, which a posting names.
+fn version_of_reply(before: u32, reply: &Reply) -> u32
+    ensures { result ≡ version_behind before reply.now }
+{
+    match reply {
+        Reply::Posted { version, .. } => *version,
+        _ => before,
+    }
+}
+
+// Whether a reply issues a permit.
+fn issues(reply: &Reply) -> bool
+    ensures { result ≡ is_permit reply.now }
+{
+    matches!(reply, Reply::Issued { .. })
+}
+
+// Whether a reply refuses one.
+fn refuses(reply: &Reply) -> bool
+    ensures { result ≡ is_refusal reply.now }
+{
+    matches!(reply, Reply::Refused { .. })
+}
+
+// Whether a reply says that there is no road.
+fn finds_no_road(reply: &Reply) -> bool
+    ensures { result ≡ is_no_road reply.now }
+{
+    matches!(reply, Reply::NoRoad)
+}
+
+// Whether a reply says that none is needed.
+fn needs_none(reply: &Reply) -> bool
+    ensures { result ≡ is_not_needed reply.now }
+{
+    matches!(reply, Reply::NotNeeded)
+}
