@@ -1,7 +1,10 @@
 // Day files, each with its journal, for the tests.
 
+/// Which of these days is the one with two loads, of which a posting recalls one.
+pub(crate) const RECALLING: usize = 2;
+
 /// A day file, and the journal that `day` writes for it.
-pub(crate) const DAYS: [(&str, &str); 9] = [
+pub(crate) const DAYS: [(&str, &str); 10] = [
     // One road posted at 168 in, and a load as high as that.
     (
         "\
@@ -18,6 +21,24 @@ pub(crate) const DAYS: [(&str, &str); 9] = [
          permit-journal 1\n\
          1 snapshot = at 0\n\
          1 submit truck 1 from 1 to 2 asked none days 2026-03-02 2026-03-06 seen 0 route 1 = issued 1 at 0 route 1\n\
+         end 2\n",
+    ),
+    // The same road and load until a leap day.
+    (
+        "\
+         day,2026-03-02,,,,,,\n\
+         node,A,,,,,,\n\
+         node,B,,,,,,\n\
+         segment,S1,A,B,5000,,,\n\
+         limit,S1,height,168,,,,\n\
+         truck,T1,ACME,168,102,720,0:12000 180:17000 228:17000,\n\
+         actor,ann,,,,,,\n\
+         apply,ann,T1,A,B,,2026-03-02,2028-02-29\n\
+         end,,,,,,,\n",
+        "\
+         permit-journal 1\n\
+         1 snapshot = at 0\n\
+         1 submit truck 1 from 1 to 2 asked none days 2026-03-02 2028-02-29 seen 0 route 1 = issued 1 at 0 route 1\n\
          end 2\n",
     ),
     // Two loads with a permit, and a posting of 167 in that recalls the higher one's; the same posting again recalls none.
@@ -195,6 +216,18 @@ pub(crate) const DAYS: [(&str, &str); 9] = [
          end 2\n",
     ),
 ];
+
+/// A day file that names 29 February of a year that has none.
+pub(crate) const NO_LEAP_DAY: &str = "\
+    day,2026-03-02,,,,,,\n\
+    node,A,,,,,,\n\
+    node,B,,,,,,\n\
+    segment,S1,A,B,5000,,,\n\
+    limit,S1,height,168,,,,\n\
+    truck,T1,ACME,168,102,720,0:12000 180:17000 228:17000,\n\
+    actor,ann,,,,,,\n\
+    apply,ann,T1,A,B,,2026-03-02,2027-02-29\n\
+    end,,,,,,,\n";
 
 /// A day of two actors on the same road: one applies for a load as high as the road's posting, the other posts an inch less.
 pub(crate) const MEETING: &str = "\

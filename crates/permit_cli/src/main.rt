@@ -1,8 +1,14 @@
-//! The permit office's program: it reads records from standard input, and writes a report or a journal to standard output.
+//! The permit office's program: it reads records from standard input, writes a report, a journal or a day file to standard
+//! output, and tells standard error of each permit that a day recalled.
 #![tactic(auto)]
+
+ghost use Rattle.notice_desk.specs.Standings.{AreNew, standings};
 
 #[cfg(test)]
 mod days;
+#[cfg(test)]
+mod made_days;
+mod notices;
 mod output;
 mod run;
 mod task;
@@ -10,6 +16,8 @@ mod task;
 mod tests;
 
 use analyst_pool::OpenGate;
+use notice_desk::{Notice, Subscribers, Whom};
+use notices::LineNotice;
 use office_io::{StdSink, StdSource};
 use run::{refuse_words, run};
 use std::alloc::AllocFailed;
@@ -19,20 +27,42 @@ use std::{env, io};
 use thiserror::Error;
 
 // Hands the words and the standard streams in, and the status out. A word that is no text is none that the program knows.
+// Standard error is told of all recalls.
 fn main(rt: HostRuntime) -> ExitCode {
     let mut source = StdSource::new(rt.stdin());
     let mut sink = StdSink::new(rt.stdout());
+    let mut notices = Subscribers::new(rt.alloc());
+    let is_added = match Box::new(rt.alloc(), LineNotice::new(StdSink::new(rt.stderr()))) {
+        Ok(notice) => add(&mut notices, notice),
+        Err(_) => false,
+    };
     let status = match words_of(&rt) {
-        Ok(words) => run(&rt, words.as_slice(), &mut source, &mut sink, &OpenGate),
-        Err(WordsRefusal::NotText) => refuse_words(&mut sink),
-        Err(WordsRefusal::NoMemory) => 7,
+        Ok(words) if is_added => run(
+            &rt,
+            words.as_slice(),
+            &mut source,
+            &mut sink,
+            &mut notices,
+            &OpenGate,
+        ),
+        Err(WordsFault::NotText) => refuse_words(&mut sink),
+        Ok(_) | Err(WordsFault::NoMemory) => 7,
     };
     ExitCode::from(status)
 }
 
+// Adds an object that is told of all recalls to those who are through with none: whether there was memory for it.
+#[tactic(auto, using(notice_desk::proofs::Ready::added_new))]
+fn add(notices: &mut Subscribers, notice: Box<dyn Notice>) -> bool
+    requires { AreNew (standings list notices.old) }
+    ensures { AreNew (standings list notices.new) }
+{
+    notices.add(Whom::All, notice).is_ok()
+}
+
 // Why there are no words.
 #[derive(Clone, Copy, Debug, Drop, PartialEq, Eq, Error)]
-enum WordsRefusal {
+enum WordsFault {
     #[error("a word is no text")]
     NotText,
     #[error("out of memory")]
@@ -40,23 +70,23 @@ enum WordsRefusal {
 }
 
 // The words come as text, all of them, or the kit tells of which kind its error is.
-impl From<io::Error> for WordsRefusal {
-    fn from(error: io::Error) -> WordsRefusal {
+impl From<io::Error> for WordsFault {
+    fn from(error: io::Error) -> WordsFault {
         match error.kind() {
-            ErrorKind::InvalidData => WordsRefusal::NotText,
-            _ => WordsRefusal::NoMemory,
+            ErrorKind::InvalidData => WordsFault::NotText,
+            _ => WordsFault::NoMemory,
         }
     }
 }
 
-impl From<AllocFailed<String>> for WordsRefusal {
-    fn from(_e: AllocFailed<String>) -> WordsRefusal {
-        WordsRefusal::NoMemory
+impl From<AllocFailed<String>> for WordsFault {
+    fn from(_e: AllocFailed<String>) -> WordsFault {
+        WordsFault::NoMemory
     }
 }
 
 // The words of the command line, without the program's name.
-fn words_of(rt: &HostRuntime) -> Result<Vec<String>, WordsRefusal> {
+fn words_of(rt: &HostRuntime) -> Result<Vec<String>, WordsFault> {
     let mut words = Vec::new(rt.alloc());
     for (i, word) in env::args(rt)?.enumerate() {
         if i > 0 {

@@ -1,8 +1,9 @@
 // What the words of a command line ask for.
 
-ghost use Rattle.std.specs.Prelude.{◌≡◌, map};
-ghost use Rattle.std.specs.String.{string_bytes};
-ghost use Rattle.permit_cli.specs.Tasks.{task_named, task_of};
+ghost use Rattle.std.specs.Prelude.{◌≡◌};
+ghost use Rattle.permit_cli.specs.Tasks.{task_for};
+
+use command_line::Asked;
 
 /// What the program can be asked for.
 #[derive(Clone, Copy, Debug, PartialEq, Eq)]
@@ -11,27 +12,23 @@ pub enum Task {
     Check,
     /// An office is run for a day.
     Day,
+    /// A day file is made from a number, of this size.
+    Make { seed: u32, size: u32 },
+    /// The day file that is made from a number is run on one thread, and summed up.
+    Trial { seed: u32, size: u32 },
 }
 
-/// The task that the words ask for: they are its one word.
-pub fn task_of(words: &[String]) -> Option<Task>
-    ensures { result ≡ task_of (map string_bytes words.now) }
-{
-    match words {
-        [word] => task_named(word.as_str()),
-        _ => None,
+impl Task {
+    /// The task that words ask for.
+    pub fn of(asked: Asked) -> Task
+        ensures { result ≡ task_for asked }
+    {
+        let Asked { task, seed, size } = asked;
+        match task {
+            command_line::Task::Check => Task::Check,
+            command_line::Task::Day => Task::Day,
+            command_line::Task::Make => Task::Make { seed, size },
+            command_line::Task::Trial => Task::Trial { seed, size },
+        }
     }
-}
-
-// The task of this word.
-fn task_named(word: &str) -> Option<Task>
-    ensures { result ≡ task_named word.now }
-{
-    if word == "check" {
-        return Some(Task::Check);
-    }
-    if word == "day" {
-        return Some(Task::Day);
-    }
-    None
 }

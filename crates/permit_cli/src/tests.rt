@@ -1,7 +1,10 @@
-use crate::days::{DAYS, MEETING, MET};
+use crate::add;
+use crate::days::{DAYS, MEETING, MET, NO_LEAP_DAY, RECALLING};
 use crate::run::{Alone, run, run_alone};
 use analyst_pool::{Gate, OpenGate};
+use notice_desk::{MemoryNotice, Subscribers};
 use office_io::{MemorySink, MemorySource};
+use std::alloc::Global;
 use std::sync::Wait;
 use std::sync::atomic::{AtomicU64, Ordering};
 use std::test::Fail;
@@ -11,6 +14,13 @@ const FHWA: &str =
     "truck,FHWA,ACME,162,102,720,0:12000 192:17000 240:17000 564:17000 612:17000,\nend,,,,,,,\n";
 
 const USAGE: &str = "usage: permit_cli check|day|make|trial [--seed N] [--size N]\n";
+
+// One actor too many.
+const SEVENTEEN: &str = "\
+    day,2026-03-02,,,,,,\n\
+    actor,a1,,,,,,\nactor,a2,,,,,,\nactor,a3,,,,,,\nactor,a4,,,,,,\nactor,a5,,,,,,\nactor,a6,,,,,,\n\
+    actor,a7,,,,,,\nactor,a8,,,,,,\nactor,a9,,,,,,\nactor,b1,,,,,,\nactor,b2,,,,,,\nactor,b3,,,,,,\n\
+    actor,b4,,,,,,\nactor,b5,,,,,,\nactor,b6,,,,,,\nactor,b7,,,,,,\nactor,b8,,,,,,\nend,,,,,,,\n";
 
 // How a run ended, and what it wrote.
 #[derive(Drop)]
@@ -31,6 +41,7 @@ fn run_words<R: Threads + Wait + AllocGlobal + Sync>(
 }
 
 // The same with a gate of the actors.
+#[tactic(auto, using(notice_desk::proofs::Ready::none_new))]
 fn run_at<R: Threads + Wait + AllocGlobal + Sync, G: Gate + Sync>(
     rt: &R,
     words: &[&str],
@@ -39,17 +50,24 @@ fn run_at<R: Threads + Wait + AllocGlobal + Sync, G: Gate + Sync>(
     writes: &[u32],
     gate: &G,
 ) -> Result<Ran, Fail> {
-    let mut list = Vec::new(rt.alloc());
-    for word in words {
-        list.push(word.to_string(rt.alloc())?)?;
-    }
     let mut source = MemorySource::new(input.to_vec(rt.alloc())?, reads.to_vec(rt.alloc())?);
     let mut sink = MemorySink::new(rt.alloc(), 100_000, writes.to_vec(rt.alloc())?)?;
-    let status = run(rt, list.as_slice(), &mut source, &mut sink, gate);
+    let mut nobody = Subscribers::new(rt.alloc());
+    let words = list_of(rt.alloc(), words)?;
+    let status = run(rt, &words, &mut source, &mut sink, &mut nobody, gate);
     Ok(Ran {
         status,
         text: sink.bytes().to_vec(rt.alloc())?,
     })
+}
+
+// The words in a list.
+fn list_of(alloc: Global, words: &[&str]) -> Result<Vec<String>, Fail> {
+    let mut list = Vec::new(alloc);
+    for word in words {
+        list.push(word.to_string(alloc)?)?;
+    }
+    Ok(list)
 }
 
 // The whole outputs of `check` for the example truck of the Federal Highway Administration and for the HS20-44 truck on a
@@ -85,19 +103,31 @@ fn writes_journals_of_days(rt: HostRuntime) -> Result<(), Fail> {
     Ok(())
 }
 
-// What is no file of its task is refused in one line, and too many bytes in another.
+// What is no file of its task is refused in a line that says which record and why, and too many bytes in another.
 #[test]
 fn refuses_what_is_no_file(rt: HostRuntime) -> Result<(), Fail> {
-    let rows: [(&str, &[u8]); 4] = [
-        ("check", b""),
-        ("check", b"day,2026-03-02,,,,,,\nend,,,,,,,\n"),
-        ("day", b"day,\"2026-0"),
-        ("day", FHWA.as_bytes()),
+    let rows: [(&str, &[u8], u8, &str); 6] = [
+        ("check", b"", 5, "refused: record 1 end\n"),
+        ("check", MEETING.as_bytes(), 5, "refused: record 1 kind\n"),
+        ("day", b"day,\"2026-0", 5, "refused: record 1 fields\n"),
+        ("day", FHWA.as_bytes(), 5, "refused: record 1 order\n"),
+        (
+            "day",
+            NO_LEAP_DAY.as_bytes(),
+            5,
+            "refused: record 8 range 8\n",
+        ),
+        (
+            "day",
+            SEVENTEEN.as_bytes(),
+            6,
+            "refused: record 18 actors\n",
+        ),
     ];
-    for (word, input) in rows {
+    for (word, input, status, line) in rows {
         let ran = run_words(&rt, &[word], input, &[], &[])?;
-        assert_eq!(rt; ran.status, 5);
-        assert_eq!(rt; ran.text.as_slice(), b"refused: input\n".as_slice());
+        assert_eq!(rt; ran.status, status, "{line}");
+        assert_eq!(rt; ran.text.as_slice(), line.as_bytes(), "{line}");
     }
     for word in ["check", "day"] {
         let input = vec![in rt.alloc(); b'x'; 4_194_305]?;
@@ -127,13 +157,51 @@ fn answers_a_fault_at_each_call(rt: HostRuntime) -> Result<(), Fail> {
     Ok(())
 }
 
+// Words that ask for nothing are answered by how the program is used; which these are is tested where words are read.
 #[test]
-fn takes_one_word(rt: HostRuntime) -> Result<(), Fail> {
-    let rows: [&[&str]; 5] = [&[], &["check", "check"], &["Day"], &["day "], &["--help"]];
+fn says_how_it_is_used(rt: HostRuntime) -> Result<(), Fail> {
+    let rows: [&[&str]; 6] = [
+        &[],
+        &["check", "check"],
+        &["Day"],
+        &["day "],
+        &["--help"],
+        &["make", "--size", "41"],
+    ];
     for words in rows {
         let ran = run_words(&rt, words, FHWA.as_bytes(), &[], &[])?;
         assert_eq!(rt; ran.status, 2);
         assert_eq!(rt; ran.text.as_slice(), USAGE.as_bytes());
+    }
+    let ran = run_words(&rt, &["--size", "2", "check"], FHWA.as_bytes(), &[], &[])?;
+    assert_eq!(rt; ran.status, 0);
+    Ok(())
+}
+
+// A day in which a posting recalls permit 1, of a carrier ACME: who hears of all recalls is told of it, after the whole
+// journal was written. Where that fails the status is 8, and the journal stands.
+#[test]
+#[tactic(auto, using(notice_desk::proofs::Ready::none_new))]
+fn tells_of_recalls(rt: HostRuntime) -> Result<(), Fail> {
+    let alloc = rt.alloc();
+    let (input, output) = DAYS[RECALLING];
+    for (failing, status, told) in [([].as_slice(), 0, 1), ([1].as_slice(), 8, 0)] {
+        let mut notices = Subscribers::new(alloc);
+        let notice = MemoryNotice::new(alloc, 4, failing.to_vec(alloc)?)?;
+        assert!(rt; add(&mut notices, Box::new(alloc, notice)?));
+        let mut source = MemorySource::new(input.as_bytes().to_vec(alloc)?, Vec::new(alloc));
+        let mut sink = MemorySink::new(alloc, 100_000, Vec::new(alloc))?;
+        let words = list_of(alloc, &["day"])?;
+        let ended = run(&rt, &words, &mut source, &mut sink, &mut notices, &OpenGate);
+        assert_eq!(rt; ended, status);
+        assert_eq!(rt; sink.bytes(), output.as_bytes());
+        assert_eq!(rt; notices.len(), 1);
+        let heard = notices.told(0).ok_or("it tells its list")?;
+        assert_eq!(rt; heard.len(), told);
+        for recall in heard {
+            assert_eq!(rt; (recall.permit, recall.version), (1, 1));
+            assert_eq!(rt; recall.carrier.as_bytes(), b"ACME".as_slice());
+        }
     }
     Ok(())
 }

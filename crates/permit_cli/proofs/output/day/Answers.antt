@@ -1,12 +1,19 @@
-use Rattle.std.proofs.Common.{◌∙◌, ap}
+use Rattle.std.proofs.Common.{◌≡◌, ◌∙◌, List, ap}
+use Rattle.trip_analysis.specs.Bases.{BaseLists}
 use Rattle.journal_text.specs.Journals.{journal_of}
-use Rattle.permit_cli.proofs.Only.{headline, only_journal}
+use Rattle.office_core.specs.RecallLists.{recalls_in}
+use Rattle.office_core.specs.declared.entry.Entry.{Entry}
+use Rattle.permit_cli.proofs.Only.{day_made, only_journal}
 use Rattle.permit_cli.proofs.output.day.Goals as goal
 
 pub returns-clause-promise : goal.returns-clause-promise
 returns-clause-promise g c =
-    headline c.args.bytes.now c.in_ok-text.text.items c.in_ok-file.file c.in_ok-office.office.history c.in_ok-file.ensures.ok c.in_ok-office.ensures.served (c.in_ok-text.ensures ∙ ap journal_of c.history.ensures.entries)
+    let file = c.in_ok-file.file in let history = c.in_ok-office.office.history in
+    day_made c.args.bytes.now c.in_ok-journal.journal.items c.in_ok-recalls.recalls.items file history c.in_ok-file.ensures.ok c.in_ok-office.ensures.served (c.in_ok-journal.ensures ∙ ap journal_of c.history.ensures.entries)
+    (c.in_ok-recalls.ensures
+    ∙ (ap (λ (b : BaseLists). recalls_in b c.history-2.result.now) (c.base.ensures ∙ c.in_ok-office.ensures.base)
+    ∙ ap (λ (es : List Entry). recalls_in file.base es) c.history-2.ensures.entries))
 
 pub returns-clause-only : goal.returns-clause-only
 returns-clause-only g c =
-    λ few other h. only_journal c.lone_actors_are_one.ensures c.args.bytes.now c.in_ok-text.text.items other c.in_ok-file.file c.in_ok-office.office.history c.in_ok-file.ensures.ok c.in_ok-office.ensures.roads c.in_ok-office.ensures.served (c.in_ok-text.ensures ∙ ap journal_of c.history.ensures.entries) few h
+    λ few other h. only_journal c.lone_actors_are_one.ensures c.args.bytes.now c.in_ok-journal.journal.items other c.in_ok-file.file c.in_ok-office.office.history c.in_ok-file.ensures.ok c.in_ok-office.ensures.roads c.in_ok-office.ensures.served (c.in_ok-journal.ensures ∙ ap journal_of c.history.ensures.entries) few h
