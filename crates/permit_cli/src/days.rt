@@ -252,3 +252,53 @@ pub(crate) const MET: &str = "\
     1 snapshot = at 1\n\
     1 submit truck 1 from 1 to 2 asked none days 2026-03-02 2026-03-06 seen 1 cut 1 = refused 1 segment 1 height 168 over 167\n\
     end 5\n";
+
+/// A day of two actors on the same road: one applies, the other shuts the road and opens it, four times.
+pub(crate) const OVERTAKING: &str = "\
+    day,2026-03-02,,,,,,\n\
+    node,A,,,,,,\n\
+    node,B,,,,,,\n\
+    segment,S1,A,B,5000,,,\n\
+    truck,T1,ACME,168,102,720,0:12000 180:17000 228:17000,\n\
+    actor,ann,,,,,,\n\
+    actor,eng,,,,,,\n\
+    apply,ann,T1,A,B,,2026-03-02,2026-03-06\n\
+    post,eng,S1,closed,1,,,\n\
+    post,eng,S1,closed,0,,,\n\
+    post,eng,S1,closed,1,,,\n\
+    post,eng,S1,closed,0,,,\n\
+    post,eng,S1,closed,1,,,\n\
+    post,eng,S1,closed,0,,,\n\
+    post,eng,S1,closed,1,,,\n\
+    post,eng,S1,closed,0,,,\n\
+    end,,,,,,,\n";
+
+/// Its journal, where a posting comes between what the first found and its submit in each of its eight attempts.
+pub(crate) const OVERTAKEN: &str = "\
+    permit-journal 1\n\
+    1 snapshot = at 0\n\
+    2 post segment 1 closed 1 = posted 1 recalled -\n\
+    1 submit truck 1 from 1 to 2 asked none days 2026-03-02 2026-03-06 seen 0 route 1 = outdated 1 fails segment 1 closed\n\
+    1 snapshot = at 1\n\
+    2 post segment 1 closed 0 = posted 2 recalled -\n\
+    1 submit truck 1 from 1 to 2 asked none days 2026-03-02 2026-03-06 seen 1 cut 1 = outdated 2 meets segment 1\n\
+    1 snapshot = at 2\n\
+    2 post segment 1 closed 1 = posted 3 recalled -\n\
+    1 submit truck 1 from 1 to 2 asked none days 2026-03-02 2026-03-06 seen 2 route 1 = outdated 3 fails segment 1 closed\n\
+    1 snapshot = at 3\n\
+    2 post segment 1 closed 0 = posted 4 recalled -\n\
+    1 submit truck 1 from 1 to 2 asked none days 2026-03-02 2026-03-06 seen 3 cut 1 = outdated 4 meets segment 1\n\
+    1 snapshot = at 4\n\
+    2 post segment 1 closed 1 = posted 5 recalled -\n\
+    1 submit truck 1 from 1 to 2 asked none days 2026-03-02 2026-03-06 seen 4 route 1 = outdated 5 fails segment 1 closed\n\
+    1 snapshot = at 5\n\
+    2 post segment 1 closed 0 = posted 6 recalled -\n\
+    1 submit truck 1 from 1 to 2 asked none days 2026-03-02 2026-03-06 seen 5 cut 1 = outdated 6 meets segment 1\n\
+    1 snapshot = at 6\n\
+    2 post segment 1 closed 1 = posted 7 recalled -\n\
+    1 submit truck 1 from 1 to 2 asked none days 2026-03-02 2026-03-06 seen 6 route 1 = outdated 7 fails segment 1 closed\n\
+    1 snapshot = at 7\n\
+    2 post segment 1 closed 0 = posted 8 recalled -\n\
+    1 submit truck 1 from 1 to 2 asked none days 2026-03-02 2026-03-06 seen 7 cut 1 = outdated 8 meets segment 1\n\
+    1 held truck 1 from 1 to 2 asked none days 2026-03-02 2026-03-06 = issued 1 at 8 route 1\n\
+    end 25\n";

@@ -8,6 +8,8 @@ ghost use Rattle.notice_desk.specs.Standings.{AreNew, standings};
 mod days;
 #[cfg(test)]
 mod made_days;
+#[cfg(test)]
+mod meetings;
 mod notices;
 mod output;
 mod run;

@@ -182,7 +182,8 @@ fn perform_trial<K: Sink>(alloc: Global, sink: &mut K, seed: u32, size: u32) -> 
 fn write<K: Sink>(sink: &mut K, text: &[u8]) -> u8
     ensures all { result ≡ 0 → Appends (K.held sink.old) (K.held sink.new) text.now }
     ensures stands { result ≡ 0 → K.faults sink.new ≡ K.faults sink.old }
-    ensures front { result ≡ 4 → (count : ℕ) × Appends (K.held sink.old) (K.held sink.new) (take count text.now) }
+    ensures front { result ≡ 4
+        → (count : ℕ) × Appends (K.held sink.old) (K.held sink.new) (take count text.now) }
     ensures failed { result ≡ 4 → Rose (K.faults sink.old) (K.faults sink.new) }
     ensures statuses { (result ≡ 0) ⊎ (result ≡ 4) }
 {

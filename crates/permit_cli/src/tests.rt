@@ -1,14 +1,13 @@
 use crate::add;
-use crate::days::{DAYS, MEETING, MET, NO_LEAP_DAY, RECALLING};
+use crate::days::{DAYS, MEETING, NO_LEAP_DAY, RECALLING};
 use crate::run::{Alone, run, run_alone};
 use analyst_pool::{Gate, OpenGate};
 use notice_desk::{MemoryNotice, Subscribers};
 use office_io::{MemorySink, MemorySource};
 use std::alloc::Global;
 use std::sync::Wait;
-use std::sync::atomic::{AtomicU64, Ordering};
 use std::test::Fail;
-use std::thread::{Threads, yield_now};
+use std::thread::Threads;
 
 const FHWA: &str =
     "truck,FHWA,ACME,162,102,720,0:12000 192:17000 240:17000 564:17000 612:17000,\nend,,,,,,,\n";
@@ -24,9 +23,9 @@ const SEVENTEEN: &str = "\
 
 // How a run ended, and what it wrote.
 #[derive(Drop)]
-struct Ran {
-    status: u8,
-    text: Vec<u8>,
+pub(crate) struct Ran {
+    pub(crate) status: u8,
+    pub(crate) text: Vec<u8>,
 }
 
 // Runs the words over an input, of which some reads fail, and a sink of which some writes fail.
@@ -42,7 +41,7 @@ fn run_words<R: Threads + Wait + AllocGlobal + Sync>(
 
 // The same with a gate of the actors.
 #[tactic(auto, using(notice_desk::proofs::Ready::none_new))]
-fn run_at<R: Threads + Wait + AllocGlobal + Sync, G: Gate + Sync>(
+pub(crate) fn run_at<R: Threads + Wait + AllocGlobal + Sync, G: Gate + Sync>(
     rt: &R,
     words: &[&str],
     input: &[u8],
@@ -214,63 +213,6 @@ fn leaves_a_day_alone(rt: HostRuntime) -> Result<(), Fail> {
     let mut sink = MemorySink::new(rt.alloc(), 10, Vec::new(rt.alloc()))?;
     assert_eq!(rt; run_alone(&rt, &words, &mut source, &mut sink), Alone::Day);
     assert!(rt; sink.bytes().is_empty());
-    Ok(())
-}
-
-// A gate at which the second actor waits, ahead of its command, until the first has found what to propose, and the first,
-// ahead of its submit, until the second has its reply. A wait that is too long marks the gate.
-#[derive(Drop)]
-struct Meeting {
-    found: AtomicU64,
-    answered: AtomicU64,
-    failed: AtomicU64,
-}
-
-impl Meeting {
-    fn wait_for(&self, told: &AtomicU64) {
-        for _ in 0..100_000_000u64 {
-            if told.load(Ordering::SeqCst) > 0 {
-                return;
-            }
-            yield_now();
-        }
-        self.failed.store(1, Ordering::SeqCst);
-    }
-}
-
-impl Gate for Meeting {
-    fn before(&self, actor: u32, _command: u32) {
-        if actor == 1 {
-            self.wait_for(&self.found);
-        }
-    }
-
-    fn between(&self, actor: u32, _command: u32, _attempt: u32) {
-        if actor == 0 {
-            self.found.store(1, Ordering::SeqCst);
-            self.wait_for(&self.answered);
-        }
-    }
-
-    fn answered(&self, actor: u32, _command: u32) {
-        if actor == 1 {
-            self.answered.store(1, Ordering::SeqCst);
-        }
-    }
-}
-
-// Another posts between what an actor finds and its submit, which only actors at work at once can come to.
-#[test]
-fn posts_while_another_analyses(rt: HostRuntime) -> Result<(), Fail> {
-    let gate = Meeting {
-        found: AtomicU64::new(0),
-        answered: AtomicU64::new(0),
-        failed: AtomicU64::new(0),
-    };
-    let ran = run_at(&rt, &["day"], MEETING.as_bytes(), &[], &[], &gate)?;
-    assert_eq!(rt; ran.status, 0);
-    assert_eq!(rt; gate.failed.load(Ordering::SeqCst), 0);
-    assert_eq!(rt; ran.text.as_slice(), MET.as_bytes());
     Ok(())
 }
 
