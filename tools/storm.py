@@ -8,7 +8,7 @@ segments that the most routes hold are taken. Then the engineer shuts and opens 
 4,096, and the analysts are dealt the others. Such a day is run TIMES (5) times; each journal is judged by `judge_journal.py`,
 and its recalls must be what standard error is told. It prints for each run how many submits were outdated, how many applications
 ended in a `held`, how many recalls were told, and the time. How much comes between what is found and its submit rests on how
-many processors are free.
+many processors are free. With TIMES 0 the day file goes to standard output, and is not run.
 """
 import collections
 import os
@@ -82,6 +82,8 @@ def notices_of(journal):
 
 def main(program, times=5, postings=2048, size=10):
     rows = storm(program, size, postings)
+    if times == 0:
+        print("\n".join(rows + ["end,,,,,,,"]))
     with tempfile.TemporaryDirectory() as folder:
         file, journal = os.path.join(folder, "day.csv"), os.path.join(folder, "day.journal")
         pathlib.Path(file).write_text("\n".join(rows + ["end,,,,,,,", ""]))
