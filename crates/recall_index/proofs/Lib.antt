@@ -1,0 +1,3 @@
+pub mod Rising
+pub mod Lists
+pub mod Filters

@@ -1,0 +1,145 @@
+-- The lists of an index, while a number is added to those of a route or taken out of them.
+use Rattle.std.proofs.Common.{◌≡◌, ◌≢◌, ◌∷◌, ◌++◌, [], List, ℕ, ◌+◌, ◌<◌, ◌≤◌, ◌⊎◌, inl, inr, Bool, true, false, nat_eq, not, ◌||◌, cond, length, get_or, set, take, refl, ap, sym, subst, ◌∙◌, arith}
+use Rattle.std.specs.List.{All}
+use Rattle.std.proofs.lemmas.Bool.{cases_eq, eq-eqb, ne_eqb, or_right, true≢false}
+use Rattle.std.proofs.lemmas.List.{append-nil, ext_get_or, get_or-set_other, get_or-set_same, length-set, set-get_or}
+use Rattle.std.proofs.lemmas.List.Elements.{All-append, All-cons, All-nil, All-weaker, filter-append, filter_passes}
+use Rattle.std.proofs.lemmas.List.Folds.{list_any-append, list_any_more}
+use Rattle.recall_index.specs.Uses.{AreBelow, IsAdded, IsRemoved, IsTakenOut, IsThere, Lists, is_in, using_in, with_last, without}
+use Rattle.recall_index.proofs.Rising.{absent, without_absent}
+
+-- a place more is in the front of a list
+in_more : (s at : ℕ) (route : List ℕ) (i : ℕ) → i < length route → at ≡ get_or route i 0 → is_in s (take (i + 1) route) ≡ (is_in s (take i route) || nat_eq at s)
+in_more s at route i low is = list_any_more (λ k. nat_eq k s) route i 0 low ∙ ap (λ k. is_in s (take i route) || nat_eq k s) (sym is)
+
+either : (b : Bool) → (b || false) ≡ b
+either true = refl
+either false = refl
+
+-- a number below which all are is not among them
+above_absent : (n : ℕ) (xs : List ℕ) → All (λ k. k < n) xs → is_in n xs ≡ false
+above_absent n xs below = absent n xs (λ k low e. let h : get_or xs k 0 < n = below k 0 low in omega (arith, e, h))
+
+-- once it stands behind them, it is among them, and gone again without it
+abbrev pub end : ℕ → Bool → List ℕ
+end n b = cond b (n ∷ []) []
+
+in_end : (n : ℕ) (b : Bool) → is_in n (end n b) ≡ b
+in_end n true = ap (λ b. b || false) (eq-eqb n n refl)
+in_end n false = refl
+
+among_end : (n : ℕ) (xs : List ℕ) (b : Bool) → All (λ k. k < n) xs → is_in n (xs ++ end n b) ≡ b
+among_end n xs b below = list_any-append (λ k. nat_eq k n) xs (end n b) ∙ (ap (λ c. c || is_in n (end n b)) (above_absent n xs below) ∙ in_end n b)
+
+without_end : (n : ℕ) (b : Bool) → without n (end n b) ≡ []
+without_end n true = ap (λ b. cond (not b) (n ∷ []) []) (eq-eqb n n refl)
+without_end n false = refl
+
+pub end_gone : (n : ℕ) (xs : List ℕ) (b : Bool) → All (λ k. k < n) xs → without n (xs ++ end n b) ≡ xs
+end_gone n xs b below = filter-append (λ k. not (nat_eq k n)) xs (end n b) ∙ (ap (λ l. l ++ without n (end n b)) (without_absent n xs (above_absent n xs below))
+    ∙ (ap (λ l. xs ++ l) (without_end n b) ∙ append-nil xs))
+
+-- it is put behind them once
+with_end : (n : ℕ) (xs : List ℕ) (b : Bool) → All (λ k. k < n) xs → with_last n (xs ++ end n b) ≡ xs ++ end n true
+with_end n xs b below = ap (λ c. cond c (xs ++ end n b) ((xs ++ end n b) ++ n ∷ [])) (among_end n xs b below) ∙ by b
+  where
+    by : (b : Bool) → cond b (xs ++ end n b) ((xs ++ end n b) ++ n ∷ []) ≡ xs ++ end n true
+    by true = refl
+    by false = ap (λ l. l ++ n ∷ []) (append-nil xs)
+
+without_twice : (n : ℕ) (xs : List ℕ) → without n (without n xs) ≡ without n xs
+without_twice n xs = without_absent n (without n xs) (absent n (without n xs) (λ k low e. true≢false (sym (filter_passes (λ j. not (nat_eq j n)) xs k 0 low) ∙ ap not (eq-eqb (get_or (without n xs) k 0) n e))))
+
+abbrev taken : ℕ → List ℕ → Bool → List ℕ
+taken n xs b = cond b (without n xs) xs
+
+taken_again : (n : ℕ) (xs : List ℕ) (b : Bool) → without n (taken n xs b) ≡ taken n xs true
+taken_again n xs true = without_twice n xs
+taken_again n xs false = refl
+
+pub none_taken : (old : Lists) (n : ℕ) → IsTakenOut old n [] old
+none_taken old n = record { many = refl; using = λ s low. refl }
+
+pub none_added : (old : Lists) (n : ℕ) → IsAdded old n [] old
+none_added old n = record { many = refl; using = λ s low. sym (append-nil (using_in old s)) }
+
+-- one list is another
+at_one : (lists : Lists) (at s : ℕ) (xs : List ℕ) → at ≡ s → at < length lists → using_in (set lists at xs) s ≡ xs
+at_one lists at s xs e here = ap (λ k. using_in (set lists at xs) k) (sym e) ∙ get_or-set_same lists at xs [] here
+
+at_others : (lists : Lists) (at s : ℕ) (xs : List ℕ) → at ≢ s → using_in (set lists at xs) s ≡ using_in lists s
+at_others lists at s xs ne = get_or-set_other lists at s xs [] (λ e. ne (sym e))
+
+module _ (old lists new : Lists) (n at : ℕ) (route : List ℕ) (i : ℕ) (low : i < length route) (is : at ≡ get_or route i 0) (here : at < length lists) where
+  pub taken_more : IsTakenOut old n (take i route) lists → new ≡ set lists at (without n (using_in lists at)) → IsTakenOut old n (take (i + 1) route) new
+  taken_more had now = record {
+    many = ap length now ∙ (length-set lists at (without n (using_in lists at)) ∙ had.many);
+    using = λ s within. (ap (λ l. using_in l s) now ∙ (by s within (cases_eq at s) ∙ ap (taken n (using_in old s)) (sym (in_more s at route i low is))));
+  }
+    where
+      by : (s : ℕ) → s < length old → (at ≡ s) ⊎ (at ≡ s → ⊥) → using_in (set lists at (without n (using_in lists at))) s ≡ taken n (using_in old s) (is_in s (take i route) || nat_eq at s)
+      by s within (inl e) = at_one lists at s (without n (using_in lists at)) e here
+          ∙ (ap (λ k. without n (using_in lists k)) e ∙ (ap (without n) (had.using s within) ∙ (taken_again n (using_in old s) (is_in s (take i route))
+          ∙ ap (taken n (using_in old s)) (sym (or_right (is_in s (take i route)) (nat_eq at s) (eq-eqb at s e))))))
+      by s within (inr ne) = at_others lists at s (without n (using_in lists at)) ne ∙ (had.using s within
+          ∙ ap (taken n (using_in old s)) (sym (ap (λ b. is_in s (take i route) || b) (ne_eqb at s ne) ∙ either (is_in s (take i route)))))
+
+  pub added_more : AreBelow n old → IsAdded old n (take i route) lists → new ≡ set lists at (with_last n (using_in lists at)) → IsAdded old n (take (i + 1) route) new
+  added_more below had now = record {
+    many = ap length now ∙ (length-set lists at (with_last n (using_in lists at)) ∙ had.many);
+    using = λ s within. (ap (λ l. using_in l s) now ∙ (by s within (cases_eq at s) ∙ ap (λ b. using_in old s ++ end n b) (sym (in_more s at route i low is))));
+  }
+    where
+      by : (s : ℕ) → s < length old → (at ≡ s) ⊎ (at ≡ s → ⊥) → using_in (set lists at (with_last n (using_in lists at))) s ≡ using_in old s ++ end n (is_in s (take i route) || nat_eq at s)
+      by s within (inl e) = at_one lists at s (with_last n (using_in lists at)) e here
+          ∙ (ap (λ k. with_last n (using_in lists k)) e ∙ (ap (with_last n) (had.using s within) ∙ (with_end n (using_in old s) (is_in s (take i route)) (below s within)
+          ∙ ap (λ b. using_in old s ++ end n b) (sym (or_right (is_in s (take i route)) (nat_eq at s) (eq-eqb at s e))))))
+      by s within (inr ne) = at_others lists at s (with_last n (using_in lists at)) ne ∙ (had.using s within
+          ∙ ap (λ b. using_in old s ++ end n b) (sym (ap (λ b. is_in s (take i route) || b) (ne_eqb at s ne) ∙ either (is_in s (take i route)))))
+
+  -- the numbers where the next one is put are not above it
+  pub may_add : AreBelow n old → IsAdded old n (take i route) lists → All (λ k. k ≤ n) (using_in lists at)
+  may_add below had = let within : at < length old = omega (arith, here, had.many) in
+      subst (All (λ k. k ≤ n)) (sym (had.using at within))
+      (All-append (λ k. k ≤ n) (using_in old at) (end n (is_in at (take i route))) (All-weaker (λ k. k < n) (λ k. k ≤ n) (λ k h. omega (arith, h)) (using_in old at) (below at within)) (at_end (is_in at (take i route))))
+    where
+      at_end : (b : Bool) → All (λ k. k ≤ n) (end n b)
+      at_end true = All-cons (λ k. k ≤ n) n [] (omega arith) (All-nil (λ k. k ≤ n))
+      at_end false = All-nil (λ k. k ≤ n)
+
+-- what was added is taken out again
+pub undone : (old lists new : Lists) (n : ℕ) (route : List ℕ) → AreBelow n old → IsAdded old n route lists → IsTakenOut lists n route new → new ≡ old
+undone old lists new n route below had gone = ext_get_or [] new old (gone.many ∙ had.many) (λ s low.
+    let here : s < length lists = omega (arith, low, gone.many) in
+    let within : s < length old = omega (arith, here, had.many) in
+    gone.using s here ∙ (ap (λ l. taken n l (is_in s route)) (had.using s within) ∙ by s within (is_in s route)))
+  where
+    by : (s : ℕ) → s < length old → (b : Bool) → taken n (using_in old s ++ end n b) b ≡ using_in old s
+    by s within true = end_gone n (using_in old s) true (below s within)
+    by s within false = append-nil (using_in old s)
+
+-- taken out of its own segments it is gone from each
+pub gone_from_all : (old new : Lists) (n : ℕ) (route : List ℕ) → IsThere old n route → IsTakenOut old n route new → IsRemoved old n new
+gone_from_all old new n route there gone = record {
+  many = gone.many;
+  using = λ s low. gone.using s low ∙ by s low (is_in s route) refl;
+}
+  where
+    by : (s : ℕ) → s < length old → (b : Bool) → is_in s route ≡ b → taken n (using_in old s) b ≡ without n (using_in old s)
+    by s low true e = refl
+    by s low false e = sym (without_absent n (using_in old s) (there s low ∙ e))
+
+-- each place of a route is one of the lists
+pub place_there : (old lists : Lists) (n : ℕ) (route list : List ℕ) (i : ℕ) → All (λ s. s < length old) route → list ≡ route → i < length list → IsAdded old n (take i list) lists → get_or list i 0 < length lists
+place_there old lists n route list i inside same low had =
+    let within : i < length route = omega (arith, low, ap length same) in
+    omega (arith, inside i 0 within, ap (λ l. get_or l i 0) same, had.many)
+
+-- a list that is put back leaves all as they were
+pub put_back : (lists : Lists) (at : ℕ) (found put : List ℕ) → found ≡ get_or lists at found → put ≡ found → set lists at put ≡ lists
+put_back lists at found put is same = ap (set lists at) (same ∙ is) ∙ set-get_or lists at found
+
+-- a number that was added above all others is there with its route
+pub there_once_added : (old new : Lists) (n : ℕ) (route : List ℕ) → AreBelow n old → IsAdded old n route new → IsThere new n route
+there_once_added old new n route below had s low = let within : s < length old = omega (arith, low, had.many) in
+    ap (is_in n) (had.using s within) ∙ among_end n (using_in old s) (is_in s route) (below s within)

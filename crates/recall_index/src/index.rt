@@ -1,0 +1,86 @@
+// The numbers that use each segment.
+
+ghost use Rattle.std.specs.Prelude.{◌≡◌, ◌<◌, length, All, IfOk, OnOk, OnErr};
+ghost use Rattle.std.specs.List.Sorted.{IsStrictlyIncreasing};
+ghost use Rattle.recall_index.specs.Uses.{AreBelow, IsAdded, IsRemoved, IsTakenOut, IsThere, unused, using_in};
+
+use crate::users::Users;
+use office_io::NoMemory;
+use road_graph::Numbers;
+use std::alloc::Global;
+use std::marker::Model;
+
+/// For each segment the numbers whose route holds it.
+///
+/// Contracts see these lists, in the order of the segments.
+#[derive(Debug, Drop)]
+pub struct Index {
+    users: Vec<Users>,
+}
+
+impl Model for Index {
+    ghost use Rattle.std.specs.Prelude.{List, ℕ};
+
+    ghost Value = { List (List ℕ) };
+
+    ghost view = { λ index. index.users.items };
+}
+
+impl Index {
+    /// An index of so many segments, which nothing uses yet.
+    pub fn new(alloc: Global, segments: u32) -> Result<Index, NoMemory>
+        ensures { IfOk result (λ index. index ≡ unused segments) }
+    {
+        let mut users = Vec::new(alloc);
+        for _segment in 0..segments {
+            users.push(Users::none(alloc))?;
+        }
+        Ok(Index { users })
+    }
+
+    /// Adds a number, which is above all that are there, at each segment that its route holds. `NoMemory` where no memory
+    /// was left, and then the index is as it was.
+    pub fn add(&mut self, number: u32, route: &Numbers) -> Result<(), NoMemory>
+        requires segments { All (λ s. s < length self.old) route.now }
+        requires above { AreBelow number self.old }
+        ensures added { OnOk result (IsAdded self.old number route.now self.new) }
+        ensures unchanged { OnErr result (self.new ≡ self.old) }
+    {
+        let segments = route.as_slice();
+        for i in 0..segments.len() {
+            if let Err(NoMemory) = self.users[segments[i] as usize].add(number) {
+                self.take_out(number, &segments[..i]);
+                return Err(NoMemory);
+            }
+        }
+        Ok(())
+    }
+
+    /// Takes out a number, which was added with this route. Takes no memory.
+    pub fn remove(&mut self, number: u32, route: &Numbers)
+        requires segments { All (λ s. s < length self.old) route.now }
+        requires there { IsThere self.old number route.now }
+        ensures { IsRemoved self.old number self.new }
+    {
+        self.take_out(number, route.as_slice());
+    }
+
+    /// The numbers whose route holds the segment, rising and each once. Takes no memory.
+    pub fn using(&self, segment: u32) -> &[u32]
+        requires { segment < length self.now }
+        ensures value { result.now ≡ using_in self.now segment }
+        ensures rising { IsStrictlyIncreasing result.now }
+    {
+        self.users[segment as usize].as_slice()
+    }
+
+    // Takes out a number at each of these segments.
+    fn take_out(&mut self, number: u32, segments: &[u32])
+        requires { All (λ s. s < length self.old) segments.now }
+        ensures { IsTakenOut self.old number segments.now self.new }
+    {
+        for i in 0..segments.len() {
+            self.users[segments[i] as usize].remove(number);
+        }
+    }
+}
