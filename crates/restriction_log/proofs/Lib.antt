@@ -1,2 +1,5 @@
 pub mod Elsewhere
+pub mod Filling
+pub mod Paging
+pub mod Stamping
 pub mod Standing

@@ -7,19 +7,26 @@
 //! network; that a posting is refused exactly where the network does not take it or the log is full, and is otherwise
 //! the next one; and that where a segment was not changed after a version, its limits and the ratings of its spans are
 //! still those of that version.
+//!
+//! A state is kept in pages, and so are the stamps, which say which segments changed after a version. A posting copies one
+//! page of each; all other pages stay where they are, in as many states as have them in common.
 #![tactic(auto)]
 
 mod change;
 mod laws;
 mod lists;
 mod log;
+mod page;
+mod pages;
 mod refusal;
+mod stamps;
 mod state;
 
 pub use change::{Change, takes, touched};
 pub use laws::states_are_of_their_network;
 pub use log::Log;
 pub use refusal::PostRefusal;
+pub use stamps::Stamps;
 pub use state::State;
 
 #[cfg(test)]

@@ -1,69 +1,50 @@
-// The lists of a state: as a network begins with them, copied, and with one value replaced.
+// What a state consists of: the lists with which a network begins, and the limits of a segment after a change.
 
-ghost use Rattle.std.specs.Prelude.{◌≡◌, map, true, IfOk};
-ghost use Rattle.restriction_log.specs.States.{in_force, state_after, is_named};
+ghost use Rattle.std.specs.Prelude.{◌≡◌, map, IfOk};
+ghost use Rattle.restriction_log.specs.Changes.{value_after};
 
 use crate::change::Change;
+use crate::pages::Pages;
 use road_graph::{Network, Values};
 use std::alloc::{AllocError, Global};
 
 /// The base limits of each segment.
-pub(crate) fn base_values(alloc: Global, network: &Network) -> Result<Vec<Values>, AllocError>
-    ensures { IfOk result (λ values. values.items ≡ map (λ s. s.base) network.now.segments) }
+pub(crate) fn base_values(alloc: Global, network: &Network) -> Result<Pages<Values>, AllocError>
+    ensures { IfOk result (λ values. values ≡ map (λ s. s.base) network.now.segments) }
 {
     let count = network.segments();
     let mut values = Vec::with_capacity(alloc, count as usize)?;
     'segments: for i in 0..count {
         values.push(network.segment(i).base)?;
     }
-    Ok(values)
+    Pages::of(alloc, &values, Values::default())
 }
 
 /// The base rating of each span.
-pub(crate) fn base_ratings(alloc: Global, network: &Network) -> Result<Vec<u32>, AllocError>
-    ensures { IfOk result (λ ratings. ratings.items ≡ map (λ t. t.rating) network.now.spans) }
+pub(crate) fn base_ratings(alloc: Global, network: &Network) -> Result<Pages<u32>, AllocError>
+    ensures { IfOk result (λ ratings. ratings ≡ map (λ t. t.rating) network.now.spans) }
 {
     let count = network.spans();
     let mut ratings = Vec::with_capacity(alloc, count as usize)?;
     'spans: for i in 0..count {
         ratings.push(network.span(i).rating)?;
     }
-    Ok(ratings)
+    Pages::of(alloc, &ratings, 0)
 }
 
-/// The same limits once more.
-pub(crate) fn copied_values(alloc: Global, values: &[Values]) -> Result<Vec<Values>, AllocError>
-    ensures { IfOk result (λ copy. copy.items ≡ values.now) }
+/// The limits of a segment after a change that names it.
+pub(crate) fn replaced(values: Values, change: &Change) -> Values
+    ensures { result ≡ value_after values change.now }
 {
-    let mut copy = Vec::new(alloc);
-    copy.extend_from_slice(values)?;
-    Ok(copy)
-}
-
-/// The same ratings once more.
-pub(crate) fn copied_ratings(alloc: Global, ratings: &[u32]) -> Result<Vec<u32>, AllocError>
-    ensures { IfOk result (λ copy. copy.items ≡ ratings.now) }
-{
-    let mut copy = Vec::new(alloc);
-    copy.extend_from_slice(ratings)?;
-    Ok(copy)
-}
-
-/// Replaces the value that the change names.
-pub(crate) fn replace(values: &mut Vec<Values>, ratings: &mut Vec<u32>, change: &Change)
-    requires { is_named (in_force values.old.items ratings.old.items) change.now ≡ true }
-    ensures { in_force values.new.items ratings.new.items
-        ≡ state_after (in_force values.old.items ratings.old.items) change.now }
-{
+    let mut values = values;
     match change {
-        Change::Closed { segment, closed } => values[*segment as usize].closed = *closed,
-        Change::Height { segment, inches } => values[*segment as usize].height = *inches,
-        Change::Width { segment, inches } => values[*segment as usize].width = *inches,
-        Change::Length { segment, inches } => values[*segment as usize].length = *inches,
-        Change::Gross { segment, pounds } => values[*segment as usize].gross = *pounds,
-        Change::Allowance { segment, permille } => {
-            values[*segment as usize].allowance = *permille;
-        }
-        Change::Rating { span, permille } => ratings[*span as usize] = *permille,
+        Change::Closed { closed, .. } => values.closed = *closed,
+        Change::Height { inches, .. } => values.height = *inches,
+        Change::Width { inches, .. } => values.width = *inches,
+        Change::Length { inches, .. } => values.length = *inches,
+        Change::Gross { pounds, .. } => values.gross = *pounds,
+        Change::Allowance { permille, .. } => values.allowance = *permille,
+        Change::Rating { .. } => {}
     }
+    values
 }

@@ -1,17 +1,20 @@
 // The limits and ratings in force.
 
 use crate::change::Change;
-use crate::lists::{base_ratings, base_values, copied_ratings, copied_values, replace};
+use crate::lists::{base_ratings, base_values, replaced};
+use crate::pages::Pages;
 use office_io::NoMemory;
 use road_graph::{Network, Values};
 use std::alloc::Global;
 use std::marker::Model;
 
 /// The limits of each segment and the rating of each span, as they are in force.
-#[derive(Debug, Drop)]
+///
+/// They are kept in pages, which a state and those that postings make of it have in common.
+#[derive(Drop)]
 pub struct State {
-    values: Vec<Values>,
-    ratings: Vec<u32>,
+    values: Pages<Values>,
+    ratings: Pages<u32>,
 }
 
 impl Model for State {
@@ -19,12 +22,13 @@ impl Model for State {
 
     ghost Value = { InForce };
 
-    ghost view = { λ s. record { values = s.values.items; ratings = s.ratings.items } };
+    ghost view = { λ s. record { values = s.values; ratings = s.ratings } };
 }
 
 impl State {
     ghost use Rattle.std.specs.Prelude.{◌≡◌, ◌<◌, length, true, IfOk};
-    ghost use Rattle.restriction_log.specs.States.{InForce, base_of, state_after, is_named, values_at, rating_at};
+    ghost use Rattle.restriction_log.specs.States.{InForce, base_of, state_after, is_named, values_at, rating_at, with_change};
+    ghost use Rattle.restriction_log.specs.declared.change.Change.TheVariants.{Rating};
 
     /// The state before anything is posted.
     pub fn base(alloc: Global, network: &Network) -> Result<State, NoMemory>
@@ -32,10 +36,10 @@ impl State {
         ensures values { IfOk result (λ state. length state.values ≡ length network.now.segments) }
         ensures ratings { IfOk result (λ state. length state.ratings ≡ length network.now.spans) }
     {
-        match (base_values(alloc, network), base_ratings(alloc, network)) {
-            (Ok(values), Ok(ratings)) => Ok(State { values, ratings }),
-            _ => Err(NoMemory),
-        }
+        Ok(State {
+            values: base_values(alloc, network)?,
+            ratings: base_ratings(alloc, network)?,
+        })
     }
 
     /// The limits of a segment. Takes no memory.
@@ -43,8 +47,7 @@ impl State {
         requires { i < length self.now.values }
         ensures { result ≡ values_at self.now.values i }
     {
-        let values = &self.values;
-        values[i as usize]
+        self.values.get(i as usize)
     }
 
     /// The rating of a span, in per mille of HS20-44. Takes no memory.
@@ -52,12 +55,11 @@ impl State {
         requires { span < length self.now.ratings }
         ensures { result ≡ rating_at self.now.ratings span }
     {
-        let ratings = &self.ratings;
-        ratings[span as usize]
+        self.ratings.get(span as usize)
     }
 
-    /// This state with one value replaced, that of the segment or span that the change names. The state has what its
-    /// network takes.
+    /// This state with one value replaced, that of the segment or span that the change names: its page is copied, and the
+    /// other pages get one more owner. The state has what its network takes.
     #[tactic(auto, using(crate::proofs::Standing::values_many_after, crate::proofs::Standing::ratings_many_after))]
     pub fn with(&self, alloc: Global, change: &Change) -> Result<State, NoMemory>
         requires { is_named self.now change.now ≡ true }
@@ -65,15 +67,37 @@ impl State {
         ensures values { IfOk result (λ state. length state.values ≡ length self.now.values) }
         ensures ratings { IfOk result (λ state. length state.ratings ≡ length self.now.ratings) }
     {
-        match (
-            copied_values(alloc, &self.values),
-            copied_ratings(alloc, &self.ratings),
-        ) {
-            (Ok(mut values), Ok(mut ratings)) => {
-                replace(&mut values, &mut ratings, change);
-                Ok(State { values, ratings })
-            }
-            _ => Err(NoMemory),
+        match change {
+            Change::Closed { segment, .. } => self.with_limits(alloc, *segment, change),
+            Change::Height { segment, .. } => self.with_limits(alloc, *segment, change),
+            Change::Width { segment, .. } => self.with_limits(alloc, *segment, change),
+            Change::Length { segment, .. } => self.with_limits(alloc, *segment, change),
+            Change::Gross { segment, .. } => self.with_limits(alloc, *segment, change),
+            Change::Allowance { segment, .. } => self.with_limits(alloc, *segment, change),
+            Change::Rating { span, permille } => self.with_rating(alloc, *span, *permille),
         }
+    }
+
+    // This state with other limits of the segment, those after a change that names it.
+    fn with_limits(&self, alloc: Global, segment: u32, change: &Change) -> Result<State, NoMemory>
+        requires { segment < length self.now.values }
+        ensures { IfOk result (λ state. state ≡ with_change self.now segment change.now) }
+    {
+        let limits = replaced(self.segment(segment), change);
+        Ok(State {
+            values: self.values.with(alloc, segment as usize, limits)?,
+            ratings: self.ratings.again(alloc)?,
+        })
+    }
+
+    // This state with another rating of the span.
+    fn with_rating(&self, alloc: Global, span: u32, permille: u32) -> Result<State, NoMemory>
+        requires { span < length self.now.ratings }
+        ensures { IfOk result (λ state. state ≡ state_after self.now (Rating span permille)) }
+    {
+        Ok(State {
+            values: self.values.again(alloc)?,
+            ratings: self.ratings.with(alloc, span as usize, permille)?,
+        })
     }
 }

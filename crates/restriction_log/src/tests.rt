@@ -1,7 +1,7 @@
 ghost use Rattle.std.specs.Prelude.{◌≡◌, length, IfOk};
 ghost use Rattle.restriction_log.specs.Changes.{AreTaken};
 
-use crate::{Change, Log, PostRefusal, State, states_are_of_their_network, takes, touched};
+use crate::{Change, Log, PostRefusal, Stamps, State, states_are_of_their_network, takes, touched};
 use office_io::Name;
 use road_graph::{Network, Values, What};
 use std::alloc::Global;
@@ -303,6 +303,118 @@ fn tells_what_changed_after_a_version(rt: HostRuntime) -> Result<(), Fail> {
     let told = tell_changes(&rt, rt.alloc(), &network);
     drop(network);
     told
+}
+
+// Segments between two nodes, each with a span, on three pages of which the last is not full.
+const MANY: u32 = 130;
+
+fn many_roads(rt: &impl Abort, alloc: Global) -> Network {
+    let mut network = Network::new(alloc);
+    for name in [b"a", b"b"] {
+        let added = network.add_node(named(rt, name));
+        assert!(rt; added.is_ok());
+    }
+    for i in 0..MANY {
+        let name = [b'a' + (i / 26) as u8, b'a' + (i % 26) as u8];
+        let added = network.add_segment(named(rt, &name), 0, 1, 5_280);
+        assert!(rt; added.is_ok());
+        let added = network.add_span(named(rt, &name), i, 360, 1_000);
+        assert!(rt; added.is_ok());
+    }
+    network
+}
+
+// Of the segments and the spans only these have another height, and another rating.
+fn differs_at(rt: &impl Abort, state: &State, segment: Option<u32>, span: Option<u32>)
+    requires values { length state.now.values ≡ 130 }
+    requires ratings { length state.now.ratings ≡ 130 }
+{
+    for i in 0..MANY {
+        let height = if segment == Some(i) { 168 } else { 999 };
+        same(rt, i as usize, &state.segment(i).height, &height);
+        let rating = if span == Some(i) { 750 } else { 1_000 };
+        same(rt, i as usize, &state.rating(i), &rating);
+    }
+}
+
+// Posts on a segment and on a span of that number. Each state stays as it is.
+fn post_far(rt: &impl Abort, alloc: Global, network: &Network, of: u32) -> Result<(), Fail>
+    requires segments { length network.now.segments ≡ 130 }
+    requires spans { length network.now.spans ≡ 130 }
+{
+    let base = State::base(alloc, network)?;
+    let limit = change(Some(What::Height), of, 168);
+    let lower = state_with(rt, alloc, network, &base, &limit, of)?;
+    let weaker = state_with(rt, alloc, network, &lower, &change(None, of, 750), of)?;
+    differs_at(rt, &base, None, None);
+    differs_at(rt, &lower, Some(of), None);
+    differs_at(rt, &weaker, Some(of), Some(of));
+    drop(base);
+    drop(lower);
+    drop(weaker);
+    Ok(())
+}
+
+// Stamps of these segments, one after another.
+fn stamped(
+    rt: &impl Abort,
+    alloc: Global,
+    network: &Network,
+    stamps: &[(u32, u32)],
+) -> Result<Stamps, Fail>
+    requires { length network.now.segments ≡ 130 }
+    ensures { IfOk result (λ stamps. length stamps ≡ 130) }
+{
+    let mut made = Stamps::base(alloc, network)?;
+    'stamps: for &(segment, number) in stamps {
+        assert!(rt; segment < MANY);
+        made = made.with(alloc, segment, number)?;
+    }
+    Ok(made)
+}
+
+// A number, where to begin, and the first segment whose stamp is above the number.
+type Above = (u32, u32, Option<u32>);
+
+fn find_each(rt: &impl Abort, alloc: Global, network: &Network) -> Result<(), Fail>
+    requires { length network.now.segments ≡ 130 }
+{
+    let stamps = stamped(rt, alloc, network, &[(5, 1), (63, 2), (129, 3), (5, 4)])?;
+    let cases: [Above; 10] = [
+        (0, 0, Some(5)),
+        (0, 6, Some(63)),
+        (0, 64, Some(129)),
+        (0, 130, None),
+        (1, 0, Some(5)),
+        (1, 6, Some(63)),
+        (2, 6, Some(129)),
+        (3, 0, Some(5)),
+        (3, 6, None),
+        (4, 0, None),
+    ];
+    for (row, &(number, from, first)) in cases.iter().enumerate() {
+        same(rt, row, &stamps.next_above(number, from), &first);
+    }
+    same(rt, 10, &[stamps.stamp(5), stamps.stamp(64)], &[4, 0]);
+    drop(stamps);
+    Ok(())
+}
+
+fn look_far(rt: &impl Abort, alloc: Global, network: &Network) -> Result<(), Fail> {
+    assert!(rt; network.segments() == MANY);
+    assert!(rt; network.spans() == MANY);
+    for of in [0, 63, 64, 128, 129] {
+        post_far(rt, alloc, network, of)?;
+    }
+    find_each(rt, alloc, network)
+}
+
+#[test]
+fn leaves_a_state_as_it_was_on_each_page(rt: HostRuntime) -> Result<(), Fail> {
+    let network = many_roads(&rt, rt.alloc());
+    let looked = look_far(&rt, rt.alloc(), &network);
+    drop(network);
+    looked
 }
 
 fn names(rt: &impl Abort, alloc: Global, cases: &[(PostRefusal, &str)]) -> Result<(), Fail> {
