@@ -4,7 +4,7 @@ use Rattle.std.specs.Arc.{arc_value}
 use Rattle.snapshot_store.specs.declared.snapshot.Snapshot.TheInside.{Inside}
 use Rattle.snapshot_store.specs.Stores.{IsKept, version_of}
 
--- it has the version and the state of the store from which it was taken
+-- it has the version, the state and the stamps of the store from which it was taken
 pub record IsSnapshot (s : Inside) : Type 0 where
   pub version : s.version ≡ version_of s.store.value
-  pub kept : IsKept s.store.value (arc_value s.state)
+  pub kept : IsKept s.store.value (arc_value s.state) (arc_value s.stamps)

@@ -1,7 +1,7 @@
 // A version and its state.
 
 use crate::store::Store;
-use restriction_log::State;
+use restriction_log::{Stamps, State};
 use std::alloc::Global;
 use std::marker::Model;
 use std::snapshot::Snapshot as Told;
@@ -17,6 +17,7 @@ pub struct Snapshot {
     pub(crate) store: Told<Store>,
     pub(crate) version: u32,
     pub(crate) state: Arc<State, Global>,
+    pub(crate) stamps: Arc<Stamps, Global>,
 }
 
 impl Model for Snapshot {
@@ -31,9 +32,10 @@ impl Model for Snapshot {
 }
 
 impl Snapshot {
-    ghost use Rattle.std.specs.Prelude.{◌≡◌, ◌≤◌};
+    ghost use Rattle.std.specs.Prelude.{◌≡◌, ◌<◌, ◌≤◌, length, drop, true, IfSome, IfNone};
+    ghost use Rattle.restriction_log.specs.Changes.{is_touched};
     ghost use Rattle.restriction_log.specs.States.{AreOf};
-    ghost use Rattle.snapshot_store.specs.Stores.{state_now, version_of};
+    ghost use Rattle.snapshot_store.specs.Stores.{AreKept, state_now, version_of};
 
     /// The number of the last posting before it was taken. Takes no memory.
     pub fn version(&self) -> u32
@@ -49,5 +51,17 @@ impl Snapshot {
         ensures of_network { AreOf self.now.roads result.now }
     {
         &self.state
+    }
+
+    /// The first segment from `from` on of which a posting numbered above `after` names it or one of its spans, where there
+    /// is one. Takes no memory, and passes over each page of segments that no such posting names.
+    #[tactic(auto, using(crate::proofs::Changed::changed_above, crate::proofs::Changed::kept_below))]
+    pub fn next_changed(&self, after: u32, from: u32) -> Option<u32>
+        ensures changed { IfSome result (λ s. is_touched self.now.roads s (drop after self.now.postings) ≡ true) }
+        ensures within { IfSome result (λ s. (from ≤ s) × (s < length self.now.roads.segments)) }
+        ensures first { IfSome result (λ s. AreKept self.now after from s) }
+        ensures none { IfNone result (AreKept self.now after from (length self.now.roads.segments)) }
+    {
+        self.stamps.next_above(after, from)
     }
 }

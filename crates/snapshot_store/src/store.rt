@@ -3,7 +3,7 @@
 use crate::next::Next;
 use crate::snapshot::Snapshot;
 use office_io::NoMemory;
-use restriction_log::{Change, Log, PostRefusal, State, takes};
+use restriction_log::{Change, Log, PostRefusal, Stamps, State, takes, touched};
 use road_graph::Network;
 use std::alloc::Global;
 use std::marker::Model;
@@ -21,6 +21,7 @@ pub struct Store {
     network: Told<Network>,
     log: Log,
     state: Arc<State, Global>,
+    stamps: Arc<Stamps, Global>,
 }
 
 impl Model for Store {
@@ -38,6 +39,7 @@ impl Store {
     ghost use Rattle.std.specs.Arc.{arc_value};
     ghost use Rattle.restriction_log.specs.Changes.{is_touched, takes};
     ghost use Rattle.restriction_log.specs.Logs.{IsPostCause, post_refusal};
+    ghost use Rattle.restriction_log.specs.Stamps.{HasStamps};
     ghost use Rattle.restriction_log.specs.States.{AreOf};
     ghost use Rattle.snapshot_store.specs.Stores.{IsNextOf, newly_stored, state_now, version_of, with_change};
 
@@ -48,11 +50,13 @@ impl Store {
         network.lists_are_in_order();
         let log = Log::start(alloc, network)?;
         let state = Arc::new(alloc, State::base(alloc, network)?)?;
+        let stamps = Arc::new(alloc, Stamps::base(alloc, network)?)?;
         Ok(Store {
             alloc,
             network: Told::of(network),
             log,
             state,
+            stamps,
         })
     }
 
@@ -80,6 +84,7 @@ impl Store {
             store: Told::of(self),
             version: self.log.version(),
             state: Arc::try_clone(&self.state)?,
+            stamps: Arc::try_clone(&self.stamps)?,
         })
     }
 
@@ -91,7 +96,7 @@ impl Store {
         requires within { segment < length self.now.roads.segments }
         ensures value { result ≡ is_touched self.now.roads segment (drop after self.now.postings) }
     {
-        self.log.changed(network, segment, after)
+        self.stamps.stamp(segment) > after
     }
 
     /// What a posting would make of the store. Refusals, in this order: `Range` where the network does not take the change,
@@ -126,6 +131,24 @@ impl Store {
         Ok(Arc::new(self.alloc, state)?)
     }
 
+    // The stamps with the one that a posting of the change sets.
+    #[tactic(auto, using(crate::proofs::Changed::stamps_posted))]
+    fn stamps_with(
+        &self,
+        network: &Network,
+        change: &Change,
+    ) -> Result<Arc<Stamps, Global>, NoMemory>
+        requires network { network.now ≡ self.now.roads }
+        requires takes { takes self.now.roads change.now ≡ true }
+        ensures { IfOk result (λ stamps. HasStamps self.now.roads (with_change self.now change.now).postings (arc_value stamps)) }
+    {
+        let segment = touched(network, change);
+        let stamps = self
+            .stamps
+            .with(self.alloc, segment, self.log.version() + 1)?;
+        Ok(Arc::new(self.alloc, stamps)?)
+    }
+
     /// Posts what was made of this store, and answers the new version. `NoMemory` where no memory was left, and then the
     /// store is as it was.
     pub fn commit(&mut self, network: &Network, next: Next) -> Result<u32, NoMemory>
@@ -135,9 +158,11 @@ impl Store {
         ensures posted { OnOk result (self.new ≡ with_change self.old next.change) }
         ensures unchanged { OnErr result (self.new ≡ self.old) }
     {
+        let stamps = self.stamps_with(network, &next.change)?;
         match self.log.post(network, next.change) {
             Ok(version) => {
                 self.state = next.state;
+                self.stamps = stamps;
                 Ok(version)
             }
             Err(PostRefusal::NoMemory) => Err(NoMemory),

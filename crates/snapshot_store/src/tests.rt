@@ -1,7 +1,7 @@
 ghost use Rattle.std.specs.Prelude.{◌≡◌};
 ghost use Rattle.restriction_log.specs.States.{AreOf};
 
-use crate::Store;
+use crate::{Snapshot, Store};
 use office_io::{Name, NoMemory};
 use restriction_log::{Change, PostRefusal, State};
 use road_graph::Network;
@@ -186,6 +186,24 @@ fn ask_each(rt: &impl Abort, network: &Network, store: &Store, rows: &[(u32, u32
     }
 }
 
+// A number, where to begin, and the first segment that a posting above the number names.
+const NEXT: [(u32, u32, Option<u32>); 7] = [
+    (0, 0, Some(0)),
+    (0, 1, Some(1)),
+    (0, 2, None),
+    (3, 0, Some(0)),
+    (4, 0, Some(1)),
+    (5, 0, Some(1)),
+    (6, 0, None),
+];
+
+fn look_each(rt: &impl Abort, snapshot: &Snapshot) {
+    for &(after, from, next) in &NEXT {
+        let found = snapshot.next_changed(after, from);
+        assert_eq!(rt; found, next, "{after} {from}");
+    }
+}
+
 // Posts to a new store, asks what changed, and compares what a snapshot says that was taken before all postings.
 fn check_store(
     rt: &impl Abort,
@@ -197,6 +215,9 @@ fn check_store(
     let first = store.snapshot();
     post_each(rt, network, &mut store, in_two_steps);
     ask_each(rt, network, &store, &CHANGED);
+    let last = store.snapshot()?;
+    look_each(rt, &last);
+    drop(last);
     drop(store);
     let first = first?;
     let told = are_told(network, first.version(), first.state(), BASE);
