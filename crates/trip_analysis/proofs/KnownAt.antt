@@ -1,6 +1,6 @@
 -- What is known of the trucks goes on from a state to another.
 use Rattle.std.proofs.Common.{◌≡◌, ◌==◌, ◌&&◌, ◌≢◌, ◌<◌, ◌≤◌, ◌⊎◌, ◌+◌, ◌++◌, ◌∷◌, [], ℕ, List, Bool, true, false, not, length, get_or, refl, sym, ap, ◌∙◌, subst, arith, inl, inr}
-use Rattle.std.proofs.lemmas.Bool.{cases_eq}
+use Rattle.std.proofs.lemmas.Bool.{cases_eq, cases_lt}
 use Rattle.std.proofs.lemmas.List.{ext_get_or, get_or-set_same, get_or-set_other, get_or_push, get_or_append_left}
 use Rattle.std.proofs.lemmas.List.FromFn.{length-map-range_with_len}
 use Rattle.std.proofs.lemmas.Option.{get_or_from_slice_get}
@@ -13,6 +13,8 @@ use Rattle.restriction_log.specs.declared.change.Change.{Change}
 use Rattle.restriction_log.specs.Changes.{touched}
 use Rattle.restriction_log.specs.States.{InForce, AgreeOn, rating_at, state_after, values_at}
 use Rattle.restriction_log.proofs.Elsewhere.{agree-after}
+use Rattle.snapshot_store.specs.Stores.{AreKept, IsLater, Stored, state_now, version_of}
+use Rattle.snapshot_store.proofs.Changed.{agree_kept}
 use Rattle.clearance_rules.specs.declared.limit.Limit.{Limit}
 use Rattle.clearance_rules.proofs.Agreeing.{limits_agree}
 use Rattle.trip_analysis.specs.declared.analyst.Analyst.{Analyst}
@@ -85,18 +87,17 @@ below_all base old new n truck known whole below = record {
   settled = below.is_of.settled;
 }
 
--- one segment more, on which the states agree
-below_same : (base : BaseLists) (old new : InForce) (n truck : ℕ) (known : Known) → AgreeOn base.roads n old new → IsKnownBelow base old new n truck known → IsKnownBelow base old new (n + 1) truck known
-below_same base old new n truck known agree below = record {
+-- some segments more, on which the states agree
+below_kept : (base : BaseLists) (old new : InForce) (n m truck : ℕ) (known : Known) → n ≤ m → ((i : ℕ) → n ≤ i → i < m → AgreeOn base.roads i old new)
+    → IsKnownBelow base old new n truck known → IsKnownBelow base old new m truck known
+below_kept base old new n m truck known up agree below = record {
   is_of = below.is_of;
-  before = λ i e less there. here i e less there (cases_eq i n);
-  behind = λ i e low there. below.behind i e (omega (arith, low)) there;
+  before = λ i e less there. elim (cases_lt i n) [
+    | inl passed ↦ below.before i e passed there
+    | inr kept ↦ below.behind i e kept there ∙ passes_alike base old new truck i (agree i kept less)
+  ];
+  behind = λ i e low there. below.behind i e (omega (arith, low, up)) there;
 }
-  where
-    here : (i : ℕ) → known.is_flagged ≡ true → i < n + 1 → i < length base.roads.segments → (i ≡ n) ⊎ (i ≡ n → ⊥) → get_or known.flags.items i false ≡ is_passable base new truck i
-    here i e less there (inl same) =
-        below.behind i e (omega (arith, same)) there ∙ passes_alike base old new truck i (subst (λ (k : ℕ). AgreeOn base.roads k old new) (sym same) agree)
-    here i e less there (inr other) = below.before i e (omega (arith, less, other)) there
 
 -- one segment more, which is judged anew
 below_judged : (base : BaseLists) (old new : InForce) (n truck : ℕ) (known judged : Known) → n < length base.roads.segments → IsJudged base new n truck known judged
@@ -178,8 +179,20 @@ are_below_none base old new a are = record { many = are.many; each = λ truck d 
 pub are_below_all : (base : BaseLists) (old new : InForce) (n : ℕ) (a : Analyst) → length base.roads.segments ≤ n → AreKnownBelow base old new n a → AreKnown base new a
 are_below_all base old new n a whole are = record { many = are.many; each = λ truck d less. below_all base old new n truck _ whole (are.each truck d less) }
 
+pub are_below_kept : (base : BaseLists) (old new : InForce) (n m : ℕ) (a : Analyst) → n ≤ m → ((i : ℕ) → n ≤ i → i < m → AgreeOn base.roads i old new)
+    → AreKnownBelow base old new n a → AreKnownBelow base old new m a
+are_below_kept base old new n m a up agree are = record { many = are.many; each = λ truck d less. below_kept base old new n m truck _ up agree (are.each truck d less) }
+
+-- some segments more, which no posting since a version names
+pub are_below_unchanged : (base : BaseLists) (last next : Stored) (after n m : ℕ) (a : Analyst) → next.roads ≡ base.roads → IsLater last next → after ≡ version_of last
+    → n ≤ m → AreKept next after n m → AreKnownBelow base (state_now last) (state_now next) n a → AreKnownBelow base (state_now last) (state_now next) m a
+are_below_unchanged base last next after n m a roads later version up kept are =
+    let since : AreKept next (version_of last) n m = subst (λ v. AreKept next v n m) version kept in
+    are_below_kept base (state_now last) (state_now next) n m a up (λ i low less. subst (λ (r : Roads). AgreeOn r i (state_now last) (state_now next)) roads (agree_kept last next i later (since i low less))) are
+
 pub are_below_same : (base : BaseLists) (old new : InForce) (n : ℕ) (a : Analyst) → AgreeOn base.roads n old new → AreKnownBelow base old new n a → AreKnownBelow base old new (n + 1) a
-are_below_same base old new n a agree are = record { many = are.many; each = λ truck d less. below_same base old new n truck _ agree (are.each truck d less) }
+are_below_same base old new n a agree are =
+    are_below_kept base old new n (n + 1) a (omega arith) (λ i low less. subst (λ (k : ℕ). AgreeOn base.roads k old new) (omega (arith, low, less)) agree) are
 
 pub are_below_judged : (base : BaseLists) (old new : InForce) (n : ℕ) (a b : Analyst) → n < length base.roads.segments → AreJudged base new n a b → AreKnownBelow base old new n a → AreKnownBelow base old new (n + 1) b
 are_below_judged base old new n a b within judged are = record {

@@ -4,6 +4,7 @@ ghost use Rattle.std.specs.Prelude.{◌≡◌, ◌<◌, length, slice_set, true,
 ghost use Rattle.road_graph.specs.Roads.{IsRoads};
 ghost use Rattle.restriction_log.specs.Changes.{takes};
 ghost use Rattle.restriction_log.specs.States.{AgreeOn, AreOf, InForce, state_after};
+ghost use Rattle.snapshot_store.specs.Stores.{IsLater, state_now};
 ghost use Rattle.trip_analysis.specs.Applications.{Sound};
 ghost use Rattle.trip_analysis.specs.Bases.{train_of};
 ghost use Rattle.trip_analysis.specs.Findings.{IsFinding};
@@ -20,6 +21,7 @@ use office_io::NoMemory;
 use restriction_log::{Change, State, touched};
 use road_graph::Network;
 use route_search::{Potentials, potentials, search_by};
+use snapshot_store::Snapshot;
 use std::alloc::Global;
 use std::marker::Brand;
 use std::sync::ledger::{Blank, Ledger};
@@ -104,25 +106,27 @@ impl Analyst {
         self.judge(base, new, touched(base.network(), change), steps);
     }
 
-    // Goes on from `old`, the state in which the trucks are known, to any other of the roads: each segment at which they
-    // differ is judged anew.
+    // Goes on from the state of a snapshot, in which the trucks are known, to that of a later one: of the segments that
+    // postings between them name, each at which the states differ is judged anew.
     pub(crate) fn turn_to<L: Ledger>(
         &mut self,
         base: &Base,
-        old: &State,
-        new: &State,
+        last: &Snapshot,
+        next: &Snapshot,
         steps: &mut Steps<L>,
     )
-        requires known { AreKnown base.now old.now self.old }
-        requires old { AreOf base.now.roads old.now }
-        requires new { AreOf base.now.roads new.now }
-        ensures { AreKnown base.now new.now self.new }
+        requires known { AreKnown base.now (state_now last.now) self.old }
+        requires roads { next.now.roads ≡ base.now.roads }
+        requires later { IsLater last.now next.now }
+        ensures { AreKnown base.now (state_now next.now) self.new }
     {
         base.lists_are_in_order();
-        'segments: for segment in 0..base.network().segments() {
-            if differs(base.network(), old, new, segment) {
-                self.judge(base, new, segment, steps);
+        let mut from = 0;
+        'changed: while let Some(segment) = next.next_changed(last.version(), from) {
+            if differs(base.network(), last.state(), next.state(), segment) {
+                self.judge(base, next.state(), segment, steps);
             }
+            from = segment + 1;
         }
     }
 

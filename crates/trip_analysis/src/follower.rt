@@ -118,7 +118,7 @@ fn go_on<L: Ledger>(
     let mut steps = Steps::<L>::new(blank);
     if let Some(last) = last {
         if last.version() != next.version() {
-            analyst.turn_to(base, last.state(), next.state(), &mut steps);
+            analyst.turn_to(base, last, next, &mut steps);
         }
     }
 }

@@ -1,27 +1,38 @@
-use Rattle.std.proofs.Common.{◌≤◌, ◌<◌, ◌+◌, length, sym, subst, arith}
-use Rattle.trip_analysis.proofs.KnownAt.{AreKnownBelow, are_below_all, are_below_judged, are_below_none, are_below_of, are_below_same}
+use Rattle.std.proofs.Common.{◌<◌, ◌+◌, length, ap, sym, subst, arith}
+use Rattle.road_graph.specs.Roads.{Roads}
+use Rattle.snapshot_store.specs.Stores.{state_now}
+use Rattle.trip_analysis.proofs.KnownAt.{AreKnownBelow, are_below_all, are_below_judged, are_below_none, are_below_same, are_below_unchanged}
 use Rattle.trip_analysis.proofs.analyst.Analyst.turn_to.Goals as goal
 use Rattle.trip_analysis.proofs.analyst.Analyst.turn_to.Goals.{then-differs, else-differs}
 
-pub segments-init : goal.segments-init
-segments-init g c = are_below_none c.args.base.now c.args.old.now c.args.new.now c.args.self.now c.requires.known
+pub changed-init : goal.changed-init
+changed-init g c = (omega arith, are_below_none _ _ _ c.args.self.now c.requires.known)
 
-pub judge-requires-clause-known : goal.judge-requires-clause-known
-judge-requires-clause-known g c = are_below_of c.args.base.now c.args.old.now c.args.new.now c.segments.segment c.segments.self c.segments.invariant
-
-pub segments-preserved : goal.segments-preserved
-segments-preserved g c =
-    let base = c.args.base.now in let old = c.args.old.now in let new = c.args.new.now in let n = c.segments.segment in
-    let is = rw c.network.ensures at c.segments-segment-end.ensures in
-    let there : n < length base.roads.segments = omega (arith, c.segments-test.true, is.count) in
-    elim c.if-differs.branch [
-      | then-differs w ↦ subst (AreKnownBelow base old new (n + 1)) (sym w.self-is) (are_below_judged base old new n c.segments.self w.judge.new.self there w.judge.ensures c.segments.invariant)
-      | else-differs w ↦ subst (AreKnownBelow base old new (n + 1)) (sym w.self-is) (are_below_same base old new n c.segments.self (rw c.network-in-segments.ensures at (c.differs.ensures w.if-differs.false)) c.segments.invariant)
-    ]
+pub changed-preserved : goal.changed-preserved
+changed-preserved g c =
+    let base = c.args.base.now in let last = c.args.last.now in let next = c.args.next.now in let n = c.in-Some.segment in
+    let many = ap (λ (r : Roads). length r.segments) c.requires.roads in
+    let there : n < length base.roads.segments = omega (arith, c.in-Some.ensures.within.1, many) in
+    let before = are_below_unchanged base last next c.version.result c.changed.from n c.changed.self c.requires.roads c.requires.later c.version.ensures.count
+    c.in-Some.ensures.within.0 c.in-Some.ensures.first c.changed.invariant.1 in
+    let old = state_now last in let new = state_now next in (
+      omega (arith, there),
+      elim c.if-differs.branch [
+        | then-differs w ↦ (
+            let judged = rw w.state-then-differs.ensures.value at w.judge.ensures in
+            subst (AreKnownBelow base old new (n + 1)) (sym w.self-is) (are_below_judged base old new n c.changed.self w.judge.new.self there judged before)
+            )
+        | else-differs w ↦ (
+            let agree = rw (c.network.ensures, c.state.ensures.value, c.state-in-Some.ensures.value) at (c.differs.ensures w.if-differs.false) in
+            subst (AreKnownBelow base old new (n + 1)) (sym w.self-is) (are_below_same base old new n c.changed.self agree before)
+            )
+      ],
+    )
 
 pub returns : goal.returns
 returns g c =
-    let a = c.args in
-    let is = rw c.network.ensures at c.segments-segment-end.ensures in
-    let whole : length a.base.now.roads.segments ≤ c.segments.segment = omega (arith, c.segments-test.false, is.count) in
-    are_below_all a.base.now a.old.now a.new.now c.segments.segment c.segments.self whole c.segments.invariant
+    let base = c.args.base.now in let last = c.args.last.now in let next = c.args.next.now in let n = length next.roads.segments in
+    let many = ap (λ (r : Roads). length r.segments) c.requires.roads in
+    are_below_all base (state_now last) (state_now next) n c.changed.self (omega (arith, many))
+    (are_below_unchanged base last next c.version.result c.changed.from n c.changed.self c.requires.roads c.requires.later c.version.ensures.count
+    (omega (arith, many, c.changed.invariant.0)) c.in_default.ensures.none c.changed.invariant.1)
