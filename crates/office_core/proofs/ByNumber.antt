@@ -1,6 +1,6 @@
 -- Marking by number is marking each permit that passes a test.
-use Rattle.std.proofs.Common.{◌≡◌, ◌∷◌, ◌++◌, [], List, ℕ, ◌+◌, ◌-◌, ◌<◌, Bool, cond, true, false, map, filter, length, set, get_or, drop, ap, sym, subst, refl, ◌∙◌, arith, append_assoc}
-use Rattle.std.proofs.lemmas.List.{length-append, at_drop_more}
+use Rattle.std.proofs.Common.{◌≡◌, ◌∷◌, ◌++◌, [], List, ℕ, ◌+◌, ◌-◌, Bool, cond, true, false, map, filter, length, set, get_or, ap, sym, subst, refl, ◌∙◌, arith, append_assoc}
+use Rattle.std.proofs.lemmas.List.{length-append}
 use Rattle.std.proofs.Math.Seq.{get_or-append_seam}
 use Rattle.std.specs.Cmp.{first_so}
 use Rattle.std.proofs.lemmas.Bool.Decides.{nat_tests}
@@ -20,7 +20,7 @@ set_seam (x ∷ xs) y z ys = ap (λ l. x ∷ l) (set_seam xs y z ys)
 issued_seam : (done : List Permit) (p : Permit) (rest : List Permit) → p.number ≡ length done + 1 → is_issued (done ++ p ∷ rest) p.number ≡ true
 issued_seam done p rest e = grind (arith, nat_tests, e, length-append done (p ∷ rest))
 
-found_seam : (done : List Permit) (p : Permit) (rest : List Permit) → p.number ≡ length done + 1 → permit_of (done ++ p ∷ rest) p.number ≡ p
+pub found_seam : (done : List Permit) (p : Permit) (rest : List Permit) → p.number ≡ length done + 1 → permit_of (done ++ p ∷ rest) p.number ≡ p
 found_seam done p rest e = let at : p.number - 1 ≡ length done = omega (arith, e) in
     ap (λ k. get_or (done ++ p ∷ rest) k no_permit) at ∙ get_or-append_seam done p rest no_permit
 
@@ -76,15 +76,3 @@ recalled_live base state day v ps h = live_by_number (is_recalled base state day
 
 pub recalled_marked : (base : BaseLists) (state : InForce) (day : List ℕ) (v : ℕ) (ps : List Permit) → AreNumbered 0 ps → marked_all (mark.Recalled v) ps (recalled_by base state day ps) ≡ recalled_now base state day v ps
 recalled_marked base state day v ps h = marked_by_number (is_recalled base state day) (mark.Recalled v) ps h
-
-recalled_head : (base : BaseLists) (state : InForce) (day : List ℕ) (numbers rest : List ℕ) (p : Permit) (ps : List Permit) (b : Bool) → map (λ p. p.number) (filter (is_recalled base state day) ps) ≡ rest
-    → (numbers ++ cond b (p.number ∷ []) []) ++ rest ≡ numbers ++ map (λ p. p.number) (cond b (p ∷ filter (is_recalled base state day) ps) (filter (is_recalled base state day) ps))
-recalled_head base state day numbers rest p ps true e = append_assoc numbers (p.number ∷ []) rest ∙ ap (λ l. numbers ++ p.number ∷ l) (sym e)
-recalled_head base state day numbers rest p ps false e = append_assoc numbers [] rest ∙ ap (λ l. numbers ++ l) (sym e)
-
-pub recalled_more : (base : BaseLists) (state : InForce) (day : List ℕ) (numbers : List ℕ) (ps : List Permit) (i : ℕ) (p : Permit) (b : Bool) (n : ℕ) → i < length ps → p ≡ get_or ps i p → b ≡ (is_recalled base state day p) → n ≡ p.number
-    → (numbers ++ cond b (n ∷ []) []) ++ recalled_by base state day (drop (i + 1) ps) ≡ numbers ++ recalled_by base state day (drop i ps)
-recalled_more base state day numbers ps i p b n h e f g = ap (λ k. (numbers ++ cond b (k ∷ []) []) ++ recalled_by base state day (drop (i + 1) ps)) g
-    ∙ (ap (λ c. (numbers ++ cond c (p.number ∷ []) []) ++ recalled_by base state day (drop (i + 1) ps)) f
-    ∙ (recalled_head base state day numbers (recalled_by base state day (drop (i + 1) ps)) p (drop (i + 1) ps) (is_recalled base state day p) refl
-    ∙ ap (λ l. numbers ++ l) (ap (λ q. recalled_by base state day (q ∷ drop (i + 1) ps)) e ∙ sym (at_drop_more (recalled_by base state day) ps i p h))))

@@ -1,5 +1,7 @@
 -- What an office keeps stays in order.
-use Rattle.std.proofs.Common.{◌≡◌, ◌∷◌, ◌++◌, [], List, ℕ, ◌+◌, ◌<◌, length, ap, sym, subst, refl, ◌∙◌, Result, Ok, Err, OnOk, OnErr, None}
+use Rattle.std.proofs.Common.{◌≡◌, ◌∷◌, ◌++◌, [], List, ℕ, ◌+◌, ◌-◌, ◌<◌, ◌≤◌, true, length, drop, filter, ap, sym, subst, refl, ◌∙◌, Option, None, is_some, Result, Ok, Err, IfOk, arith}
+use Rattle.std.proofs.lemmas.Bool.Decides.{nat_tests}
+use Rattle.std.proofs.lemmas.List.{append-nil, drop_all}
 use Rattle.std.specs.List.{All}
 use Rattle.std.specs.Arc.{arc_value}
 use Rattle.road_graph.specs.Roads.{Roads}
@@ -8,21 +10,28 @@ use Rattle.restriction_log.specs.States.{InForce, state_of}
 use Rattle.snapshot_store.specs.Stores.{IsNextOf, NextState, Stored, version_of, with_change, state_now as store_state}
 use Rattle.permit_book.specs.declared.permit.Permit.{Permit}
 use Rattle.permit_book.specs.declared.permit.Mark.TheVariants as mark
-use Rattle.trip_analysis.specs.declared.analyst.Analyst.{Analyst}
+use Rattle.permit_book.specs.Permits.{AreNumbered, in_force, is_live, no_permit, permit_of}
+use Rattle.clearance_rules.specs.declared.limit.Limit.{Limit}
+use Rattle.recall_index.specs.Uses.{IsAdded, IsRemoved, Lists, using_in}
 use Rattle.trip_analysis.specs.declared.application.Application.{Application}
 use Rattle.trip_analysis.specs.declared.finding.What.{What}
 use Rattle.trip_analysis.specs.Bases.{BaseLists}
 use Rattle.trip_analysis.specs.Applications.{Sound}
-use Rattle.trip_analysis.specs.Findings.{InRange, IsFinding, first_on}
-use Rattle.trip_analysis.specs.Known.{AreKnown}
+use Rattle.trip_analysis.specs.Findings.{InRange, IsFinding, IsFoundAt, first_on, limit_for}
+use Rattle.trip_analysis.specs.declared.finding.Proposal.{Proposal}
+use Rattle.trip_analysis.specs.Followers.{GoesOn}
+use Rattle.trip_analysis.proofs.Following.{goes_on_posted}
 use Rattle.office_core.specs.declared.register.Register.TheInside.{Inside}
 use Rattle.office_core.specs.declared.entry.Reply.TheVariants as reply
 use Rattle.office_core.specs.Recalls.{AreLive, IsRanged, marked_all, recalled_by, recalled_now}
+use Rattle.office_core.specs.Users.{IsIndexed, IsUser, users_of}
 use Rattle.office_core.specs.Machine.{IsGood, Machine, machine_at, posted_reply, state_with, with_posting}
-use Rattle.office_core.specs.Registers.{HeldAt, IsNext, IsRegister, RegisterParts, parts_of, posting_reply, recalls_of, state_now, stored_now}
+use Rattle.office_core.specs.Registers.{HeldAt, IsNext, IsRegister, MeetElsewhere, RegisterParts, is_recalled_in, parts_of, posting_reply, recalls_of, state_now, stored_now}
 use Rattle.office_core.proofs.Founds.{found_in_range, holds_now}
 use Rattle.office_core.proofs.Goods.{good_entered, good_posted}
 use Rattle.office_core.proofs.ByNumber.{recalled_live, recalled_marked}
+use Rattle.office_core.proofs.Indexing.{are_users, index_issued, index_undone}
+use Rattle.office_core.proofs.Among.{recalled_among, recalled_if_failing}
 
 -- the state of the store is that of the postings
 pub kept_state : (i : Inside) → IsRegister i → store_state i.store ≡ state_now (parts_of i)
@@ -34,6 +43,31 @@ stored_is i p seen inv = ap (λ (r : Roads). let s : Stored = record { roads = r
 
 pub next_here : (i : Inside) (p : RegisterParts) (next : NextState) → parts_of i ≡ p → IsRegister i → IsNextOf i.store next → IsNext p next
 next_here i p next seen inv is = subst (λ (s : Stored). IsNextOf s next) (stored_is i p seen inv) is
+
+-- the index tells which permits use a segment
+pub users_are : (i : Inside) (p : RegisterParts) (s : ℕ) (list : List ℕ) → parts_of i ≡ p → IsRegister i → s < length p.base.roads.segments → list ≡ using_in i.index s → All (IsUser p.machine.permits s) list
+users_are i p s list seen inv low is =
+    let here : s < length (arc_value i.base).roads.segments = subst (λ (q : RegisterParts). s < length q.base.roads.segments) (sym seen) low in
+    subst (λ (q : RegisterParts). All (IsUser q.machine.permits s) list) seen
+    (subst (All (IsUser i.book s)) (sym (is ∙ inv.index.users s here)) (are_users s i.book inv.good.numbered))
+
+-- those that were told among them are those that a state recalls
+pub recalled_whole : (i : Inside) (p : RegisterParts) (state : InForce) (segment k : ℕ) (numbers users : List ℕ) → parts_of i ≡ p → IsRegister i → MeetElsewhere p state segment → users ≡ users_of segment p.machine.permits → length users ≤ k
+    → numbers ++ filter (is_recalled_in p state) (drop k users) ≡ filter (is_recalled_in p state) users → numbers ≡ recalls_of p state
+recalled_whole i p state segment k numbers users seen inv elsewhere are done is =
+    let numbered : AreNumbered 0 p.machine.permits = subst (λ (q : RegisterParts). AreNumbered 0 q.machine.permits) seen inv.good.numbered in
+    sym (append-nil numbers) ∙ (ap (λ l. numbers ++ filter (is_recalled_in p state) l) (sym (drop_all k users done))
+    ∙ (is ∙ (ap (filter (is_recalled_in p state)) are ∙ recalled_among p.base state segment p.machine.day p.machine.permits numbered elsewhere)))
+
+-- of a permit in force that uses the segment its test there decides
+pub recalled_so : (p : RegisterParts) (state : InForce) (segment n : ℕ) (q : Permit) (l : Option Limit) → IsUser p.machine.permits segment n → MeetElsewhere p state segment → q ≡ permit_of p.machine.permits n
+    → in_force p.machine.day q ≡ true → l ≡ limit_for p.base state q.truck segment → is_some l ≡ is_recalled_in p state n
+recalled_so p state segment n q l user elsewhere same on found =
+    let issued = user.issued in
+    let low : n - 1 < length p.machine.permits = grind (arith, nat_tests, issued) in
+    let own = permit_of p.machine.permits n in
+    recalled_if_failing p.base state segment p.machine.day own l (elsewhere (n - 1) no_permit low) user.uses
+    (ap (in_force p.machine.day) (sym same) ∙ on) (found ∙ ap (λ (r : Permit). limit_for p.base state r.truck segment) same)
 
 -- the answer to a posting is made of what it would make
 pub posted_as : (p : RegisterParts) (next : NextState) (change : Change) (numbers : List ℕ) (v : ℕ) → IsNext p next → next.change ≡ change → numbers ≡ recalls_of p next.state → v ≡ length p.machine.postings + 1 → reply.Posted v numbers ≡ posting_reply p change
@@ -53,26 +87,54 @@ found_held i p base state a n w seen inv same here now sound is =
     let asked : Sound (arc_value i.base) a = subst (λ (q : RegisterParts). Sound q.base a) (sym seen) sound in
     subst (λ (q : RegisterParts). HeldAt q n a.truck w) seen (holds_now (arc_value i.base) i.store.postings n state a w inv.roads (here ∙ kept_state i inv) now asked found)
 
--- with one permit more, whose route meets, or with none
-pub issue_keeps : {E : Type 0} (i : Inside) (p : RegisterParts) (book : List Permit) (result : Result ℕ E) (q : Permit) (truck : ℕ) (route : List ℕ) → parts_of i ≡ p → IsRegister i → q.number ≡ length i.book + 1 → q.truck ≡ truck → q.route ≡ route
+pub within_if_found : {E : Type 0} (i : Inside) (p : RegisterParts) (base : BaseLists) (s : Stored) (a : Application) (r : Result Proposal E) → parts_of i ≡ p → IsRegister i → base ≡ arc_value i.base → Sound p.base a
+    → IfOk r (λ q. IsFoundAt base s a q.what) → IfOk r (λ q. InRange p.base q.what)
+within_if_found i p base s a (Ok q) seen inv same sound found = found_within i p base (store_state s) a q.what seen inv same sound found
+within_if_found i p base s a (Err e) seen inv same sound found = tt
+
+pub held_if_found : {E : Type 0} (i : Inside) (p : RegisterParts) (base : BaseLists) (s : Stored) (a : Application) (r : Result Proposal E) → parts_of i ≡ p → IsRegister i → base ≡ arc_value i.base → s ≡ i.store → Sound p.base a
+    → IfOk r (λ q. q.seen ≡ version_of s) → IfOk r (λ q. IsFoundAt base s a q.what) → IfOk r (λ q. HeldAt p q.seen a.truck q.what)
+held_if_found i p base s a (Ok q) seen inv same is sound at found =
+    found_held i p base (store_state s) a q.seen q.what seen inv same (ap store_state is) (at ∙ ap version_of is) sound found
+held_if_found i p base s a (Err e) seen inv same is sound at found = tt
+
+-- the segments of a route are in the index
+pub route_there : (i : Inside) (p : RegisterParts) (route : List ℕ) → parts_of i ≡ p → IsRegister i → All (λ s. s < length p.base.roads.segments) route → All (λ s. s < length i.index) route
+route_there i p route seen inv inside = subst (λ k. All (λ s. s < k) route) (sym inv.index.many) (subst (λ (q : RegisterParts). All (λ s. s < length q.base.roads.segments) route) (sym seen) inside)
+
+-- with one permit more, whose route meets, and its route in the index
+pub issue_keeps : (i : Inside) (p : RegisterParts) (book : List Permit) (index : Lists) (q : Permit) (truck n : ℕ) (route : List ℕ) → parts_of i ≡ p → IsRegister i → n ≡ length i.book + 1 → q.number ≡ n → q.truck ≡ truck → q.route ≡ route → is_live q.mark ≡ true
     → truck < length p.base.fleet → All (λ s. s < length p.base.roads.segments) route → first_on p.base (state_now p) truck route ≡ None
-    → OnOk result (book ≡ i.book ++ q ∷ []) → OnErr result (book ≡ i.book) → IsRegister (record i { book = book })
-issue_keeps {E = E} i p book result q truck route seen inv number is along there within meets entered same =
+    → IsAdded i.index n route index → book ≡ i.book ++ q ∷ [] → IsRegister (record i { book = book; index = index })
+issue_keeps i p book index q truck n route seen inv next number is along live there within meets added entered =
     let base : BaseLists = arc_value i.base in
     let m : Machine = machine_at i.store.postings i.book i.day in
     let fits : truck < length base.fleet = subst (λ (r : RegisterParts). truck < length r.base.fleet) (sym seen) there in
     let on : All (λ s. s < length base.roads.segments) route = subst (λ (r : RegisterParts). All (λ s. s < length r.base.roads.segments) route) (sym seen) within in
     let fine : first_on base (state_now (parts_of i)) truck route ≡ None = subst (λ (r : RegisterParts). first_on r.base (state_now r) truck route ≡ None) (sym seen) meets in
-    let ranged : IsRanged base q = record {
-      truck = subst (λ (t : ℕ). t < length base.fleet) (sym is) fits;
-      route = subst (All (λ s. s < length base.roads.segments)) (sym along) on;
-    } in
+    let inside : All (λ s. s < length base.roads.segments) q.route = subst (All (λ s. s < length base.roads.segments)) (sym along) on in
+    let ranged : IsRanged base q = record { truck = subst (λ (t : ℕ). t < length base.fleet) (sym is) fits; route = inside } in
     let passes : first_on base (state_now (parts_of i)) q.truck q.route ≡ None = rw (is, along) fine in
-    by result entered same (good_entered base m q number ranged passes inv.good)
-  where
-    by : (r : Result ℕ E) → OnOk r (book ≡ i.book ++ q ∷ []) → OnErr r (book ≡ i.book) → IsGood (arc_value i.base) (machine_at i.store.postings (i.book ++ q ∷ []) i.day) → IsRegister (record i { book = book })
-    by (Ok n) e h good = record { roads = inv.roads; good = rw e good; store = inv.store; known = inv.known }
-    by (Err x) e h good = record { roads = inv.roads; good = rw h inv.good; store = inv.store; known = inv.known }
+    let adds : IsAdded i.index n q.route index = subst (λ l. IsAdded i.index n l index) (sym along) added in
+    record {
+      roads = inv.roads;
+      good = rw entered (good_entered base m q (number ∙ next) ranged passes inv.good);
+      store = inv.store;
+      follower = inv.follower;
+      later = inv.later;
+      index = rw entered (index_issued (length base.roads.segments) i.book i.index inv.index inv.good.numbered index n q adds number live inside);
+    }
+
+-- with no permit more, and its route out of the index again
+pub undo_keeps : (i : Inside) (book : List Permit) (mid index : Lists) (n : ℕ) (route : List ℕ) → IsRegister i → n ≡ length i.book + 1 → IsAdded i.index n route mid → IsRemoved mid n index → book ≡ i.book → IsRegister (record i { book = book; index = index })
+undo_keeps i book mid index n route inv next added gone same = record {
+  roads = inv.roads;
+  good = rw same inv.good;
+  store = inv.store;
+  follower = inv.follower;
+  later = inv.later;
+  index = rw same (index_undone (length (arc_value i.base).roads.segments) i.book i.index inv.index inv.good.numbered mid index n route next added gone);
+}
 
 -- the permits that a state recalls are live still when those before them are marked
 pub recalls_live : (i : Inside) (p : RegisterParts) (next : InForce) (v : ℕ) (numbers : List ℕ) → parts_of i ≡ p → IsRegister i → numbers ≡ recalls_of p next → AreLive (mark.Recalled v) i.book numbers
@@ -85,10 +147,10 @@ pub record Posted (i : Inside) (p : RegisterParts) (change : Change) (next : Ins
   pub kept : IsRegister next
   pub after : (parts_of next).machine ≡ with_posting p.base p.machine change (posted_reply p.base p.machine change)
 
-pub post_keeps : (i : Inside) (p : RegisterParts) (store : Stored) (next : NextState) (book : List Permit) (analyst : Analyst) (v : ℕ) (numbers : List ℕ) (base : BaseLists) (state : InForce) → parts_of i ≡ p → IsRegister i → IsNext p next
-    → numbers ≡ recalls_of p next.state → base ≡ arc_value i.base → v ≡ version_of i.store + 1 → store ≡ with_change i.store next.change → book ≡ marked_all (mark.Recalled v) i.book numbers → state ≡ store_state store → AreKnown base state analyst
-    → Posted i p next.change (record i { store = store; book = book; analyst = analyst })
-post_keeps i p store next book analyst v numbers base state seen inv is are same counted longer marks new known =
+pub post_keeps : (i : Inside) (p : RegisterParts) (store : Stored) (next : NextState) (book : List Permit) (index : Lists) (v : ℕ) (numbers : List ℕ) → parts_of i ≡ p → IsRegister i → IsNext p next
+    → numbers ≡ recalls_of p next.state → v ≡ version_of i.store + 1 → store ≡ with_change i.store next.change → book ≡ marked_all (mark.Recalled v) i.book numbers → IsIndexed (length i.index) book index
+    → Posted i p next.change (record i { store = store; book = book; index = index })
+post_keeps i p store next book index v numbers seen inv is are counted longer marks indexed =
     let here : BaseLists = arc_value i.base in
     let m : Machine = machine_at i.store.postings i.book i.day in
     let change : Change = next.change in
@@ -100,15 +162,14 @@ post_keeps i p store next book analyst v numbers base state seen inv is are same
     ap (λ (t : Stored). machine_at t.postings book i.day) longer ∙ ap (λ (l : List Permit). machine_at (i.store.postings ++ change ∷ []) l i.day) permits in
     let answered : with_posting here m change (reply.Posted v (recalls_of (parts_of i) (state_with here m change))) ≡ with_posting here m change (posted_reply here m change) =
     rw (its.takes, counted) refl in
-    let of : store.roads ≡ here.roads = ap (λ (t : Stored). t.roads) longer ∙ inv.store in
-    let knows : AreKnown here (state_of here.roads store.postings) analyst =
-    subst (λ (s : InForce). AreKnown here s analyst) (new ∙ ap (λ (r : Roads). state_of r store.postings) of) (subst (λ (b : BaseLists). AreKnown b state analyst) same known) in
     record {
       kept = record {
         roads = inv.roads;
         good = subst (IsGood here) (sym goes) (good_posted here m change v (recalls_of (parts_of i) (state_with here m change)) its.takes inv.good);
-        store = of;
-        known = knows;
+        store = ap (λ (t : Stored). t.roads) longer ∙ inv.store;
+        follower = inv.follower;
+        later = subst (GoesOn i.follower.last) (sym longer) (goes_on_posted i.follower.last i.store change inv.later);
+        index = subst (λ k. IsIndexed k book index) inv.index.many indexed;
       };
       after = goes ∙ (answered ∙ ap (λ (q : RegisterParts). with_posting q.base q.machine change (posted_reply q.base q.machine change)) seen);
     }

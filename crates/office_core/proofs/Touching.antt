@@ -39,7 +39,7 @@ fails_on pass segment (s ∷ rest) h =
     (λ e. ap pass (eqb-true s segment e)) (λ e. head (eqb-false s segment e)) (fails_on pass segment rest tail)
 
 -- a permit that meets its truck at each segment but one fails where that one is on its route and fails
-fails_there : (base : BaseLists) (state : InForce) (segment : ℕ) (p : Permit) → MeetsElsewhere base state segment p → fails base state p ≡ (is_in segment p.route && not (is_passable base state p.truck segment))
+pub fails_there : (base : BaseLists) (state : InForce) (segment : ℕ) (p : Permit) → MeetsElsewhere base state segment p → fails base state p ≡ (is_in segment p.route && not (is_passable base state p.truck segment))
 fails_there base state segment p h = fails_on (is_passable base state p.truck) segment p.route h
 
 -- numbers that passed pass still where they are tested alike
@@ -72,8 +72,3 @@ some_or_none None = refl
 pub fails_by : (base : BaseLists) (state : InForce) (segment : ℕ) (p : Permit) (here : Bool) (l : Option Limit) → MeetsElsewhere base state segment p → here ≡ is_in segment p.route → l ≡ limit_for base state p.truck segment → here ≡ true → is_some l ≡ fails base state p
 fails_by base state segment p here l elsewhere among found is =
     some_or_none l ∙ (ap (λ k. not (is_none k)) found ∙ sym (fails_there base state segment p elsewhere ∙ ap (λ b. b && not (is_passable base state p.truck segment)) (sym among ∙ is)))
-
--- and where it is not, none fails
-pub meets_by : (base : BaseLists) (state : InForce) (segment : ℕ) (p : Permit) (here : Bool) → MeetsElsewhere base state segment p → here ≡ is_in segment p.route → here ≡ false → here ≡ fails base state p
-meets_by base state segment p here elsewhere among none =
-    none ∙ sym (fails_there base state segment p elsewhere ∙ ap (λ b. b && not (is_passable base state p.truck segment)) (sym among ∙ none))

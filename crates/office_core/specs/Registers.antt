@@ -1,22 +1,25 @@
 -- What contracts see of what an office keeps, and what its answers say of it.
-use Rattle.std.specs.Prelude.{◌≡◌, ℕ, ◌+◌, true, List, length, Option}
+use Rattle.std.specs.Prelude.{◌≡◌, ℕ, ◌+◌, Bool, true, List, length, Option}
 use Rattle.std.specs.Arc.{arc_value}
 use Rattle.road_graph.specs.Roads.{IsRoads}
 use Rattle.restriction_log.specs.declared.change.Change.{Change}
 use Rattle.restriction_log.specs.States.{InForce}
 use Rattle.snapshot_store.specs.Stores.{IsNextOf, NextState, Stored}
-use Rattle.permit_book.specs.declared.permit.Permit.{Permit}
+use Rattle.permit_book.specs.Permits.{permit_of}
 use Rattle.trip_analysis.specs.declared.application.Application.{Application}
 use Rattle.trip_analysis.specs.declared.finding.What.{What}
 use Rattle.trip_analysis.specs.Bases.{BaseLists}
 use Rattle.trip_analysis.specs.Findings.{HoldsIn, IsFinding, first_meeting, leaving}
-use Rattle.trip_analysis.specs.Known.{AreKnown}
+use Rattle.trip_analysis.specs.Followers.{GoesOn}
 use Rattle.office_core.specs.declared.entry.Call.{Call}
 use Rattle.office_core.specs.declared.entry.Reply.{Reply}
 use Rattle.office_core.specs.declared.entry.Reply.TheVariants as reply
 use Rattle.office_core.specs.declared.register.Register.TheInside.{Inside}
-use Rattle.office_core.specs.Recalls.{InForceMeetElsewhere, MeetsElsewhereIfInForce, recalled_by}
+use Rattle.office_core.specs.Recalls.{InForceMeetElsewhere, is_recalled, recalled_by}
 use Rattle.office_core.specs.Replies.{is_issue, what_reply}
+use Rattle.office_core.specs.Retests.{IsWithin, changed_on, is_changed}
+use Rattle.office_core.specs.Costs.{IsCost}
+use Rattle.office_core.specs.Users.{IsIndexed}
 use Rattle.office_core.specs.Machine.{IsGiven, IsGood, Machine, after, machine_at, may_lack, posted_reply, state_at, state_in, stored_of, version_of, with_permit, with_posting}
 
 -- what the office is about, and the machine
@@ -28,12 +31,14 @@ abbrev pub parts_of : Inside → RegisterParts
 parts_of r = record { base = arc_value r.base; machine = machine_at r.store.postings r.book r.day }
 
 -- the roads are in order; the postings, the permits and the day are as every legal history leaves them; the store is of the
--- roads, and the analyst knows the state of its postings
+-- roads, and the follower of the base and not ahead of the store; the index has at each segment the permits that use it
 pub record IsKept (r : Inside) (parts : RegisterParts) : Type 0 where
   pub roads : IsRoads parts.base.roads
   pub good : IsGood parts.base parts.machine
   pub store : r.store.roads ≡ parts.base.roads
-  pub known : AreKnown parts.base (state_in parts.base parts.machine) r.analyst
+  pub follower : r.follower.base ≡ parts.base
+  pub later : GoesOn r.follower.last r.store
+  pub index : IsIndexed (length parts.base.roads.segments) parts.machine.permits r.index
 
 abbrev pub IsRegister : Inside → Type 0
 IsRegister r = IsKept r (parts_of r)
@@ -106,9 +111,25 @@ least_out base state truck nodes = first_meeting base state truck (leaving base.
 abbrev pub recalls_of : RegisterParts → InForce → List ℕ
 recalls_of r state = recalled_by r.base state r.machine.day r.machine.permits
 
--- the permit, or each permit, if it is in force, meets its truck in a state at all of its segments but this one
-abbrev pub PermitMeetsElsewhere : RegisterParts → InForce → ℕ → Permit → Type 0
-PermitMeetsElsewhere r state segment p = MeetsElsewhereIfInForce r.base state segment r.machine.day p
+-- whether a state recalls the permit of a number
+abbrev pub is_recalled_in : RegisterParts → InForce → ℕ → Bool
+is_recalled_in r state n = is_recalled r.base state r.machine.day (permit_of r.machine.permits n)
 
+-- each permit, if it is in force, meets its truck in a state at all of its segments but this one
 abbrev pub MeetElsewhere : RegisterParts → InForce → ℕ → Type 0
 MeetElsewhere r state segment = InForceMeetElsewhere r.base state segment r.machine.day r.machine.permits
+
+-- whether the segment changed after a version, and how many segments out of these nodes did
+abbrev pub has_changed : RegisterParts → ℕ → ℕ → Bool
+has_changed r seen s = is_changed r.base r.machine.postings seen s
+
+abbrev pub changed_out : RegisterParts → ℕ → List ℕ → ℕ
+changed_out r seen nodes = changed_on r.base r.machine.postings seen (leaving r.base.roads nodes)
+
+-- only what changed after this version is tested again of what was found then, and one more where its limit is asked for
+abbrev pub IsRetested : RegisterParts → ℕ → What → ℕ → ℕ → Type 0
+IsRetested r seen w before now = IsWithin r.base r.machine.postings seen w before now
+
+-- so many segments were tested before the call is answered, and so many when it is
+abbrev pub Costs : RegisterParts → Call → ℕ → ℕ → Type 0
+Costs r c before now = IsCost r.base r.machine c before now

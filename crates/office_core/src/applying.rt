@@ -1,27 +1,25 @@
 // Answers to an application: by what was proposed for it, or by what the office finds itself.
 
-ghost use Rattle.std.specs.Prelude.{◌≡◌, ◌<◌, length, All, IfOk, OnErr, None};
+ghost use Rattle.std.specs.Prelude.{◌≡◌, ◌+◌, ◌<◌, ◌≤◌, ◌&&◌, length, All, IfOk, OnErr, None, if◌then◌else◌};
 ghost use Rattle.trip_analysis.specs.declared.finding.What.TheVariants as what;
 ghost use Rattle.trip_analysis.specs.Applications.{Sound};
-ghost use Rattle.trip_analysis.specs.Findings.{AreRising, InRange, first_on as first_in};
+ghost use Rattle.trip_analysis.specs.Findings.{AreRising, InRange, first_on as first_in, is_passable, limit_for};
 ghost use Rattle.office_core.specs.declared.entry.Call.TheVariants.{Held, Submit};
 ghost use Rattle.office_core.specs.declared.entry.Reply.TheVariants as reply;
 ghost use Rattle.office_core.specs.Replies.{early_reply};
 ghost use Rattle.office_core.specs.Machine.{HasRoom, IsFound, version_of};
-ghost use Rattle.office_core.specs.Registers.{Gives, HeldAt, IsFoundNow, IsReplyTo, Issues, Leaves, MayLack, Permits, found_reply, least_out, next_issue, state_now, state_seen};
+ghost use Rattle.office_core.specs.Registers.{Gives, HeldAt, IsFoundNow, IsReplyTo, IsRetested, Issues, Leaves, MayLack, Permits, changed_out, found_reply, has_changed, least_out, next_issue, state_now, state_seen};
 
 use crate::answer::Answer;
 use crate::entry::{Cause, Reply};
 use crate::register::Register;
-use clearance_rules::Steps;
+use clearance_rules::{Limit, Steps};
 use office_io::NoMemory;
 use permit_book::BookRefusal;
 use permit_days::Day;
 use road_graph::Numbers;
 use std::sync::ledger::Ledger;
-use trip_analysis::{
-    Application, Base, Failing, Proposal, What, first_meeting_out_by, first_on_by, next_leaving,
-};
+use trip_analysis::{Application, Base, Failing, Proposal, What, next_leaving};
 
 impl Register {
     /// Answers a proposal, which is what was found at its version.
@@ -40,6 +38,7 @@ impl Register {
         ensures after { IfOk result (Leaves self.old caller (Submit application.now proposal.now) self.new) }
         ensures unchanged { OnErr result (self.new ≡ self.old) }
         ensures lack { OnErr result (MayLack self.old (Submit application.now proposal.now)) }
+        ensures cost { IsRetested self.old proposal.now.seen proposal.now.what steps.old steps.new }
     {
         match early_answer(self.base(), self.today(), application) {
             Some(answer) => Ok(answer),
@@ -80,13 +79,9 @@ impl Register {
         ensures within { IfOk result (λ proposal. InRange self.old.base proposal.what) }
         ensures held { IfOk result (λ found. HeldAt self.old found.seen application.now.truck found.what) }
     {
-        let what = self
-            .analyst
-            .find(self.alloc, &self.base, self.store.now(), application)?;
-        Ok(Proposal {
-            seen: self.store.version(),
-            what,
-        })
+        let snapshot = self.store.snapshot()?;
+        self.follower
+            .analyse(self.alloc, &self.base, snapshot, application)
     }
 
     // Answers what was found for an application.
@@ -106,6 +101,7 @@ impl Register {
         ensures after { IfOk result (Permits self.old caller application.now proposal.now.seen self.new) }
         ensures unchanged { OnErr result (self.new ≡ self.old) }
         ensures lack { OnErr result (Issues self.old application.now.truck proposal.now.what) }
+        ensures cost { IsRetested self.old proposal.now.seen proposal.now.what steps.old steps.new }
     {
         let (truck, seen) = (application.truck(), proposal.seen);
         match &proposal.what {
@@ -121,8 +117,8 @@ impl Register {
         }
     }
 
-    // The first segment of a route that fails the truck, where none did at the version seen. Nothing is tested again where
-    // nothing was posted since. Takes no memory.
+    // The first segment of a route that fails the truck, where none did at the version seen: only what changed since is
+    // tested. Takes no memory.
     fn first_failing<L: Ledger>(
         &self,
         truck: u32,
@@ -133,17 +129,43 @@ impl Register {
         requires truck { truck < length self.now.base.fleet }
         requires segments { All (λ s. s < length self.now.base.roads.segments) route.now }
         requires met { first_in self.now.base (state_seen self.now seen) truck route.now ≡ None }
-        ensures { result ≡ first_in self.now.base (state_now self.now) truck route.now }
+        ensures value { result ≡ first_in self.now.base (state_now self.now) truck route.now }
+        ensures steps { IsRetested self.now seen (what.Route route.now) steps.old steps.new }
     {
         if seen == self.version() {
             return None;
         }
-        let study = self.study(truck);
-        first_on_by(self.base(), self.state(), truck, study, route, steps)
+        'places: for i in 0..route.len() {
+            let segment = route[i];
+            if let Some(limit) = self.limit_if_changed(truck, seen, segment, steps) {
+                return Some(Failing { segment, limit });
+            }
+        }
+        None
     }
 
-    // The least segment out of these nodes that the truck may pass, where it could pass none at the version seen. Nothing is
-    // tested again where nothing was posted since. Takes no memory.
+    // The first limit of a segment that fails the truck, where the segment changed after the version seen. Takes no memory.
+    fn limit_if_changed<L: Ledger>(
+        &self,
+        truck: u32,
+        seen: u32,
+        segment: u32,
+        steps: &mut Steps<L>,
+    ) -> Option<Limit>
+        requires truck { truck < length self.now.base.fleet }
+        requires segment { segment < length self.now.base.roads.segments }
+        ensures value { result ≡ (if has_changed self.now seen segment
+            then limit_for self.now.base (state_now self.now) truck segment else None) }
+        ensures steps { steps.new ≡ steps.old + (if has_changed self.now seen segment then 1 else 0) }
+    {
+        if self.changed(segment, seen) {
+            return self.failing_limit(truck, segment, steps);
+        }
+        None
+    }
+
+    // The least segment out of these nodes that the truck may pass, where it could pass none at the version seen: only what
+    // changed since is tested. Takes no memory.
     fn first_meeting<L: Ledger>(
         &self,
         truck: u32,
@@ -154,20 +176,54 @@ impl Register {
         requires truck { truck < length self.now.base.fleet }
         requires rising { AreRising nodes.now }
         requires met { least_out self.now.base (state_seen self.now seen) truck nodes.now ≡ None }
-        ensures { result ≡ least_out self.now.base (state_now self.now) truck nodes.now }
+        ensures value { result ≡ least_out self.now.base (state_now self.now) truck nodes.now }
+        ensures steps { steps.new ≤ steps.old + changed_out self.now seen nodes.now }
     {
         if seen == self.version() {
             return None;
         }
-        let study = self.study(truck);
-        first_meeting_out_by(self.base(), self.state(), truck, study, nodes, steps)
+        let mut start = 0;
+        'out: while let Some(segment) = next_leaving(self.base().network(), nodes, start) {
+            if self.meets_if_changed(truck, seen, segment, steps) {
+                return Some(segment);
+            }
+            start = segment + 1;
+        }
+        None
+    }
+
+    // Whether the segment changed after the version seen, and the truck may pass it now. Takes no memory.
+    fn meets_if_changed<L: Ledger>(
+        &self,
+        truck: u32,
+        seen: u32,
+        segment: u32,
+        steps: &mut Steps<L>,
+    ) -> bool
+        requires truck { truck < length self.now.base.fleet }
+        requires segment { segment < length self.now.base.roads.segments }
+        ensures value { result ≡ (has_changed self.now seen segment
+            && is_passable self.now.base (state_now self.now) truck segment) }
+        ensures steps { steps.new ≡ steps.old + (if has_changed self.now seen segment then 1 else 0) }
+    {
+        self.changed(segment, seen) && self.failing_limit(truck, segment, steps).is_none()
+    }
+
+    // Whether a posting above the version seen names the segment or one of its spans. Takes no memory.
+    #[tactic(auto, using(crate::proofs::Registers::stored_is))]
+    fn changed(&self, segment: u32, seen: u32) -> bool
+        requires { segment < length self.now.base.roads.segments }
+        ensures { result ≡ has_changed self.now seen segment }
+    {
+        self.store.changed(self.base.network(), segment, seen)
     }
 
     // Answers that a segment fails. Takes no memory.
     fn answer_fails<L: Ledger>(&self, truck: u32, segment: u32, steps: &mut Steps<L>) -> Answer
         requires truck { truck < length self.now.base.fleet }
         requires segment { segment < length self.now.base.roads.segments }
-        ensures { result ≡ found_reply self.now truck (what.Fails segment) }
+        ensures reply { result ≡ found_reply self.now truck (what.Fails segment) }
+        ensures steps { steps.new ≡ steps.old + 1 }
     {
         let version = self.version();
         match self.failing_limit(truck, segment, steps) {
@@ -187,7 +243,8 @@ impl Register {
         requires truck { truck < length self.now.base.fleet }
         requires rising { AreRising nodes.now }
         requires met { least_out self.now.base (state_seen self.now seen) truck nodes.now ≡ None }
-        ensures { result ≡ found_reply self.now truck (what.Cut nodes.now) }
+        ensures reply { result ≡ found_reply self.now truck (what.Cut nodes.now) }
+        ensures steps { IsRetested self.now seen (what.Cut nodes.now) steps.old steps.new }
     {
         let Some(first) = next_leaving(self.base().network(), nodes, 0) else {
             return Answer::plain(Reply::NoRoad);
@@ -227,20 +284,24 @@ impl Register {
         ensures after { IfOk result (Permits self.old caller application.now seen self.new) }
         ensures unchanged { OnErr result (self.new ≡ self.old) }
     {
-        let version = self.store.version();
+        let (number, version) = (self.book.len() + 1, self.store.version());
         let answer = Answer::new(Reply::Issued {
-            number: self.book.len() + 1,
+            number,
             version,
             route: route.try_clone(self.alloc)?,
         })?;
         let own = route.try_clone(self.alloc)?;
+        self.index.add(number, route)?;
         let (truck, first, last) = (application.truck(), application.first(), application.last());
         match self
             .book
             .issue(caller, truck, own, first, last, version, seen)
         {
             Ok(_number) => Ok(answer),
-            Err(BookRefusal::NoMemory) => Err(NoMemory),
+            Err(BookRefusal::NoMemory) => {
+                self.index.remove(number, route);
+                Err(NoMemory)
+            }
             Err(BookRefusal::Full) => unreachable!(),
         }
     }

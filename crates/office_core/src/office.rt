@@ -7,6 +7,7 @@ ghost use Rattle.permit_book.specs.Permits.{is_issued, permit_of};
 ghost use Rattle.office_core.specs.declared.entry.Reply.TheVariants as reply;
 ghost use Rattle.office_core.specs.Replies.{is_full};
 ghost use Rattle.office_core.specs.Machine.{IsLegal, MayAsk, state_in, version_of};
+ghost use Rattle.office_core.specs.Costs.{IsCost};
 ghost use Rattle.office_core.specs.Offices.{HasPlace, IsFull, IsStep, entry, grown, machine_in, newly_opened, stored_in_office};
 ghost use Rattle.office_core.specs.Promises.{KeepsPromises};
 ghost use Rattle.office_core.specs.RecallLists.{RecalledWereIssued};
@@ -82,6 +83,7 @@ impl Office {
         ensures grown { HasPlace self.old → self.new ≡ grown self.old (entry caller call result) }
         ensures step { HasPlace self.old → IsStep self.old (entry caller call result) self.new }
         ensures legal { IsLegal self.new.base self.new.opening self.new.history }
+        ensures cost { IsCost self.old.base (machine_in self.old) call steps.old steps.new }
     {
         if self.history.len() >= self.most as usize {
             return Reply::Full { entries: self.most };

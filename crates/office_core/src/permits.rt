@@ -53,6 +53,7 @@ impl Register {
         if !status.is_in_force() {
             return Answer::plain(Reply::NotInForce { status });
         }
+        self.index.remove(number, &permit.route);
         self.book.surrender(number);
         Answer::plain(Reply::Surrendered)
     }

@@ -1,19 +1,23 @@
 // The answer to a posting.
 
-ghost use Rattle.std.specs.Prelude.{◌≡◌, ◌+◌, ◌<◌, ◌++◌, ◌∷◌, [], length, IfOk, OnOk, OnErr, true, if◌then◌else◌};
+ghost use Rattle.std.specs.Prelude.{◌≡◌, ◌+◌, ◌<◌, ◌≤◌, ◌++◌, ◌∷◌, [], length, IfOk, OnOk, OnErr, true, if◌then◌else◌};
 ghost use Rattle.restriction_log.specs.Changes.{takes};
 ghost use Rattle.restriction_log.specs.States.{AreOf};
+ghost use Rattle.permit_book.specs.Permits.{is_issued, is_live, marked, permit_of};
 ghost use Rattle.permit_book.specs.declared.permit.Mark.TheVariants as mark;
-ghost use Rattle.office_core.specs.Recalls.{AreLive, IsRanged, MeetsElsewhere, fails, is_recalled, marked_all};
+ghost use Rattle.office_core.specs.declared.entry.Call.TheVariants as call;
+ghost use Rattle.office_core.specs.Recalls.{AreLive, marked_all};
+ghost use Rattle.office_core.specs.Users.{IsIndexed, IsUser, users_of};
 ghost use Rattle.office_core.specs.Machine.{HasRoom};
-ghost use Rattle.office_core.specs.Registers.{IsNext, MeetElsewhere, PermitMeetsElsewhere, Posts, posting_reply, recalls_of};
+ghost use Rattle.office_core.specs.Registers.{Costs, IsNext, MeetElsewhere, Posts, is_recalled_in, posting_reply, recalls_of};
 
 use crate::answer::Answer;
 use crate::entry::Reply;
 use crate::register::Register;
 use clearance_rules::Steps;
 use office_io::NoMemory;
-use permit_book::{Book, Permit};
+use permit_book::Book;
+use recall_index::Index;
 use restriction_log::{Change, PostRefusal, State, touched};
 use road_graph::Numbers;
 use snapshot_store::Next;
@@ -34,6 +38,7 @@ impl Register {
         ensures after { IfOk result (Posts self.old change.now self.new) }
         ensures unchanged { OnErr result (self.new ≡ self.old) }
         ensures lack { OnErr result (takes self.old.base.roads change.now ≡ true) }
+        ensures cost { Costs self.old (call.Post change.now) steps.old steps.new }
     {
         let next = match self.store.next(self.base.network(), *change) {
             Ok(next) => next,
@@ -45,35 +50,25 @@ impl Register {
         let recalled = Numbers::of(self.recalled_by(next.state(), segment, steps)?);
         let version = self.version() + 1;
         let answer = Answer::new(Reply::Posted { version, recalled })?;
-        self.enter(next, answer.numbers(), steps)?;
+        self.enter(next, answer.numbers())?;
         Ok(answer)
     }
 
     // Goes on to the state that a change makes, and recalls these permits.
-    fn enter<L: Ledger>(
-        &mut self,
-        next: Next,
-        recalled: &[u32],
-        steps: &mut Steps<L>,
-    ) -> Result<(), NoMemory>
+    fn enter(&mut self, next: Next, recalled: &[u32]) -> Result<(), NoMemory>
         requires next { IsNext self.old next }
         requires recalled { recalled.now ≡ recalls_of self.old next.state }
         ensures base { self.new.base ≡ self.old.base }
         ensures after { OnOk result (Posts self.old next.change self.new (posting_reply self.old next.change)) }
         ensures unchanged { OnErr result (self.new ≡ self.old) }
     {
-        let change = next.change();
-        // the analyst goes on from the state before, which the store lets go
-        let before = self.store.snapshot()?;
         let version = self.store.commit(self.base.network(), next)?;
-        recall_each(&mut self.book, recalled, version);
-        let (old, new) = (before.state(), self.store.now());
-        self.analyst.turn(&self.base, old, new, &change, steps);
+        recall_each(&mut self.book, &mut self.index, recalled, version);
         Ok(())
     }
 
-    // The numbers of the permits that a state recalls, where each in force is known to meet it but at one segment.
-    #[tactic(auto, using(crate::proofs::ByNumber::recalled_more))]
+    // The numbers of the permits that a state recalls, where each in force is known to meet it but at one segment: those
+    // that use that segment are tested there, and no other.
     fn recalled_by<L: Ledger>(
         &self,
         state: &State,
@@ -83,52 +78,36 @@ impl Register {
         requires of_base { AreOf self.now.base.roads state.now }
         requires there { segment < length self.now.base.roads.segments }
         requires elsewhere { MeetElsewhere self.now state.now segment }
-        ensures { IfOk result (λ numbers. numbers.items ≡ recalls_of self.now state.now) }
+        ensures numbers { IfOk result (λ numbers. numbers.items ≡ recalls_of self.now state.now) }
+        ensures steps { steps.new ≤ steps.old + length (users_of segment self.now.machine.permits) }
     {
         let mut numbers = Vec::new(self.alloc);
-        let permits = self.permits();
-        for i in 0..permits.len() {
-            let permit = &permits[i];
-            let is_one = self.is_recalled(state, segment, permit, steps);
-            push_if(&mut numbers, is_one, permit.number)?;
+        let users = self.users(segment);
+        for i in 0..users.len() {
+            let is_one = self.is_recalled(state, segment, users[i], steps);
+            push_if(&mut numbers, is_one, users[i])?;
         }
         Ok(numbers)
     }
 
-    // Whether the state recalls the permit.
+    // Whether the state recalls the permit of this number, which uses the segment.
     fn is_recalled<L: Ledger>(
         &self,
         state: &State,
         segment: u32,
-        permit: &Permit,
+        number: u32,
         steps: &mut Steps<L>,
     ) -> bool
-        requires ranged { IsRanged self.now.base permit.now }
+        requires user { IsUser self.now.machine.permits segment number }
         requires of_base { AreOf self.now.base.roads state.now }
         requires there { segment < length self.now.base.roads.segments }
-        requires elsewhere { PermitMeetsElsewhere self.now state.now segment permit.now }
-        ensures { result ≡ is_recalled self.now.base state.now self.now.machine.day permit.now }
+        requires elsewhere { MeetElsewhere self.now state.now segment }
+        ensures value { result ≡ is_recalled_in self.now state.now number }
+        ensures steps { steps.new ≤ steps.old + 1 }
     {
-        permit.status(self.today()).is_in_force()
-            && self.permit_fails(state, segment, permit, steps)
-    }
-
-    // Whether a segment of the permit fails its truck, where each but one is known to meet it: that one alone is tested.
-    fn permit_fails<L: Ledger>(
-        &self,
-        state: &State,
-        segment: u32,
-        permit: &Permit,
-        steps: &mut Steps<L>,
-    ) -> bool
-        requires ranged { IsRanged self.now.base permit.now }
-        requires of_base { AreOf self.now.base.roads state.now }
-        requires there { segment < length self.now.base.roads.segments }
-        requires elsewhere { MeetsElsewhere self.now.base state.now segment permit.now }
-        ensures { result ≡ fails self.now.base state.now permit.now }
-    {
+        let permit = &self.permits()[number as usize - 1];
         let (truck, study) = (permit.truck, self.study(permit.truck));
-        permit.route.as_slice().contains(&segment)
+        permit.status(self.today()).is_in_force()
             && failing_limit_by(self.base(), state, truck, study, segment, steps).is_some()
     }
 }
@@ -143,12 +122,27 @@ fn push_if(numbers: &mut Vec<u32>, is_one: bool, number: u32) -> Result<(), Allo
     Ok(())
 }
 
-// Recalls these permits, which are live.
-fn recall_each(book: &mut Book, numbers: &[u32], version: u32)
-    requires { AreLive (mark.Recalled version) book.old numbers.now }
-    ensures { book.new ≡ marked_all (mark.Recalled version) book.old numbers.now }
+// Recalls these permits, which are live, and takes them out of the index.
+fn recall_each(book: &mut Book, index: &mut Index, numbers: &[u32], version: u32)
+    requires live { AreLive (mark.Recalled version) book.old numbers.now }
+    requires index { IsIndexed (length index.old) book.old index.old }
+    ensures marked { book.new ≡ marked_all (mark.Recalled version) book.old numbers.now }
+    ensures index { IsIndexed (length index.old) book.new index.new }
 {
     for i in 0..numbers.len() {
-        book.recall(numbers[i], version);
+        recall(book, index, numbers[i], version);
     }
+}
+
+// Recalls a permit, which is live, and takes it out of the index.
+fn recall(book: &mut Book, index: &mut Index, number: u32, version: u32)
+    requires issued { is_issued book.old number ≡ true }
+    requires live { is_live (permit_of book.old number).mark ≡ true }
+    requires index { IsIndexed (length index.old) book.old index.old }
+    ensures marked { book.new ≡ marked book.old number (mark.Recalled version) }
+    ensures index { IsIndexed (length index.old) book.new index.new }
+{
+    let permit = &book.permits()[number as usize - 1];
+    index.remove(number, &permit.route);
+    book.recall(number, version);
 }

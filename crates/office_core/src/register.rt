@@ -1,6 +1,6 @@
 // What a permit office keeps, and how it answers a call.
 
-ghost use Rattle.std.specs.Prelude.{◌≡◌, ◌<◌, length, All, IfOk, IfSome, OnErr, is_some};
+ghost use Rattle.std.specs.Prelude.{◌≡◌, ◌+◌, ◌<◌, length, All, IfOk, IfSome, OnErr, is_some};
 ghost use Rattle.std.specs.Arc.{arc_value};
 ghost use Rattle.road_graph.specs.Roads.{IsRoads};
 ghost use Rattle.restriction_log.specs.States.{AreOf};
@@ -8,8 +8,9 @@ ghost use Rattle.trip_analysis.specs.Bases.{train_of};
 ghost use Rattle.trip_analysis.specs.Findings.{limit_for};
 ghost use Rattle.permit_book.specs.Permits.{is_issued, permit_of};
 ghost use Rattle.office_core.specs.Recalls.{IsRanged};
+ghost use Rattle.office_core.specs.Users.{IsUser, users_of};
 ghost use Rattle.office_core.specs.Machine.{HasRoom, IsAnswer, MayAsk, opened, version_of};
-ghost use Rattle.office_core.specs.Registers.{Gives, Leaves, MayLack, state_now, stored_now};
+ghost use Rattle.office_core.specs.Registers.{Costs, Gives, Leaves, MayLack, state_now, stored_now};
 
 use crate::answer::Answer;
 use crate::entry::{Call, Reply};
@@ -18,13 +19,14 @@ use hs20_truck::Kept;
 use office_io::NoMemory;
 use permit_book::{Book, Permit};
 use permit_days::Day;
+use recall_index::Index;
 use restriction_log::State;
 use snapshot_store::{Snapshot, Store};
 use std::alloc::Global;
 use std::marker::Model;
 use std::sync::Arc;
 use std::sync::ledger::Ledger;
-use trip_analysis::{Analyst, Base, failing_limit_by};
+use trip_analysis::{Base, Follower, failing_limit_by};
 
 /// What a permit office keeps: what it is about, what is posted and in force on the roads, the permits, the day, and what is
 /// known of each truck.
@@ -37,7 +39,10 @@ pub(crate) struct Register {
     pub(crate) day: Day,
     pub(crate) store: Store,
     pub(crate) book: Book,
-    pub(crate) analyst: Analyst,
+    // the live permits by segment
+    pub(crate) index: Index,
+    // finds what is asked for without a proposal, and goes on to the current version only then
+    pub(crate) follower: Follower,
 }
 
 impl Model for Register {
@@ -61,15 +66,17 @@ impl Register {
         ensures machine { IfOk result (λ register. register.machine ≡ opened day) }
     {
         base.lists_are_in_order();
-        let analyst = Analyst::new(alloc, &base)?;
+        let follower = Follower::new(alloc, &base)?;
         let store = Store::start(alloc, base.network())?;
+        let index = Index::new(alloc, base.network().segments())?;
         Ok(Register {
             alloc,
             base,
             day,
             store,
             book: Book::new(alloc),
-            analyst,
+            index,
+            follower,
         })
     }
 
@@ -127,12 +134,21 @@ impl Register {
         self.book.permits()
     }
 
+    /// The numbers of the permits that use a segment, rising. Takes no memory.
+    pub(crate) fn users(&self, segment: u32) -> &[u32]
+        requires { segment < length self.now.base.roads.segments }
+        ensures value { result.now ≡ users_of segment self.now.machine.permits }
+        ensures each { All (IsUser self.now.machine.permits segment) result.now }
+    {
+        self.index.using(segment)
+    }
+
     /// The study of a truck's axles. Takes no memory.
     pub(crate) fn study(&self, truck: u32) -> &Kept
         requires { truck < length self.now.base.fleet }
         ensures { result.now ≡ train_of self.now.base truck }
     {
-        self.analyst.study(&self.base, truck)
+        self.follower.study(&self.base, truck)
     }
 
     /// The first limit of the segment that fails the truck now. Takes no memory.
@@ -144,7 +160,8 @@ impl Register {
     ) -> Option<Limit>
         requires truck { truck < length self.now.base.fleet }
         requires segment { segment < length self.now.base.roads.segments }
-        ensures { result ≡ limit_for self.now.base (state_now self.now) truck segment }
+        ensures value { result ≡ limit_for self.now.base (state_now self.now) truck segment }
+        ensures steps { steps.new ≡ steps.old + 1 }
     {
         let study = self.study(truck);
         failing_limit_by(self.base(), self.state(), truck, study, segment, steps)
@@ -162,6 +179,7 @@ impl Register {
         ensures base { self.new.base ≡ self.old.base }
         ensures answer { IsAnswer self.old.base self.old.machine caller call.now result }
         ensures after { Leaves self.old caller call.now self.new result }
+        ensures cost { Costs self.old call.now steps.old steps.new }
     {
         match self.given(caller, call, steps) {
             Ok(answer) => answer,
@@ -183,6 +201,7 @@ impl Register {
         ensures after { IfOk result (Leaves self.old caller call.now self.new) }
         ensures unchanged { OnErr result (self.new ≡ self.old) }
         ensures lack { OnErr result (MayLack self.old call.now) }
+        ensures cost { Costs self.old call.now steps.old steps.new }
     {
         match call {
             Call::Snapshot => {

@@ -37,19 +37,19 @@ fn number(text: &str) -> u32 {
 }
 
 // A name of these bytes, which are one.
-fn named(rt: &impl Abort, bytes: &[u8]) -> Name {
+pub(crate) fn named(rt: &impl Abort, bytes: &[u8]) -> Name {
     Name::new(bytes).expect(rt, "a name")
 }
 
 // The day of March 2026 of this number, of one digit.
-fn march(rt: &impl Abort, number: u32) -> Day {
+pub(crate) fn march(rt: &impl Abort, number: u32) -> Day {
     let mut text = *b"2026-03-00";
     text[9] = b'0' + (number % 10) as u8;
     Day::read(&text).expect(rt, "a day")
 }
 
 // Nodes 0, 1 and 2, and segments of 1,000 ft, each written FROM-TO. Segment 0 is posted at a height.
-fn roads(rt: &impl Abort, alloc: Global, segments: &str, height: u32) -> Network {
+pub(crate) fn roads(rt: &impl Abort, alloc: Global, segments: &str, height: u32) -> Network {
     let mut network = Network::new(alloc);
     for name in [b"a", b"b", b"c"] {
         network.add_node(named(rt, name)).expect(rt, "a node");
@@ -79,7 +79,12 @@ fn truck(rt: &impl Abort, name: &[u8], carrier: &[u8], height: u32, width: u32) 
 }
 
 // These roads, and three trucks: one 168 in high, one that is lower and wide, and a legal one.
-fn base(rt: &impl Abort, alloc: Global, segments: &str, height: u32) -> Result<Base, Fail> {
+pub(crate) fn base(
+    rt: &impl Abort,
+    alloc: Global,
+    segments: &str,
+    height: u32,
+) -> Result<Base, Fail> {
     let mut fleet = Vec::new(alloc);
     fleet.push(truck(rt, b"t1", b"ACME", 168, 102))?;
     fleet.push(truck(rt, b"t2", b"BETA", 150, 110))?;
@@ -100,9 +105,9 @@ fn application(rt: &impl Abort, base: &Base, truck: u32, first: u32) -> Applicat
 
 // A trip, and what was found for it.
 #[derive(Drop)]
-struct Found {
-    application: Application,
-    proposal: Proposal,
+pub(crate) struct Found {
+    pub(crate) application: Application,
+    pub(crate) proposal: Proposal,
 }
 
 // What a change of KIND makes of a segment.
@@ -258,7 +263,7 @@ fn find(
 }
 
 // Makes a call, by a seat or not.
-fn answer(office: &mut Office, caller: u32, call: Call, by_seat: bool) -> Reply
+pub(crate) fn answer(office: &mut Office, caller: u32, call: Call, by_seat: bool) -> Reply
     requires caller { caller < 65536 }
     requires asked { MayAsk office.old.base (machine_in office.old) call }
     ensures { (c : Call) → MayAsk office.old.base (machine_in office.old) c

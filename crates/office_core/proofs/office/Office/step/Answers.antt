@@ -4,11 +4,13 @@ use Rattle.std.proofs.lemmas.List.{length-append}
 use Rattle.std.proofs.lemmas.List.Elements.{All-append, All-cons, All-nil}
 use Rattle.office_core.specs.declared.entry.Entry.{Entry}
 use Rattle.office_core.specs.declared.entry.Reply.{Reply}
-use Rattle.office_core.specs.Machine.{MayAsk}
+use Rattle.office_core.specs.Costs.{IsCost}
+use Rattle.office_core.specs.Machine.{Machine, MayAsk}
 use Rattle.office_core.specs.Offices.{IsStep, Opened, entry, machine_in, seen_of}
 use Rattle.office_core.specs.Replies.{is_full}
 use Rattle.office_core.proofs.Counts.{has_room}
 use Rattle.office_core.proofs.Histories.{Goes, stepped}
+use Rattle.office_core.proofs.Retesting.{cost_none}
 use Rattle.office_core.proofs.office.Office.step.Given.{Over}
 use Rattle.office_core.proofs.office.Office.step.Goals as goal
 
@@ -47,3 +49,11 @@ returns-clause-step g c = let i = c.self.inside in let r = c.into_replies-reply 
 
 pub returns-clause-legal : goal.returns-clause-legal
 returns-clause-legal g c = (went g c).legal
+
+pub returns-then-len-self-clause-cost : goal.returns-then-len-self-clause-cost
+returns-then-len-self-clause-cost g c = cost_none c.args.self.now.base (machine_in c.args.self.now) c.args.call c.args.steps.now
+
+pub returns-clause-cost : goal.returns-clause-cost
+returns-clause-cost g c = let i = c.self.inside in let a = c.answer-answer in let n = c.args.steps.now in
+    subst (λ (o : Opened). IsCost o.base (machine_in o) c.args.call n a.new.steps) c.self.view_is
+    (subst (λ (m : Machine). IsCost i.register.base m c.args.call n a.new.steps) c.self.invariant.machine a.ensures.cost)

@@ -25,4 +25,4 @@ pub returns-clause-given : goal.returns-clause-given
 returns-clause-given g c = let p : RegisterParts = c.args.self.now in
     c.in_ok-answer.ensures.reply ∙ posted_as p c.in-Ok.next c.args.change.now c.of-recalled.result (c.version-version.result + 1)
     (next_here c.self.inside p c.in-Ok.next c.self.view_is c.self.invariant c.in-Ok.ensures.next) c.in-Ok.ensures.change
-    (c.of-recalled.ensures ∙ (c.in_ok-recalled_by.ensures ∙ ap (recalls_of p) c.state.ensures)) (ap (λ n. n + 1) c.version-version.ensures)
+    (c.of-recalled.ensures ∙ (c.in_ok-recalled_by.ensures.numbers ∙ ap (recalls_of p) c.state.ensures)) (ap (λ n. n + 1) c.version-version.ensures)

@@ -1,7 +1,9 @@
-use Rattle.std.proofs.Common.{◌≡◌, ◌++◌, drop}
-use Rattle.office_core.specs.Recalls.{recalled_by}
+use Rattle.std.proofs.Common.{◌≡◌, ◌+◌, ◌≤◌, ◌++◌, drop, filter}
+use Rattle.office_core.specs.Registers.{is_recalled_in}
 use Rattle.office_core.proofs.register.Register.recalled_by.Given as goal
 
 abbrev pub invariant-loop-i : goal.invariant-loop-i
-invariant-loop-i g l = let day = l.self.machine.day in
-    l.numbers.items ++ recalled_by l.self.base l.state day (drop l.i l.permits) ≡ recalled_by l.self.base l.state day l.permits
+invariant-loop-i g l = record {
+  numbers : l.numbers.items ++ filter (is_recalled_in l.self l.state) (drop l.i l.users) ≡ filter (is_recalled_in l.self l.state) l.users;
+  steps : l.steps ≤ l.fn.steps + l.i;
+}

@@ -9,5 +9,7 @@ invariant_of-self c = let i = c.self.inside in let inv = c.self.invariant in rec
   roads = inv.roads;
   good = good_day (arc_value i.base) (machine_at i.store.postings i.book i.day) c.args.day (sym c.lt.ensures ∙ c.if-lt.false) inv.good;
   store = inv.store;
-  known = inv.known;
+  follower = inv.follower;
+  later = inv.later;
+  index = inv.index;
 }

@@ -1,0 +1,136 @@
+-- The index has at each segment the permits that use it, as permits are issued and end.
+use Rattle.std.proofs.Common.{◌≡◌, ◌∷◌, ◌++◌, [], List, ℕ, zero, suc, ◌+◌, ◌-◌, ◌<◌, ◌≤◌, Bool, cond, true, false, nat_eq, not, ◌&&◌, map, filter, set, length, get_or, refl, ap, sym, subst, ◌∙◌, arith}
+use Rattle.std.specs.List.{All, AllByRecursion as ByRecursion}
+use Rattle.std.proofs.lemmas.Bool.Decides.{nat_tests}
+use Rattle.std.proofs.lemmas.List.{get_or-replicate, get_or_default, length-replicate, map-append}
+use Rattle.std.proofs.lemmas.List.Elements.{All-append, All-cons, All-nil, All-set, All-weaker, filter-append}
+use Rattle.std.proofs.lemmas.Option.{slice_get-get_or}
+use Rattle.permit_book.specs.declared.permit.Permit.{Permit}
+use Rattle.permit_book.specs.declared.permit.Mark.{Mark}
+use Rattle.permit_book.specs.Permits.{AreNumbered, is_issued, is_live, marked, no_permit, permit_of}
+use Rattle.recall_index.specs.Uses.{AreBelow, IsAdded, IsRemoved, IsThere, Lists, unused, using_in, without}
+use Rattle.recall_index.proofs.Lists.{end_gone}
+use Rattle.trip_analysis.specs.Findings.{is_in}
+use Rattle.trip_analysis.proofs.Found.{is_in_from_among}
+use Rattle.office_core.specs.Users.{IsIndexed, IsUser, IsOnRoads, users_of, uses}
+use Rattle.office_core.proofs.Lists.{pick}
+use Rattle.office_core.proofs.Recalling.{in_numbers, numbered}
+
+-- the permits that use a segment, with one permit more
+users_issued : (s : ℕ) (ps : List Permit) (p : Permit) → users_of s (ps ++ p ∷ []) ≡ users_of s ps ++ cond (uses s p) (p.number ∷ []) []
+users_issued s ps p =
+    ap (map (λ (q : Permit). q.number)) (filter-append (uses s) ps (p ∷ []))
+    ∙ (map-append (λ (q : Permit). q.number) (filter (uses s) ps) (filter (uses s) (p ∷ [])) ∙ ap (λ l. users_of s ps ++ l) (last (uses s p)))
+  where
+    last : (b : Bool) → map (λ (q : Permit). q.number) (cond b (p ∷ []) []) ≡ cond b (p.number ∷ []) []
+    last true = refl
+    last false = refl
+
+-- permits are above the place at which they begin
+above : (s b : ℕ) (ps : List Permit) → AreNumbered b ps → ByRecursion (λ k. b < k) (users_of s ps)
+above s b [] h = tt
+above s b (p ∷ ps) h = let here : b < p.number = omega (arith, h.0) in let rest = weaker (users_of s ps) (above s (b + 1) ps h.1) in
+    pick (λ (l : List Permit). ByRecursion (λ k. b < k) (map (λ (x : Permit). x.number) l)) (uses s p) (p ∷ filter (uses s) ps) (filter (uses s) ps) (λ _. (here, rest)) (λ _. rest)
+  where
+    weaker : (ns : List ℕ) → ByRecursion (λ k. b + 1 < k) ns → ByRecursion (λ k. b < k) ns
+    weaker [] h = tt
+    weaker (n ∷ ns) h = (omega (arith, h.0), weaker ns h.1)
+
+untouched : (n : ℕ) (ns : List ℕ) → ByRecursion (λ k. n < k) ns → without n ns ≡ ns
+untouched n [] h = refl
+untouched n (k ∷ ns) h = let e : not (nat_eq k n) ≡ true = grind (arith, nat_tests, h.0) in ap (λ b. cond b (k ∷ without n ns) (without n ns)) e ∙ ap (λ l. k ∷ l) (untouched n ns h.1)
+
+-- a permit that ends uses nothing any more
+users_marked : (s b k : ℕ) (ps : List Permit) (m : Mark) → is_live m ≡ false → AreNumbered b ps → users_of s (set ps k (record (get_or ps k no_permit) { mark = m })) ≡ without (b + k + 1) (users_of s ps)
+users_marked s b k [] m off h = refl
+users_marked s b zero (p ∷ ps) m off h = gone (uses s p) (let same : b + 0 + 1 ≡ b + 1 = omega arith in subst (λ n. without n (users_of s ps) ≡ users_of s ps) (sym same) (untouched (b + 1) (users_of s ps) (above s (b + 1) ps h.1)))
+  where
+    gone : (x : Bool) → without (b + 0 + 1) (users_of s ps) ≡ users_of s ps → map (λ (y : Permit). y.number) (cond (is_live m && is_in s p.route) ((record p { mark = m }) ∷ filter (uses s) ps) (filter (uses s) ps)) ≡ without (b + 0 + 1) (map (λ (y : Permit). y.number) (cond x (p ∷ filter (uses s) ps) (filter (uses s) ps)))
+    gone true e = let hit : not (nat_eq p.number (b + 0 + 1)) ≡ false = grind (arith, nat_tests, h.0) in rw off (sym (ap (λ c. cond c (p.number ∷ without (b + 0 + 1) (users_of s ps)) (without (b + 0 + 1) (users_of s ps))) hit ∙ e))
+    gone false e = rw off (sym e)
+users_marked s b (suc k) (p ∷ ps) m off h = kept (uses s p) (users_marked s (b + 1) k ps m off h.1)
+  where
+    next : List Permit
+    next = set ps k (record (get_or ps k no_permit) { mark = m })
+
+    kept : (x : Bool) → users_of s next ≡ without (b + 1 + k + 1) (users_of s ps) → map (λ (y : Permit). y.number) (cond x (p ∷ filter (uses s) next) (filter (uses s) next)) ≡ without (b + suc k + 1) (map (λ (y : Permit). y.number) (cond x (p ∷ filter (uses s) ps) (filter (uses s) ps)))
+    kept true e = let same : b + 1 + k + 1 ≡ b + suc k + 1 = omega arith in let other : not (nat_eq p.number (b + suc k + 1)) ≡ true = grind (arith, nat_tests, h.0) in
+        ap (λ l. p.number ∷ l) (e ∙ ap (λ n. without n (users_of s ps)) same) ∙ sym (ap (λ c. cond c (p.number ∷ without (b + suc k + 1) (users_of s ps)) (without (b + suc k + 1) (users_of s ps))) other)
+    kept false e = let same : b + 1 + k + 1 ≡ b + suc k + 1 = omega arith in e ∙ ap (λ n. without n (users_of s ps)) same
+
+-- what stands at the place of a number is its permit
+pub found_at : (items ps : List Permit) (n : ℕ) (p : Permit) → items ≡ ps → is_issued ps n ≡ true → p ≡ get_or items (n - 1) p → p ≡ permit_of ps n
+found_at items ps n p same issued is = let low : n - 1 < length ps = grind (arith, nat_tests, issued) in
+    is ∙ (ap (λ l. get_or l (n - 1) p) same ∙ get_or_default ps (n - 1) p no_permit low)
+
+-- each of the numbers is that of a permit that uses the segment
+pub are_users : (s : ℕ) (ps : List Permit) → AreNumbered 0 ps → All (IsUser ps s) (users_of s ps)
+are_users s ps h = λ k d low.
+    let n = get_or (users_of s ps) k d in
+    let on = is_in_from_among n (users_of s ps) k (slice_get-get_or (users_of s ps) k d low) in
+    let there = numbered (uses s) ps n h on in
+    record {
+      issued = (let some : 1 ≤ n = there.0 in let few : n ≤ length ps = there.1 in grind (arith, nat_tests, some, few));
+      uses = sym (in_numbers (uses s) ps n h there.0 there.1) ∙ on;
+    }
+
+pub index_opened : (segments : ℕ) → IsIndexed segments [] (unused segments)
+index_opened segments = record {
+  many = length-replicate {A = List ℕ} segments [];
+  users = λ s low. get_or-replicate segments s [] [] low;
+  within = All-nil (IsOnRoads segments);
+}
+
+module _ (segments : ℕ) (ps : List Permit) (index : Lists) (is : IsIndexed segments ps index) (h : AreNumbered 0 ps) where
+  -- the next number is above all that are there
+  pub index_below : (n : ℕ) → n ≡ length ps + 1 → AreBelow n index
+  index_below n next s low = let here : s < segments = omega (arith, low, is.many) in
+      subst (All (λ k. k < n)) (sym (is.users s here))
+      (All-weaker (IsUser ps s) (λ k. k < n) (λ k user. (let issued = user.issued in grind (arith, nat_tests, next, issued))) (users_of s ps) (are_users s ps h))
+
+  -- with its route added the next permit is in the index
+  pub index_issued : (next : Lists) (n : ℕ) (p : Permit) → IsAdded index n p.route next → p.number ≡ n → is_live p.mark ≡ true → All (λ s. s < segments) p.route → IsIndexed segments (ps ++ p ∷ []) next
+  index_issued next n p added same live inside = record {
+    many = added.many ∙ is.many;
+    users = λ s low. (let here : s < length index = omega (arith, low, is.many) in
+        added.using s here ∙ (ap (λ l. l ++ cond (is_in s p.route) (n ∷ []) []) (is.users s low)
+        ∙ (ap (λ k. users_of s ps ++ cond (is_in s p.route) (k ∷ []) []) (sym same)
+        ∙ (ap (λ b. users_of s ps ++ cond (b && is_in s p.route) (p.number ∷ []) []) (sym live) ∙ sym (users_issued s ps p)))));
+    within = All-append (IsOnRoads segments) ps (p ∷ []) is.within (All-cons (IsOnRoads segments) p [] inside (All-nil (IsOnRoads segments)));
+  }
+
+  -- and taken out again it leaves the index as it was
+  pub index_undone : (mid last : Lists) (n : ℕ) (route : List ℕ) → n ≡ length ps + 1 → IsAdded index n route mid → IsRemoved mid n last → IsIndexed segments ps last
+  index_undone mid last n route next added gone = record {
+    many = gone.many ∙ (added.many ∙ is.many);
+    users = λ s low. (let here : s < length index = omega (arith, low, is.many) in let there : s < length mid = omega (arith, here, added.many) in
+        gone.using s there ∙ (ap (without n) (added.using s here) ∙ (end_gone n (using_in index s) (is_in s route) (index_below n next s here) ∙ is.users s low)));
+    within = is.within;
+  }
+
+  module _ (n : ℕ) (issued : is_issued ps n ≡ true) where
+    some : 1 ≤ n
+    some = grind (arith, nat_tests, issued)
+
+    few : n ≤ length ps
+    few = grind (arith, nat_tests, issued)
+
+    -- a live permit is there with its route
+    pub index_there : (p : Permit) → p ≡ permit_of ps n → is_live (permit_of ps n).mark ≡ true → IsThere index n p.route
+    index_there p same live s low = let here : s < segments = omega (arith, low, is.many) in
+        ap (is_in n) (is.users s here) ∙ (in_numbers (uses s) ps n h some few
+        ∙ (ap (λ b. b && is_in s (permit_of ps n).route) live ∙ ap (λ (q : Permit). is_in s q.route) (sym same)))
+
+    pub index_inside : (p : Permit) → p ≡ permit_of ps n → All (λ s. s < length index) p.route
+    index_inside p same = let low : n - 1 < length ps = omega (arith, some, few) in
+        subst (λ (q : Permit). All (λ s. s < length index) q.route) (sym same)
+        (subst (λ k. All (λ s. s < k) (permit_of ps n).route) (sym is.many) (is.within (n - 1) no_permit low))
+
+    -- taken out of it, and marked as ended
+    pub index_marked : (next : Lists) (m : Mark) → is_live m ≡ false → IsRemoved index n next → IsIndexed segments (marked ps n m) next
+    index_marked next m off gone = record {
+      many = gone.many ∙ is.many;
+      users = λ s low. (let here : s < length index = omega (arith, low, is.many) in let at : 0 + (n - 1) + 1 ≡ n = omega (arith, some) in
+          gone.using s here ∙ (ap (without n) (is.users s low) ∙ (ap (λ k. without k (users_of s ps)) (sym at) ∙ sym (users_marked s 0 (n - 1) ps m off h))));
+      within = (let low : n - 1 < length ps = omega (arith, some, few) in All-set (IsOnRoads segments) ps (n - 1) _ (is.within (n - 1) no_permit low) is.within);
+    }

@@ -1,0 +1,130 @@
+-- What did not change after a version is as it was then: along a route that met, and out of a cut that failed.
+use Rattle.std.proofs.Common.{◌≡◌, ◌∷◌, List, ℕ, ◌+◌, ◌<◌, ◌≤◌, ◌&&◌, Bool, cond, true, false, length, get_or, take, drop, filter, refl, ap, sym, ◌∙◌, arith}
+use Rattle.std.specs.Prelude.{Option, Some, None, is_none}
+use Rattle.std.proofs.lemmas.List.{drop_more}
+use Rattle.restriction_log.specs.declared.change.Change.{Change}
+use Rattle.restriction_log.specs.States.{state_of}
+use Rattle.restriction_log.proofs.Elsewhere.{agree-since}
+use Rattle.clearance_rules.specs.declared.limit.Limit.{Limit}
+use Rattle.clearance_rules.proofs.Agreeing.{limits_agree}
+use Rattle.trip_analysis.specs.declared.finding.Failing.{Failing}
+use Rattle.trip_analysis.specs.declared.finding.What.{What}
+use Rattle.trip_analysis.specs.declared.finding.What.TheVariants as what
+use Rattle.trip_analysis.specs.Bases.{BaseLists, truck_of}
+use Rattle.trip_analysis.specs.Findings.{first_meeting, first_on, first_or, is_passable, leaving, leaving_from, limit_for}
+use Rattle.office_core.specs.declared.entry.Call.{Call}
+use Rattle.office_core.specs.declared.entry.Call.TheVariants as call
+use Rattle.office_core.specs.Costs.{IsCost}
+use Rattle.office_core.specs.Machine.{Machine}
+use Rattle.office_core.specs.Retests.{IsWithin, changed_on, is_changed}
+
+if_counted : (b : Bool) (s : ℕ) (l : List ℕ) → length (cond b (s ∷ l) l) ≡ cond b 1 0 + length l
+if_counted true s l = omega arith
+if_counted false s l = omega arith
+
+both_none : (l : Option Limit) (s : ℕ) (rest : Option Failing) → first_or l s rest ≡ None → (l ≡ None) × (rest ≡ None)
+both_none (Some l) s rest e = absurd (grind (arith, e))
+both_none None s rest e = (refl, e)
+
+none_meets : (b : Bool) (s : ℕ) (rest : Option ℕ) → cond b (Some s) rest ≡ None → (b ≡ false) × (rest ≡ None)
+none_meets true s rest e = absurd (grind (arith, e))
+none_meets false s rest e = (refl, e)
+
+-- a segment that did not change has the limit that it had
+limit_stays : (base : BaseLists) (postings : List Change) (seen truck s : ℕ) → is_changed base postings seen s ≡ false
+    → limit_for base (state_of base.roads postings) truck s ≡ limit_for base (state_of base.roads (take seen postings)) truck s
+limit_stays base postings seen truck s same =
+    limits_agree base.roads (state_of base.roads (take seen postings)) (state_of base.roads postings) (truck_of base truck).load s
+    (agree-since base.roads s seen postings same)
+
+counted : (base : BaseLists) (postings : List Change) (seen s : ℕ) (rest : List ℕ)
+    → changed_on base postings seen (s ∷ rest) ≡ cond (is_changed base postings seen s) 1 0 + changed_on base postings seen rest
+counted base postings seen s rest = if_counted (is_changed base postings seen s) s (filter (is_changed base postings seen) rest)
+
+-- one segment further along a route that met at a version, where this one has no limit or did not change
+pub record RouteOn (base : BaseLists) (postings : List Change) (seen truck : ℕ) (route : List ℕ) (i before after : ℕ) : Type 0 where
+  pub left : first_on base (state_of base.roads postings) truck (drop i route) ≡ first_on base (state_of base.roads postings) truck route
+  pub met : first_on base (state_of base.roads (take seen postings)) truck (drop i route) ≡ None
+  pub steps : after + changed_on base postings seen (drop i route) ≤ before + changed_on base postings seen route
+
+pub route_none : (base : BaseLists) (postings : List Change) (seen truck : ℕ) (route : List ℕ) (before : ℕ)
+    → first_on base (state_of base.roads (take seen postings)) truck route ≡ None → RouteOn base postings seen truck route 0 before before
+route_none base postings seen truck route before met = record { left = refl; met = met; steps = omega arith }
+
+passes : (base : BaseLists) (postings : List Change) (seen truck s : ℕ) (rest : List ℕ) (b : Bool) → b ≡ is_changed base postings seen s
+    → None ≡ cond b (limit_for base (state_of base.roads postings) truck s) None → limit_for base (state_of base.roads (take seen postings)) truck s ≡ None
+    → limit_for base (state_of base.roads postings) truck s ≡ None
+passes base postings seen truck s rest true changed none met = sym none
+passes base postings seen truck s rest false changed none met = limit_stays base postings seen truck s (sym changed) ∙ met
+
+pub route_more : (base : BaseLists) (postings : List Change) (seen truck : ℕ) (route : List ℕ) (i s before now after : ℕ) → i < length route → s ≡ get_or route i 0
+    → None ≡ cond (is_changed base postings seen s) (limit_for base (state_of base.roads postings) truck s) None
+    → after ≡ now + cond (is_changed base postings seen s) 1 0 → RouteOn base postings seen truck route i before now
+    → RouteOn base postings seen truck route (i + 1) before after
+route_more base postings seen truck route i s before now after inside is none more on =
+    let new = state_of base.roads postings in let old = state_of base.roads (take seen postings) in
+    let rest = drop (i + 1) route in
+    let here : drop i route ≡ s ∷ rest = drop_more route i 0 inside ∙ ap (λ k. k ∷ rest) (sym is) in
+    let met = both_none (limit_for base old truck s) s (first_on base old truck rest) (ap (first_on base old truck) (sym here) ∙ on.met) in
+    let free = passes base postings seen truck s rest (is_changed base postings seen s) refl none met.0 in
+    let pass : first_on base new truck (s ∷ rest) ≡ first_on base new truck rest = ap (λ l. first_or l s (first_on base new truck rest)) free in
+    let count : changed_on base postings seen (drop i route) ≡ cond (is_changed base postings seen s) 1 0 + changed_on base postings seen rest =
+    ap (changed_on base postings seen) here ∙ counted base postings seen s rest in
+    record {
+      left = sym pass ∙ (ap (first_on base new truck) (sym here) ∙ on.left);
+      met = met.1;
+      steps = omega (arith, on.steps, more, count);
+    }
+
+-- one segment further out of a cut that failed at a version, where this one fails or did not change
+pub record CutOn (base : BaseLists) (postings : List Change) (seen truck : ℕ) (nodes : List ℕ) (start before after : ℕ) : Type 0 where
+  pub within : start ≤ length base.roads.segments
+  pub left : first_meeting base (state_of base.roads postings) truck (leaving_from base.roads nodes start) ≡ first_meeting base (state_of base.roads postings) truck (leaving base.roads nodes)
+  pub failed : first_meeting base (state_of base.roads (take seen postings)) truck (leaving_from base.roads nodes start) ≡ None
+  pub steps : after + changed_on base postings seen (leaving_from base.roads nodes start) ≤ before + changed_on base postings seen (leaving base.roads nodes)
+
+pub cut_none : (base : BaseLists) (postings : List Change) (seen truck : ℕ) (nodes : List ℕ) (before : ℕ)
+    → first_meeting base (state_of base.roads (take seen postings)) truck (leaving base.roads nodes) ≡ None → CutOn base postings seen truck nodes 0 before before
+cut_none base postings seen truck nodes before failed = record { within = omega arith; left = refl; failed = failed; steps = omega arith }
+
+fails : (base : BaseLists) (postings : List Change) (seen truck s : ℕ) (b : Bool) → b ≡ is_changed base postings seen s
+    → (b && is_passable base (state_of base.roads postings) truck s) ≡ false → is_passable base (state_of base.roads (take seen postings)) truck s ≡ false
+    → is_passable base (state_of base.roads postings) truck s ≡ false
+fails base postings seen truck s true changed now then = now
+fails base postings seen truck s false changed now then = ap (λ (l : Option Limit). is_none l) (limit_stays base postings seen truck s (sym changed)) ∙ then
+
+pub cut_more : (base : BaseLists) (postings : List Change) (seen truck : ℕ) (nodes : List ℕ) (start s before now after : ℕ) → s < length base.roads.segments
+    → leaving_from base.roads nodes start ≡ s ∷ leaving_from base.roads nodes (s + 1)
+    → (is_changed base postings seen s && is_passable base (state_of base.roads postings) truck s) ≡ false
+    → after ≡ now + cond (is_changed base postings seen s) 1 0 → CutOn base postings seen truck nodes start before now
+    → CutOn base postings seen truck nodes (s + 1) before after
+cut_more base postings seen truck nodes start s before now after there out shut more on =
+    let new = state_of base.roads postings in let old = state_of base.roads (take seen postings) in
+    let rest = leaving_from base.roads nodes (s + 1) in
+    let then = none_meets (is_passable base old truck s) s (first_meeting base old truck rest) (ap (first_meeting base old truck) (sym out) ∙ on.failed) in
+    let still = fails base postings seen truck s (is_changed base postings seen s) refl shut then.0 in
+    let pass : first_meeting base new truck (s ∷ rest) ≡ first_meeting base new truck rest = ap (λ b. cond b (Some s) (first_meeting base new truck rest)) still in
+    let count : changed_on base postings seen (leaving_from base.roads nodes start) ≡ cond (is_changed base postings seen s) 1 0 + changed_on base postings seen rest =
+    ap (changed_on base postings seen) out ∙ counted base postings seen s rest in
+    record {
+      within = omega (arith, there);
+      left = sym pass ∙ (ap (first_meeting base new truck) (sym out) ∙ on.left);
+      failed = then.1;
+      steps = omega (arith, on.steps, more, count);
+    }
+
+-- to test nothing is within what any call may cost
+within_none : (base : BaseLists) (postings : List Change) (seen : ℕ) (w : What) (n : ℕ) → IsWithin base postings seen w n n
+within_none base postings seen what.NotNeeded n = refl
+within_none base postings seen (what.Route route) n = omega arith
+within_none base postings seen (what.Fails s) n = omega arith
+within_none base postings seen (what.Cut nodes) n = omega arith
+
+pub cost_none : (base : BaseLists) (m : Machine) (c : Call) (n : ℕ) → IsCost base m c n n
+cost_none base m call.Snapshot n = refl
+cost_none base m (call.Submit a p) n = within_none base m.postings p.seen p.what n
+cost_none base m (call.Held a) n = tt
+cost_none base m (call.Post change) n = omega arith
+cost_none base m (call.Day day) n = refl
+cost_none base m (call.Surrender number) n = refl
+cost_none base m (call.Show number) n = refl
