@@ -7,16 +7,20 @@ pub adds_word : (old middle new text : List ℕ) → middle ≡ old ++ (32 ∷ [
 unfolding spaced
 adds_word old middle new text h k ws = rw (k, h) (simp append_assoc)
 
--- a word, and another one that is added as a space and its text
-pub adds_named_word : (old a b new first text : List ℕ) → Adds old a (λ ws. first ∷ ws) → b ≡ a ++ (32 ∷ []) → new ≡ b ++ text → Adds old new (λ ws. first ∷ text ∷ ws)
-adds_named_word old a b new first text h i j ws = h (text ∷ ws) ∙ adds_word a b new text i j ws
+-- a text that is added behind a space is a word
+pub adds_spaced : (old new text : List ℕ) → new ≡ old ++ (32 ∷ text) → Adds old new (λ ws. text ∷ ws)
+unfolding spaced
+adds_spaced old new text h ws = rw h (simp append_assoc)
 
--- a text of two parts with a byte between them
-pub pair_adds : (old a b new one two : List ℕ) (sep : ℕ) → a ≡ old ++ one → b ≡ a ++ (sep ∷ []) → new ≡ b ++ two → new ≡ old ++ (one ++ (sep ∷ two))
-pair_adds old a b new one two sep h i j = rw (j, i, h) (simp append_assoc)
+-- a word, and another one that is added behind a space
+pub adds_named_word : (old a new first text : List ℕ) → Adds old a (λ ws. first ∷ ws) → new ≡ a ++ (32 ∷ text) → Adds old new (λ ws. first ∷ text ∷ ws)
+adds_named_word old a new first text h i ws = h (text ∷ ws) ∙ adds_spaced a new text i ws
 
-pub list_adds : (text : ℕ → List ℕ) (old a new numbers rest : List ℕ) (first : ℕ) → numbers ≡ first ∷ rest → a ≡ old ++ text first → new ≡ a ++ flat_map (λ n. 44 ∷ text n) rest → new ≡ old ++ list_text text numbers
-unfolding joined
+-- a text of two parts with a byte between them, behind a space
+pub pair_adds : (old a new one two : List ℕ) (sep : ℕ) → a ≡ old ++ (32 ∷ one) → new ≡ a ++ (sep ∷ two) → new ≡ old ++ (32 ∷ one ++ (sep ∷ two))
+pair_adds old a new one two sep h i = rw (i, h) (simp append_assoc)
+
+pub list_adds : (text : ℕ → List ℕ) (old a new numbers rest : List ℕ) (first : ℕ) → numbers ≡ first ∷ rest → a ≡ old ++ (32 ∷ text first) → new ≡ a ++ flat_map (λ n. 44 ∷ text n) rest → new ≡ old ++ (32 ∷ list_text text numbers)
 list_adds text old a new numbers rest first is one more = rw (more, one, is) (simp append_assoc)
 
 append_nil : (xs : List ℕ) → xs ++ [] ≡ xs

@@ -13,6 +13,3 @@ mod replies;
 mod words;
 
 pub use printing::print;
-
-#[cfg(test)]
-mod tests;

@@ -65,7 +65,8 @@ pub fn reply(out: &mut Vec<u8>, reply: &Reply) -> Result<(), AllocError>
 
 // That a permit is issued.
 fn issued(out: &mut Vec<u8>, number: u32, version: u32, route: &[u32]) -> Result<(), AllocError>
-    ensures { OnOk result (Adds out.old.items out.new.items (reply_words (Reply.Issued number version route.now))) }
+    ensures { OnOk result (Adds out.old.items out.new.items
+        (reply_words (Reply.Issued number version route.now))) }
 {
     named(out, "issued", number)?;
     named(out, "at", version)?;
@@ -93,7 +94,8 @@ fn outdated(out: &mut Vec<u8>, version: u32, why: &Cause) -> Result<(), AllocErr
 
 // That a change is posted.
 fn posted(out: &mut Vec<u8>, version: u32, recalled: &[u32]) -> Result<(), AllocError>
-    ensures { OnOk result (Adds out.old.items out.new.items (reply_words (Reply.Posted version recalled.now))) }
+    ensures { OnOk result (Adds out.old.items out.new.items
+        (reply_words (Reply.Posted version recalled.now))) }
 {
     named(out, "posted", version)?;
     named_numbers(out, "recalled", recalled)?;

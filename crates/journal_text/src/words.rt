@@ -1,6 +1,6 @@
 // Words that are added to a text, each behind a space.
 
-ghost use Rattle.std.specs.Prelude.{◌≡◌, ◌+◌, ◌∷◌, ◌++◌, OnOk, codes, flat_map};
+ghost use Rattle.std.specs.Prelude.{◌≡◌, ◌<◌, ◌+◌, ◌∷◌, ◌++◌, ◌%◌, OnOk, codes, flat_map};
 ghost use Rattle.std.specs.Fmt.{decimal};
 ghost use Rattle.influence_line.specs.Fractions.{ratio_text};
 ghost use Rattle.journal_text.specs.Words.{Adds, group, index, list_text, numbers_words, places_words};
@@ -11,6 +11,7 @@ use permit_days::Day;
 use std::alloc::AllocError;
 
 /// A word.
+#[inline(always)]
 #[tactic(auto, using(crate::proofs::Pieces::adds_word))]
 pub fn word(out: &mut Vec<u8>, text: &str) -> Result<(), AllocError>
     ensures { OnOk result (Adds out.old.items out.new.items (λ ws. text.now ∷ ws)) }
@@ -47,22 +48,27 @@ pub fn index_digits(out: &mut Vec<u8>, i: u32) -> Result<(), AllocError>
 }
 
 /// A number.
+#[inline(always)]
+#[tactic(auto, using(crate::proofs::Pieces::adds_spaced))]
 pub fn number(out: &mut Vec<u8>, n: u32) -> Result<(), AllocError>
     ensures { OnOk result (Adds out.old.items out.new.items (λ ws. decimal n ∷ ws)) }
 {
-    let mut buffer = Buffer::new();
-    word(out, buffer.format(n))
+    digits_behind(out, b' ', u64::from(n))?;
+    Ok(())
 }
 
 /// An index, counted from 1.
+#[inline(always)]
+#[tactic(auto, using(crate::proofs::Pieces::adds_spaced))]
 pub fn place(out: &mut Vec<u8>, i: u32) -> Result<(), AllocError>
     ensures { OnOk result (Adds out.old.items out.new.items (λ ws. index i ∷ ws)) }
 {
-    let mut buffer = Buffer::new();
-    word(out, buffer.format(u64::from(i) + 1))
+    index_behind(out, b' ', i)?;
+    Ok(())
 }
 
 /// A word and a number.
+#[inline(always)]
 pub fn named(out: &mut Vec<u8>, text: &str, n: u32) -> Result<(), AllocError>
     ensures { OnOk result (Adds out.old.items out.new.items (λ ws. text.now ∷ decimal n ∷ ws)) }
 {
@@ -71,6 +77,7 @@ pub fn named(out: &mut Vec<u8>, text: &str, n: u32) -> Result<(), AllocError>
 }
 
 /// A word and a day.
+#[inline(always)]
 pub fn named_day(out: &mut Vec<u8>, text: &str, kept: Day) -> Result<(), AllocError>
     ensures { OnOk result (Adds out.old.items out.new.items (λ ws. text.now ∷ kept ∷ ws)) }
 {
@@ -79,6 +86,7 @@ pub fn named_day(out: &mut Vec<u8>, text: &str, kept: Day) -> Result<(), AllocEr
 }
 
 /// A word and an index.
+#[inline(always)]
 pub fn named_place(out: &mut Vec<u8>, text: &str, i: u32) -> Result<(), AllocError>
     ensures { OnOk result (Adds out.old.items out.new.items (λ ws. text.now ∷ index i ∷ ws)) }
 {
@@ -91,7 +99,6 @@ pub fn named_fraction(out: &mut Vec<u8>, text: &str, f: Frac) -> Result<(), Allo
     ensures { OnOk result (Adds out.old.items out.new.items (λ ws. text.now ∷ ratio_text f ∷ ws)) }
 {
     word(out, text)?;
-    out.push(b' ')?;
     fraction(out, f)?;
     Ok(())
 }
@@ -101,7 +108,6 @@ pub fn named_group(out: &mut Vec<u8>, text: &str, i: u32, j: u32) -> Result<(), 
     ensures { OnOk result (Adds out.old.items out.new.items (λ ws. text.now ∷ group i j ∷ ws)) }
 {
     word(out, text)?;
-    out.push(b' ')?;
     axles(out, i, j)?;
     Ok(())
 }
@@ -111,7 +117,6 @@ pub fn named_numbers(out: &mut Vec<u8>, text: &str, numbers: &[u32]) -> Result<(
     ensures { OnOk result (Adds out.old.items out.new.items (numbers_words text.now numbers.now)) }
 {
     word(out, text)?;
-    out.push(b' ')?;
     number_list(out, numbers)?;
     Ok(())
 }
@@ -121,49 +126,37 @@ pub fn named_places(out: &mut Vec<u8>, text: &str, places: &[u32]) -> Result<(),
     ensures { OnOk result (Adds out.old.items out.new.items (places_words text.now places.now)) }
 {
     word(out, text)?;
-    out.push(b' ')?;
     place_list(out, places)?;
     Ok(())
 }
 
-// The text of a fraction.
+// The text of a fraction, behind a space.
 fn fraction(out: &mut Vec<u8>, f: Frac) -> Result<(), AllocError>
-    ensures { OnOk result (out.new.items ≡ out.old.items ++ ratio_text f) }
+    ensures { OnOk result (out.new.items ≡ out.old.items ++ (32 ∷ ratio_text f)) }
 {
-    wide_digits(out, f.num())?;
-    out.push(b'/')?;
-    wide_digits(out, f.den())?;
+    wide_digits_behind(out, b' ', f.num())?;
+    wide_digits_behind(out, b'/', f.den())?;
     Ok(())
 }
 
-// The text of a group of axles.
+// The text of a group of axles, behind a space.
 fn axles(out: &mut Vec<u8>, i: u32, j: u32) -> Result<(), AllocError>
-    ensures { OnOk result (out.new.items ≡ out.old.items ++ group i j) }
+    ensures { OnOk result (out.new.items ≡ out.old.items ++ (32 ∷ group i j)) }
 {
-    index_digits(out, i)?;
-    out.push(b'-')?;
-    index_digits(out, j)?;
+    index_behind(out, b' ', i)?;
+    index_behind(out, b'-', j)?;
     Ok(())
 }
 
-// The digits of a wide number.
-fn wide_digits(out: &mut Vec<u8>, n: u128) -> Result<(), AllocError>
-    ensures { OnOk result (out.new.items ≡ out.old.items ++ decimal n) }
-{
-    let mut buffer = Buffer::new();
-    out.extend_from_slice(buffer.format(n).as_bytes())?;
-    Ok(())
-}
-
-// The numbers of a list.
+// The numbers of a list, behind a space.
 fn number_list(out: &mut Vec<u8>, numbers: &[u32]) -> Result<(), AllocError>
-    ensures { OnOk result (out.new.items ≡ out.old.items ++ list_text decimal numbers.now) }
+    ensures { OnOk result (out.new.items ≡ out.old.items ++ (32 ∷ list_text decimal numbers.now)) }
 {
     let Some((first, rest)) = numbers.split_first() else {
-        out.push(b'-')?;
+        out.extend_from_slice(b" -")?;
         return Ok(());
     };
-    digits(out, u64::from(*first))?;
+    digits_behind(out, b' ', u64::from(*first))?;
     more_numbers(out, rest)?;
     Ok(())
 }
@@ -173,21 +166,20 @@ fn more_numbers(out: &mut Vec<u8>, numbers: &[u32]) -> Result<(), AllocError>
     ensures { OnOk result (out.new.items ≡ out.old.items ++ flat_map (λ n. 44 ∷ decimal n) numbers.now) }
 {
     'numbers: for n in numbers {
-        out.push(b',')?;
-        digits(out, u64::from(*n))?;
+        digits_behind(out, b',', u64::from(*n))?;
     }
     Ok(())
 }
 
-// The indices of a list, counted from 1.
+// The indices of a list, counted from 1, behind a space.
 fn place_list(out: &mut Vec<u8>, places: &[u32]) -> Result<(), AllocError>
-    ensures { OnOk result (out.new.items ≡ out.old.items ++ list_text index places.now) }
+    ensures { OnOk result (out.new.items ≡ out.old.items ++ (32 ∷ list_text index places.now)) }
 {
     let Some((first, rest)) = places.split_first() else {
-        out.push(b'-')?;
+        out.extend_from_slice(b" -")?;
         return Ok(());
     };
-    index_digits(out, *first)?;
+    index_behind(out, b' ', *first)?;
     more_places(out, rest)?;
     Ok(())
 }
@@ -197,8 +189,77 @@ fn more_places(out: &mut Vec<u8>, places: &[u32]) -> Result<(), AllocError>
     ensures { OnOk result (out.new.items ≡ out.old.items ++ flat_map (λ i. 44 ∷ index i) places.now) }
 {
     'places: for i in places {
-        out.push(b',')?;
-        index_digits(out, *i)?;
+        index_behind(out, b',', *i)?;
     }
+    Ok(())
+}
+
+// A byte, and the digits of an index, counted from 1.
+#[inline(always)]
+fn index_behind(out: &mut Vec<u8>, before: u8, i: u32) -> Result<(), AllocError>
+    ensures { OnOk result (out.new.items ≡ out.old.items ++ (before ∷ index i)) }
+{
+    digits_behind(out, before, u64::from(i) + 1)
+}
+
+// A byte, and the digits of a number.
+fn digits_behind(out: &mut Vec<u8>, before: u8, n: u64) -> Result<(), AllocError>
+    ensures { OnOk result (out.new.items ≡ out.old.items ++ (before ∷ decimal n)) }
+{
+    if n < 10_000 {
+        return four_digits_behind(out, before, n as u32);
+    }
+    out.push(before)?;
+    digits(out, n)?;
+    Ok(())
+}
+
+// The same of at most four digits. They go out in one piece, whose length the compiler knows.
+#[inline(always)]
+#[tactic(auto, using(crate::proofs::Digits::one, crate::proofs::Digits::two, crate::proofs::Digits::three, crate::proofs::Digits::four))]
+fn four_digits_behind(out: &mut Vec<u8>, before: u8, n: u32) -> Result<(), AllocError>
+    requires { n < 10000 }
+    ensures { OnOk result (out.new.items ≡ out.old.items ++ (before ∷ decimal n)) }
+{
+    let tens = n / 10;
+    let hundreds = tens / 10;
+    if n < 10 {
+        out.extend_from_slice(&[before, last_digit(n)])?;
+    } else if n < 100 {
+        out.extend_from_slice(&[before, last_digit(tens), last_digit(n)])?;
+    } else if n < 1000 {
+        out.extend_from_slice(&[
+            before,
+            last_digit(hundreds),
+            last_digit(tens),
+            last_digit(n),
+        ])?;
+    } else {
+        out.extend_from_slice(&[
+            before,
+            last_digit(hundreds / 10),
+            last_digit(hundreds),
+            last_digit(tens),
+            last_digit(n),
+        ])?;
+    }
+    Ok(())
+}
+
+// The digit of the ones.
+#[inline(always)]
+fn last_digit(n: u32) -> u8
+    ensures { result ≡ 48 + n % 10 }
+{
+    b'0' + (n % 10) as u8
+}
+
+// A byte, and the digits of a wide number.
+fn wide_digits_behind(out: &mut Vec<u8>, before: u8, n: u128) -> Result<(), AllocError>
+    ensures { OnOk result (out.new.items ≡ out.old.items ++ (before ∷ decimal n)) }
+{
+    let mut buffer = Buffer::new();
+    out.push(before)?;
+    out.extend_from_slice(buffer.format(n).as_bytes())?;
     Ok(())
 }

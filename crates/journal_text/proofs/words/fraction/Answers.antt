@@ -1,9 +1,9 @@
-use Rattle.std.proofs.Common.{◌++◌, ◌∙◌, ap}
+use Rattle.std.proofs.Common.{◌∷◌, ◌++◌, ◌∙◌, ap}
 use Rattle.std.specs.Fmt.{decimal}
 use Rattle.journal_text.proofs.Pieces.{pair_adds}
 use Rattle.journal_text.proofs.words.fraction.Goals as goal
 
 pub returns : goal.returns
 returns c =
-    pair_adds c.args.out.now.items c.wide_digits.new.out.items c.push.new.self.items c.wide_digits-2.new.out.items (decimal c.args.f.num) (decimal c.args.f.den) 47
-    (c.in_ok-wide_digits.ensures ∙ ap (λ n. c.args.out.now.items ++ decimal n) c.num.ensures) c.in_ok-push.ensures.items (c.in_ok-wide_digits-2.ensures ∙ ap (λ n. c.push.new.self.items ++ decimal n) c.den.ensures.value)
+    pair_adds c.args.out.now.items c.wide_digits_behind.new.out.items c.wide_digits_behind-2.new.out.items (decimal c.args.f.num) (decimal c.args.f.den) 47
+    (c.in_ok-wide_digits_behind.ensures ∙ ap (λ n. c.args.out.now.items ++ (32 ∷ decimal n)) c.num.ensures) (c.in_ok-wide_digits_behind-2.ensures ∙ ap (λ n. c.wide_digits_behind.new.out.items ++ (47 ∷ decimal n)) c.den.ensures.value)

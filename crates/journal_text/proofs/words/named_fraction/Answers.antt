@@ -4,4 +4,4 @@ use Rattle.journal_text.proofs.words.named_fraction.Goals as goal
 
 pub returns : goal.returns
 returns c =
-    adds_named_word c.args.out.now.items c.word.new.out.items c.push.new.self.items c.fraction.new.out.items c.args.text.now (ratio_text c.args.f) c.in_ok-word.ensures c.in_ok-push.ensures.items c.in_ok-fraction.ensures
+    adds_named_word c.args.out.now.items c.word.new.out.items c.fraction.new.out.items c.args.text.now (ratio_text c.args.f) c.in_ok-word.ensures c.in_ok-fraction.ensures

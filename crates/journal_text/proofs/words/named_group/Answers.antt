@@ -4,4 +4,4 @@ use Rattle.journal_text.proofs.words.named_group.Goals as goal
 
 pub returns : goal.returns
 returns c =
-    adds_named_word c.args.out.now.items c.word.new.out.items c.push.new.self.items c.axles.new.out.items c.args.text.now (group c.args.i c.args.j) c.in_ok-word.ensures c.in_ok-push.ensures.items c.in_ok-axles.ensures
+    adds_named_word c.args.out.now.items c.word.new.out.items c.axles.new.out.items c.args.text.now (group c.args.i c.args.j) c.in_ok-word.ensures c.in_ok-axles.ensures

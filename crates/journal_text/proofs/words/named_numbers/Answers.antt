@@ -5,4 +5,4 @@ use Rattle.journal_text.proofs.words.named_numbers.Goals as goal
 
 pub returns : goal.returns
 returns c =
-    adds_named_word c.args.out.now.items c.word.new.out.items c.push.new.self.items c.number_list.new.out.items c.args.text.now (list_text decimal c.args.numbers.now) c.in_ok-word.ensures c.in_ok-push.ensures.items c.in_ok-number_list.ensures
+    adds_named_word c.args.out.now.items c.word.new.out.items c.number_list.new.out.items c.args.text.now (list_text decimal c.args.numbers.now) c.in_ok-word.ensures c.in_ok-number_list.ensures
