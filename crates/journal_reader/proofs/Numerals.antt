@@ -1,14 +1,17 @@
 -- The number that a word spells.
-use Rattle.std.proofs.Common.{◌≡◌, ◌∙◌, ◌<◌, ◌≤◌, ◌+◌, ◌*◌, ◌-◌, ◌^◌, ◌∷◌, [], ℕ, zero, suc, List, Some, None, Bool, true, false, cond, ltb, refl, ap, sym, subst, arith, length, get_or, take, rules}
+use Rattle.std.proofs.Common.{◌≡◌, ◌≢◌, ◌∙◌, ◌<◌, ◌≤◌, ◌+◌, ◌*◌, ◌-◌, ◌^◌, ◌∷◌, [], ℕ, zero, suc, List, Some, None, Bool, true, false, cond, ltb, refl, ap, sym, subst, arith, length, get_or, take, drop, rules, lit<, eqb, inl, inr, ◌⊎◌, length-drop}
 use Rattle.std.specs.Prelude.{◌&&◌, min}
 use Rattle.std.specs.Fmt.{decimal}
 use Rattle.std.specs.Str.{bytes_eq}
 use Rattle.std.specs.Str.Parse.{AllDigits, digits_value}
-use Rattle.std.proofs.lemmas.Fmt.{decimal_is_IsNumeral_wide}
-use Rattle.std.proofs.lemmas.Str.Parse.{IsNumeralModel, numerals_by_fold, tells_digits}
+use Rattle.std.proofs.lemmas.Fmt.{decimal-digits_value, decimal_is_IsNumeral_wide}
+use Rattle.std.proofs.lemmas.Str.Parse.{IsNumeralModel, digit_at, digits_value_short, numerals_by_fold, tells_digits}
+use Rattle.std.specs.List.{slice_split}
+use Rattle.std.proofs.lemmas.List.{get_or-drop, get_or-take, length-take}
 use Rattle.std.proofs.lemmas.Slice.Eq.{bytes_eq-Decides}
 use Rattle.std.proofs.lemmas.Bool.Decides.{nat_tests}
-use Rattle.journal_reader.specs.Words.{number_of, value_from}
+use Rattle.journal_reader.specs.Words.{number_of, parts_left, value_from}
+use Rattle.journal_reader.proofs.Pieces.{first_part_is}
 
 own : IsNumeralModel (AllDigits 10) (value_from 0)
 own = numerals_by_fold _ tells_digits value_from (search rules)
@@ -60,3 +63,38 @@ number_is most word value b small is test = (λ yes. sym (number_yes most word v
   where
     differs : {x : Bool} → x ≡ false → x ≡ true → ⊥
     differs p q = cc
+
+-- digits with no zero in front of others spell their number
+pub digits_spell : (word : List ℕ) (n : ℕ) → AllDigits 10 word → 0 < length word → (get_or word 0 0 ≡ 48 → length word ≡ 1) → n ≡ value_from 0 word → n ≤ 4294967295 → (Some n ≡ number_of (2 ^ 32) word) × (word ≡ decimal n)
+digits_spell word n all some alone is small =
+    let same : decimal n ≡ word = ap decimal is ∙ decimal-digits_value own word all some alone (omega arith) in
+    (sym (number_yes 4294967295 word n (lit< tt) small same), sym same)
+
+-- one digit more
+pub one_digit_more : (xs : List ℕ) (i : ℕ) → i < length xs → AllDigits 10 (take i xs) → 48 ≤ get_or xs i 0 → get_or xs i 0 ≤ 57 → AllDigits 10 (take (i + 1) xs)
+one_digit_more xs i h all low high = let e : i + 1 ≡ suc i = omega arith in subst (λ k. AllDigits 10 (take k xs)) (sym e) (by xs i h all low high)
+  where
+    by : (xs : List ℕ) (i : ℕ) → i < length xs → AllDigits 10 (take i xs) → 48 ≤ get_or xs i 0 → get_or xs i 0 ≤ 57 → AllDigits 10 (take (suc i) xs)
+    by [] i h all low high = absurd (omega arith)
+    by (x ∷ xs) zero h all low high = tells_digits.more x [] (low, high) tells_digits.empty
+    by (x ∷ xs) (suc i) h (first, all) low high = (first, by xs i (omega arith) all low high)
+
+-- nine digits are a number of nine digits
+pub nine_digits : (xs : List ℕ) (i n : ℕ) → i ≤ 9 → AllDigits 10 (take i xs) → n ≡ value_from 0 (take i xs) → n < 10 ^ 9
+nine_digits xs i n few all is = let short : length (take i xs) ≤ 9 = simp length-take (omega arith) in rw is (digits_value_short own (take i xs) 9 all short)
+
+-- digits up to a separator, which is none, or to the end are a part
+pub digits_are_part : (text word rest : List ℕ) (sep at : ℕ) → sep < 48 → at ≤ length text → word ≡ take at text → rest ≡ drop at text → AllDigits 10 (take at text) → (length rest ≡ 0) ⊎ (get_or rest 0 0 ≡ sep)
+    → slice_split (λ x. eqb x sep) text ≡ word ∷ parts_left sep rest
+digits_are_part text word rest sep at low within is_word is_rest all ends = rw (is_word, is_rest) (first_part_is text sep at within none (end (rw is_rest at ends)))
+  where
+    none : (k : ℕ) → k < at → get_or text k 0 ≢ sep
+    none k before e =
+        let long : k < length (take at text) = simp length-take (omega arith) in
+        let digit = digit_at (take at text) k all long in
+        let same = get_or-take at text k 0 before in
+        omega (arith, digit, same)
+
+    end : (length (drop at text) ≡ 0) ⊎ (get_or (drop at text) 0 0 ≡ sep) → (at ≡ length text) ⊎ (get_or text at 0 ≡ sep)
+    end (inl done) = let n = length-drop at text in inl (omega (arith, n))
+    end (inr next) = let e : at + 0 ≡ at = omega arith in inr (sym (ap (λ i. get_or text i 0) e) ∙ (sym (get_or-drop at text 0 0) ∙ next))

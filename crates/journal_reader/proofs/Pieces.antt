@@ -1,11 +1,15 @@
 -- The parts of a text around a separator.
-use Rattle.std.proofs.Common.{◌≡◌, ◌≢◌, ◌∙◌, ◌<◌, ◌≤◌, ◌+◌, ◌∷◌, ◌++◌, [], ℕ, zero, suc, List, Bool, true, false, cond, eqb, refl, ap, sym, arith, length, get_or, take, drop, inl, inr, ◌⊎◌}
+use Rattle.std.proofs.Common.{◌≡◌, ◌≢◌, ◌∙◌, ◌<◌, ◌≤◌, ◌+◌, ◌-◌, ◌∷◌, ◌++◌, [], ℕ, zero, suc, List, Bool, true, false, cond, eqb, refl, ap, sym, arith, length, get_or, take, drop, inl, inr, ◌⊎◌, Some}
 use Rattle.std.specs.List.{slice_split, onto_first}
-use Rattle.std.proofs.lemmas.Bool.{eqb-true}
+use Rattle.std.proofs.lemmas.Bool.{cases_lt, eqb-true}
 use Rattle.std.proofs.lemmas.List.Splits.{slice_split-cons_yes, slice_split-cons_no}
 use Rattle.std.proofs.lemmas.Bool.Decides.{nat_tests}
+use Rattle.std.specs.Str.{bytes_eq}
+use Rattle.std.proofs.lemmas.List.{get_or-drop, get_or-take}
+use Rattle.std.proofs.lemmas.Slice.Eq.{bytes_eq-Decides}
+use Rattle.journal_text.specs.Words.{Words}
 use Rattle.journal_text.specs.Journals.{ended}
-use Rattle.journal_reader.specs.Words.{is_empty, parts_left}
+use Rattle.journal_reader.specs.Words.{after_word, is_empty, left, parts_left}
 use Rattle.journal_reader.specs.Journals.{IsLine}
 
 eqb_no : (a b : ℕ) → a ≢ b → eqb a b ≡ false
@@ -17,6 +21,16 @@ eqb_no a b h = by (eqb a b) refl
 
 eqb_same : (a : ℕ) → eqb a a ≡ true
 eqb_same a = grind (arith, nat_tests)
+
+-- the first separator of what follows some bytes that are none
+pub none_before : (bytes : List ℕ) (sep near far : ℕ) → ((k : ℕ) → k < near → get_or bytes k 0 ≢ sep) → ((k : ℕ) → k < far → get_or (drop near bytes) k 0 ≢ sep) → (k : ℕ) → k < near + far → get_or bytes k 0 ≢ sep
+none_before bytes sep near far before behind k low e = by (cases_lt k near)
+  where
+    by : (k < near) ⊎ (near ≤ k) → ⊥
+    by (inl early) = before k early e
+    by (inr past) =
+        let at : near + (k - near) ≡ k = omega arith in
+        behind (k - near) (omega arith) (get_or-drop near bytes (k - near) 0 ∙ (ap (λ i. get_or bytes i 0) at ∙ e))
 
 -- the part before the first separator
 pub first_part_is : (bytes : List ℕ) (sep i : ℕ) → i ≤ length bytes → ((k : ℕ) → k < i → get_or bytes k 0 ≢ sep) → (i ≡ length bytes) ⊎ (get_or bytes i 0 ≡ sep)
@@ -61,3 +75,21 @@ line_at (b ∷ text) (suc i) low none (inr at) =
     let next = line_at text i (omega (arith, low)) (λ k less. none (suc k) (omega (arith, less))) (inr at) in
     let e : suc (i + 1) ≡ suc i + 1 = omega arith in
     (ap (λ t. b ∷ t) next.0 ∙ ap (λ (n : ℕ). ended (take (suc i) (b ∷ text)) ++ drop n (b ∷ text)) e, (none 0 (omega arith), next.1))
+
+-- a word in front of a space or of the end
+pub word_behind : (rest words text more : List ℕ) (b : ℕ) → rest ≡ b ∷ words → bytes_eq (take (length text) words) text ≡ true → more ≡ drop (length text) words → length more + length text ≡ length words → ((k : ℕ) → k < length text → get_or text k 0 ≢ 32) → (length more ≡ 0) ⊎ (get_or more 0 0 ≡ 32) → left rest ≡ text ∷ left more
+word_behind rest words text more b is same behind long none ends =
+    let front : take (length text) words ≡ text = (bytes_eq-Decides (take (length text) words) text).0 same in
+    rw (is, behind) (first_part_is words 32 (length text) (omega (arith, long)) (λ k low e. none k low (sym (ap (λ (t : List ℕ). get_or t k 0) front) ∙ (get_or-take (length text) words k 0 low ∙ e))) (end ends)
+    ∙ ap (λ (t : List ℕ). t ∷ left (drop (length text) words)) front)
+  where
+    at_end : length text + 0 ≡ length text
+    at_end = omega arith
+
+    end : (length more ≡ 0) ⊎ (get_or more 0 0 ≡ 32) → (length text ≡ length words) ⊎ (get_or words (length text) 0 ≡ 32)
+    end (inl done) = inl (omega (arith, long, done))
+    end (inr next) = inr (sym (ap (λ i. get_or words i 0) at_end) ∙ (sym (get_or-drop (length text) words 0 0) ∙ (sym (ap (λ (t : List ℕ). get_or t 0 0) behind) ∙ next)))
+
+-- what follows a word that stands first
+pub after_same : (text : List ℕ) (words ws : Words) → words ≡ text ∷ ws → Some ws ≡ after_word text words
+after_same text words ws is = rw (is, (bytes_eq-Decides text text).1 refl) refl

@@ -10,8 +10,8 @@ ghost use Rattle.journal_reader.specs.Fits.{FitsEntry};
 ghost use Rattle.journal_reader.specs.Readers.{IsWordsOf, call_at, entry_of, reply_at};
 
 use crate::calls::call;
-use crate::numbers::place_in;
-use crate::parts::{first_part, is_done};
+use crate::numbers::first_place;
+use crate::parts::is_done;
 use crate::replies::reply;
 use crate::words::after;
 use itoa::Buffer;
@@ -34,8 +34,8 @@ fn entry_in_words(alloc: Global, line: &[u8]) -> Result<Option<Entry>, AllocErro
     ensures exact { IfOk result (λ found. found ≡ entry_of line.now) }
     ensures sound { IfOk result (IsWordsOf (parts 32 line.now)) }
 {
-    let (caller, rest) = first_part(line, b' ');
-    let Some(caller) = place_in(caller) else {
+    let (_, caller, rest) = first_place(line, b' ');
+    let Some(caller) = caller else {
         return Ok(None);
     };
     let Some((call, rest)) = call(alloc, rest)? else {

@@ -26,4 +26,6 @@ pub use reading::read;
 pub use refusal::JournalRefusal;
 
 #[cfg(test)]
+mod printed;
+#[cfg(test)]
 mod tests;

@@ -5,6 +5,8 @@ ghost use Rattle.journal_text.specs.Journals.{ended};
 ghost use Rattle.journal_reader.specs.Words.{is_empty, parts_seen, parts, parts_left, word_at};
 ghost use Rattle.journal_reader.specs.Journals.{IsLine};
 
+use memchr::memchr;
+
 /// A line without its line feed, and what follows it.
 #[tactic(auto, using(crate::proofs::Pieces::line_at, crate::proofs::Pieces::is_line))]
 pub fn line(text: &[u8]) -> Option<(&[u8], &[u8])>
@@ -12,7 +14,7 @@ pub fn line(text: &[u8]) -> Option<(&[u8], &[u8])>
     ensures shorter { IfSome result (λ x. length x.1.now < length text.now) }
     ensures unended { IsNone result → IsLine text.now }
 {
-    let at = find(text, b'\n');
+    let at = find_far(text, b'\n');
     if at == text.len() {
         return None;
     }
@@ -49,16 +51,29 @@ pub fn is_done(rest: &[u8], sep: u8) -> bool
     if rest.is_empty() { true } else { false }
 }
 
-// The place of the first separator, or the end.
+// The place of the first separator, or the end. Most words are short, and end before a search of many bytes at once pays.
 fn find(bytes: &[u8], sep: u8) -> usize
     ensures within { result ≤ length bytes.now }
     ensures none { (k : ℕ) → k < result → get_or bytes.now k 0 ≢ sep }
     ensures end { (result ≡ length bytes.now) ⊎ (get_or bytes.now result 0 ≡ sep) }
 {
-    for at in 0..bytes.len() {
+    let near = bytes.len().min(16);
+    for at in 0..near {
         if bytes[at] == sep {
             return at;
         }
     }
-    bytes.len()
+    near + find_far(&bytes[near..], sep)
+}
+
+// The same, where the separator is likely to be far.
+fn find_far(bytes: &[u8], sep: u8) -> usize
+    ensures within { result ≤ length bytes.now }
+    ensures none { (k : ℕ) → k < result → get_or bytes.now k 0 ≢ sep }
+    ensures end { (result ≡ length bytes.now) ⊎ (get_or bytes.now result 0 ≡ sep) }
+{
+    match memchr(sep, bytes) {
+        Some(at) => at,
+        None => bytes.len(),
+    }
 }

@@ -1,6 +1,6 @@
 // Words that stand next in what is left of a line, with what is left behind them.
 
-ghost use Rattle.std.specs.Prelude.{◌≡◌, ◌<◌, ◌^◌, ◌∷◌, IfSome, IfOk, codes, ℕ, List, length, option_map};
+ghost use Rattle.std.specs.Prelude.{◌≡◌, ◌≢◌, ◌<◌, ◌^◌, ◌∷◌, IfSome, IfOk, IsTrue, codes, ℕ, List, get_or, length, option_map};
 ghost use Rattle.std.specs.Fmt.{decimal};
 ghost use Rattle.influence_line.specs.Fractions.{ratio_text};
 ghost use Rattle.journal_text.specs.Words.{index, list_text, numbers_words, places_words};
@@ -8,7 +8,7 @@ ghost use Rattle.journal_reader.specs.Words.{Spells, parts_seen, after_word, day
 ghost use Rattle.journal_reader.specs.Fits.{FitsDay, FitsIndex, FitsIndices, FitsNumber, FitsNumbers, FitsRatio};
 ghost use Rattle.journal_reader.specs.Readers.{list_words, fraction_at, list_at, named_number, named_place, numbers_at, places_at};
 
-use crate::numbers::{day_in, fraction_in, indices_in, is, number_in, numbers_in, place_in};
+use crate::numbers::{day_in, fraction_in, indices_in, is, next_number, next_place, numbers_in};
 use crate::parts::part;
 use influence_line::Frac;
 use permit_days::Day;
@@ -23,13 +23,17 @@ pub fn word(rest: &[u8]) -> Option<(&[u8], &[u8])>
     part(rest, b' ')
 }
 
-/// What follows this word.
+/// What follows this word. A text that begins with it and a space, or with it alone, needs no search for the word's end.
+#[inline(always)]
+#[tactic(auto, using(crate::proofs::Pieces::after_same))]
 pub fn after<'a>(rest: &'a [u8], text: &str) -> Option<&'a [u8]>
     ensures exact { option_map (λ x. left x.now) result ≡ after_word text.now (left rest.now) }
     ensures sound { IfSome result (λ x. left rest.now ≡ text.now ∷ left x.now) }
 {
-    let (word, rest) = word(rest)?;
-    if is(word, text) { Some(rest) } else { None }
+    if let Some(more) = behind(rest, text) {
+        return Some(more);
+    }
+    after_any(rest, text)
 }
 
 /// A number.
@@ -38,9 +42,8 @@ pub fn number(rest: &[u8]) -> Option<(u32, &[u8])>
     ensures exact { seen result ≡ number_at (left rest.now) }
     ensures sound { Spells (λ n ws. decimal n ∷ ws) FitsNumber (left rest.now) result }
 {
-    let (word, rest) = word(rest)?;
-    let n = number_in(word)?;
-    Some((n, rest))
+    let (_, n, rest) = next_number(rest, b' ')?;
+    Some((n?, rest))
 }
 
 /// An index.
@@ -49,9 +52,8 @@ pub fn place(rest: &[u8]) -> Option<(u32, &[u8])>
     ensures exact { seen result ≡ place_at (left rest.now) }
     ensures sound { Spells (λ i ws. index i ∷ ws) FitsIndex (left rest.now) result }
 {
-    let (word, rest) = word(rest)?;
-    let i = place_in(word)?;
-    Some((i, rest))
+    let (_, i, rest) = next_place(rest, b' ')?;
+    Some((i?, rest))
 }
 
 /// A day.
@@ -112,7 +114,7 @@ pub fn places(alloc: Global, rest: &[u8]) -> Result<Option<(Numbers, &[u8])>, Al
 }
 
 /// A word and a list of indices.
-#[tactic(auto, unfolding(crate::specs::Readers::places_at))]
+#[tactic(auto, unfolding(crate::specs::Readers::places_at, crate::specs::Readers::list_at))]
 pub fn named_places<'a>(
     alloc: Global,
     rest: &'a [u8],
@@ -124,13 +126,7 @@ pub fn named_places<'a>(
     let Some(rest) = after(rest, text) else {
         return Ok(None);
     };
-    let Some((text, rest)) = word(rest) else {
-        return Ok(None);
-    };
-    let Some(list) = indices_in(alloc, text)? else {
-        return Ok(None);
-    };
-    Ok(Some((list, rest)))
+    places(alloc, rest)
 }
 
 /// A word and a list of numbers.
@@ -153,4 +149,43 @@ pub fn named_numbers<'a>(
         return Ok(None);
     };
     Ok(Some((list, rest)))
+}
+
+// What is left behind this word, where its end is seen at once.
+#[inline(always)]
+#[tactic(auto, using(crate::proofs::Pieces::word_behind))]
+fn behind<'a>(rest: &'a [u8], text: &str) -> Option<&'a [u8]>
+    ensures { IfSome result (λ x. left rest.now ≡ text.now ∷ left x.now) }
+{
+    let (_, words) = rest.split_first()?;
+    let more = words.strip_prefix(text.as_bytes())?;
+    if is_word(text) && (more.is_empty() || more[0] == b' ') {
+        Some(more)
+    } else {
+        None
+    }
+}
+
+// Whether no space is in a text.
+#[inline(always)]
+fn is_word(text: &str) -> bool
+    ensures { IsTrue result → (k : ℕ) → k < length text.now → get_or text.now k 0 ≢ 32 }
+{
+    'bytes: for b in text.as_bytes() {
+        if *b == b' ' {
+            return false;
+        }
+    }
+    true
+}
+
+// What follows this word, which may also be none of one word.
+#[cold]
+#[inline(never)]
+fn after_any<'a>(rest: &'a [u8], text: &str) -> Option<&'a [u8]>
+    ensures exact { option_map (λ x. left x.now) result ≡ after_word text.now (left rest.now) }
+    ensures sound { IfSome result (λ x. left rest.now ≡ text.now ∷ left x.now) }
+{
+    let (word, rest) = word(rest)?;
+    if is(word, text) { Some(rest) } else { None }
 }
