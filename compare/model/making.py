@@ -1,36 +1,34 @@
-#!/usr/bin/env python3
-"""Write the day file that is made of a seed and a size, by a program of its own.
+"""The made day of a seed and a size, and what `trial` writes of it."""
+import re
 
-    tools/made_day.py SEED SIZE > day.csv
-
-SEED is 0 to 65535, SIZE is 1 to 40. It shares no code with the office, so the two texts can be compared byte by byte.
-"""
-import sys
+from .files import DayFile
+from .journal import serial
 
 
-def lines(seed, z):
+def lines(seed, size):
+    """The records of the made day, without the empty fields at their ends."""
     x = seed
 
-    def draw(m):
+    def draw(below):
         nonlocal x
         x = (75 * x + 74) % 65537
-        return x % m
+        return x % below
 
     yield "day,2026-01-01"
-    grid = [(r, c) for r in range(z + 1) for c in range(z + 1)]
+    grid = [(r, c) for r in range(size + 1) for c in range(size + 1)]
     for r, c in grid:
         yield f"node,n{r}-{c}"
     for r, c in grid:
-        if c < z:
+        if c < size:
             feet = 1000 + draw(4000)
             yield f"segment,e{r}-{c},n{r}-{c},n{r}-{c + 1},{feet}"
             yield f"segment,w{r}-{c},n{r}-{c + 1},n{r}-{c},{feet}"
-        if r < z:
+        if r < size:
             feet = 1000 + draw(4000)
             yield f"segment,s{r}-{c},n{r}-{c},n{r + 1}-{c},{feet}"
             yield f"segment,u{r}-{c},n{r + 1}-{c},n{r}-{c},{feet}"
-    for r in range(z + 1):
-        for c in range(z):
+    for r in range(size + 1):
+        for c in range(size):
             inches = 240 + 12 * draw(80)
             rating = 800 + draw(1500)
             yield f"span,b{r}-{c},e{r}-{c},{inches},{rating}"
@@ -42,15 +40,15 @@ def lines(seed, z):
         yield f"truck,t{t},c{t % 2},{height},{width},900,{' '.join(axles)}"
     for name in ("a1", "a2", "a3", "eng"):
         yield f"actor,{name}"
-    for _ in range(20 * z):
+    for _ in range(20 * size):
         if draw(4) == 0:
-            r = draw(z + 1)
-            c = draw(z)
+            r = draw(size + 1)
+            c = draw(size)
             yield f"post,eng,e{r}-{c},height,{150 + draw(60)}"
         else:
             actor = 1 + draw(3)
             truck = 1 + draw(4)
-            yield f"apply,a{actor},t{truck},n0-0,n{z}-{z},,2026-01-01,2026-12-31"
+            yield f"apply,a{actor},t{truck},n0-0,n{size}-{size},,2026-01-01,2026-12-31"
     yield "end"
 
 
@@ -58,7 +56,11 @@ def made_day(seed, size):
     return "".join(line + "," * (7 - line.count(",")) + "\n" for line in lines(seed, size))
 
 
-if __name__ == "__main__":
-    if len(sys.argv) != 3:
-        sys.exit(__doc__)
-    sys.stdout.write(made_day(int(sys.argv[1]), int(sys.argv[2])))
+def trial(seed, size):
+    """The summary of the made day, its commands carried out one after another."""
+    office, entries = serial(DayFile(made_day(seed, size).encode()))
+    replies = [entry.partition(" = ")[2] for entry in entries]
+    counts = {word: sum(bool(re.match(word + r"\b", reply)) for reply in replies)
+              for word in ("issued", "refused", "noroad", "notneeded")}
+    summary = {"entries": len(entries), **counts, "recalled": len(office.recalls), "version": office.roads.version}
+    return "".join("%s %d\n" % pair for pair in summary.items())

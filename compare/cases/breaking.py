@@ -1,0 +1,155 @@
+"""Ways to break a file. What comes of one may still be good; that is for the model to say."""
+
+BAD_NUMBERS = ("", "-1", "+1", " 1", "1 ", "1.0", "1e3", "0x10", "1,000", "1234567890", "0000000001", "000000001", "\u0661", "one")
+BAD_NAMES = ("", "a b", "ann!", "x" * 17, "\u00e4", "a.b", " a", "a\t", "Zz", "A\x00")
+BAD_AXLES = ("", "0", "0:", ":1", "0:1:2", "0:8000", "0:8000 ", " 0:8000 9:1", "0:8000  168:32000", "0:8000,168:1", "0:8000;168:1",
+             "0 :8000 168:32000", "-0:1 2:3", "0:8000\t168:1", "0:8000 168:1234567890", "00:08000 168:32000")
+BAD_DAYS = ("", "2026-3-2", "2026-03-2", "2026/03/02", "02.03.2026", "2026-03-02 ", " 2026-03-02", "20260302", "2026-02-29",
+            "2028-02-29", "1900-02-29", "2000-02-29", "2100-02-29", "0000-01-01", "0001-01-01", "9999-12-31", "2026-00-10",
+            "2026-13-01", "2026-04-31", "2026-12-00", "2026-12-32", "10000-01-01", "2026-03-0\u0662")
+BAD_WORDS = ("", "Height", "rating", "closed ", "weight", "height", "allowance", "axle")
+NUMBERS = (0, 1, 2, 64, 999, 1000, 6000, 6001, 9999, 10000, 100000, 100001, 2000000, 2000001, 10000000, 10000001, 999999999)
+TRAINS = (
+    [(0, 8000)], [(i, 1) for i in range(33)], [(1, 8000), (2, 8000)], [(0, 1), (0, 1)], [(0, 1), (5, 1), (4, 1)], [(0, 0), (1, 1)],
+    [(0, 200001), (1, 1)], [(0, 200000), (1, 200000)], [(40 * i, 200000) for i in range(11)], [(40 * i, 200000) for i in range(10)],
+    [(0, 1), (3000, 1)], [(0, 1), (3001, 1)], [(1, 0)], [(i, 200001) for i in range(33)], [(0, 200000)] * 12,
+    [(0, 1), (5000, 200001)], [(900 * i, 200000) for i in range(11)],
+)
+FORMS = {
+    "day": "d", "node": "n", "segment": "nnn#", "limit": "nw#", "span": "nn##", "truck": "nn###a", "actor": "n", "apply": "nnnnrdd",
+    "post": "nnw#", "setday": "nd", "surrender": "n#", "show": "n#", "probe": "##", "end": "",
+}
+BAD = {"n": BAD_NAMES, "#": BAD_NUMBERS, "a": BAD_AXLES, "d": BAD_DAYS, "w": BAD_WORDS,
+       "r": (" ", "a  b", "a ", " a", "a,b", "\u00e4", "x" * 17)}
+BYTES = [b'"', b'""', b",", b"\n", b"\r", b" ", b"\0", b"\xff", b"\xc3", b"\xc3\xa4", b"\xef\xbb\xbf", b"0", b"9", b":", b"-", b"a", b"\t"]
+
+
+def place(rng, records, kinds=None):
+    """The place of a record that has fields behind its kind, or of one of these kinds; or None."""
+    fit = [at for at, record in enumerate(records)
+           if len(record) == 8 and FORMS.get(record[0]) and (not kinds or record[0] in kinds)]
+    return rng.choice(fit) if fit else None
+
+
+def fields(rng, records):
+    """A comma too few or too many, or a field that is no UTF-8."""
+    record = rng.choice(records)
+    how = rng.randrange(3)
+    if how == 0:
+        record.pop()
+    elif how == 1:
+        record.append("")
+    elif record:
+        record[rng.randrange(len(record))] = rng.choice((b"\xff", b"a\xc3", b"\xed\xa0\x80", b"\xc0\x80"))
+
+
+def kind(rng, records):
+    record = rng.choice(records)
+    record[:1] = [rng.choice(("", "Node", "node ", "nodes", " day", "truck", "probe", "day", "end", "span", "#", "\ufeffday"))]
+
+
+def order(rng, records):
+    """A record that is moved, doubled or left out, the first and the last one most often."""
+    at = rng.choice((0, len(records) - 1, rng.randrange(len(records))))
+    record = records.pop(at)
+    for _ in range(rng.randrange(3)):
+        records.insert(rng.choice((0, len(records), rng.randint(0, len(records)))), list(record))
+    if not records:
+        records.append(list(record))
+
+
+def extra(rng, records):
+    at = rng.randrange(len(records))
+    used = len(FORMS.get(records[at][0] if records[at] else "", "")) + 1
+    if used < len(records[at]):
+        records[at][rng.randrange(used, len(records[at]))] = rng.choice(("ft", " ", "0", "-"))
+
+
+def field(rng, records):
+    """A field that has not its form, or only just has it."""
+    at = place(rng, records)
+    if at is not None:
+        forms = FORMS[records[at][0]]
+        column = rng.randrange(len(forms))
+        records[at][column + 1] = rng.choice(BAD[forms[column]])
+
+
+def range_(rng, records):
+    """A number at a limit or beside it."""
+    at = place(rng, records)
+    if at is not None:
+        columns = [i for i, form in enumerate(FORMS[records[at][0]]) if form == "#"]
+        if columns:
+            records[at][rng.choice(columns) + 1] = str(rng.choice(NUMBERS))
+
+
+def same(rng, records):
+    """A name that another record of the kind has too."""
+    at = place(rng, records, ("node", "segment", "span", "truck", "actor"))
+    if at is not None:
+        others = [record for record in records if record[:1] == records[at][:1] and len(record) == 8]
+        records[at][1] = rng.choice(others)[1]
+
+
+def unknown(rng, records):
+    """A name that is not there, or is one of another kind, in some place where a name may stand."""
+    at = place(rng, records)
+    if at is not None:
+        columns = [i for i, form in enumerate(FORMS[records[at][0]]) if form in "nr"]
+        if columns:
+            known = [record[1] for record in records if len(record) == 8 and record[0] in ("node", "segment", "truck", "actor")]
+            records[at][rng.choice(columns) + 1] = rng.choice(known + ["nowhere"])
+
+
+def train(rng, records):
+    at = place(rng, records, ("truck",))
+    if at is not None:
+        records[at][6] = " ".join("%d:%d" % pair for pair in rng.choice(TRAINS))
+
+
+def trip(rng, records):
+    """An application from a node to itself, on a route that is no walk, or with its days exchanged."""
+    at = place(rng, records, ("apply",))
+    if at is None:
+        return
+    record = records[at]
+    how = rng.randrange(4)
+    if how == 0:
+        record[4] = record[3]
+    elif how == 1:
+        record[6], record[7] = record[7], record[6]
+    else:
+        known = [other[1] for other in records if len(other) == 8 and other[0] == "segment"]
+        route = str(record[5]).split() + [rng.choice(known)] if known else []
+        if how == 3:
+            rng.shuffle(route)
+        record[5] = " ".join(route)
+
+
+WAYS = (fields, kind, order, extra, field, field, field, range_, range_, same, unknown, train, trip)
+
+
+def broken(rng, records):
+    """A file that is broken in one to three places."""
+    records = [list(record) for record in records]
+    for _ in range(rng.choice((1, 1, 1, 2, 3))):
+        rng.choice(WAYS)(rng, records)
+    return records
+
+
+def scratched(rng, text):
+    """A text with a few bytes changed, left out or put in."""
+    text = bytearray(text)
+    for _ in range(rng.choice((1, 1, 2, 4))):
+        at, how = rng.randint(0, len(text)), rng.randrange(5)
+        if how == 0:
+            del text[at:at + 1]
+        elif how == 1:
+            text[at:at + 1] = rng.choice(BYTES)
+        elif how == 2:
+            text[at:at] = rng.choice(BYTES)
+        elif how == 3:
+            del text[at:at + rng.randint(1, 40)]
+        else:
+            text[at:at] = text[max(0, at - rng.randint(1, 60)):at]
+    return bytes(text[:rng.randrange(len(text) + 1)] if rng.random() < 0.1 else text)

@@ -1,0 +1,92 @@
+"""Trucks on a simple span: influence lines, peak moments, peak end shears, and the HS20-44 design truck.
+
+A load off the span does nothing; one exactly on a support counts as on it. Under one axle the moment is, while the same axles
+are on the span, a parabola in the place of the train, which is greatest where that axle and the centre of weight of those on the
+span lie on both sides of the middle, as far from it. An axle that comes on or goes off does so at a support, where it adds
+nothing, and adds more on the span than off it: so no peak lies where the axles on the span change, unless at such a vertex. All
+vertices of all axles and all runs are tried here, each with the moment of all axles that are on the span there.
+"""
+import functools
+import math
+from bisect import bisect_left, bisect_right
+from fractions import Fraction
+
+HS20 = ((0, 8000), (168, 32000), (336, 32000))
+
+
+def moment(axles, span, scale, lead, section):
+    """The moment at a section with the first axle at the lead, both in 1/scale inches from the left support."""
+    end, total = scale * span, 0
+    for place, weight in axles:
+        at = lead + scale * place
+        if 0 <= at <= end:
+            total += weight * min(at, section) * (end - max(at, section))
+    return Fraction(total, scale * end)
+
+
+def vertices(axles, span):
+    """Each vertex whose section is on the span: axle, first and last of the run, scale, lead, section; in this order."""
+    for axle, (place, _) in enumerate(axles):
+        for first in range(len(axles)):
+            weight = turn = 0
+            for last in range(first, len(axles)):
+                weight += axles[last][1]
+                turn += axles[last][1] * axles[last][0]
+                lead = weight * (span - place) - turn
+                section = weight * (span + place) - turn
+                if 0 <= section <= 2 * weight * span:
+                    yield axle, first, last, 2 * weight, lead, section
+
+
+def peak_moment(axles, span):
+    """The peak moment, and the first vertex that reaches it, its scale, lead and section as small as they go."""
+    places = [place for place, _ in axles]
+    weights, turns = [0], [0]
+    for place, weight in axles:
+        weights.append(weights[-1] + weight)
+        turns.append(turns[-1] + weight * place)
+    most, scaled, where = -1, 1, None
+    for vertex in vertices(axles, span):
+        axle, _, _, scale, lead, section = vertex
+        end = scale * span
+        low = bisect_left(places, -(lead // scale))
+        high = bisect_right(places, (end - lead) // scale)
+        left = lead * (weights[axle + 1] - weights[low]) + scale * (turns[axle + 1] - turns[low])
+        right = (end - lead) * (weights[high] - weights[axle + 1]) - scale * (turns[high] - turns[axle + 1])
+        total = left * (end - section) + right * section
+        if total * scaled > most * scale * scale:
+            most, scaled, where = total, scale * scale, vertex
+    axle, first, last, scale, lead, section = where
+    common = math.gcd(scale, lead, section)
+    return Fraction(most, scaled * span), (axle, first, last, scale // common, lead // common, section // common)
+
+
+def peak_shear(axles, span):
+    """The peak end shear, and the lead and the support at which it is reached first: the left one, by the order of axles."""
+    most, where = Fraction(-1), None
+    for side in ("left", "right"):
+        for at, _ in axles:
+            lead = -at if side == "left" else span - at
+            on = [(lead + place, weight) for place, weight in axles if 0 <= lead + place <= span]
+            total = Fraction(sum(weight * (span - x if side == "left" else x) for x, weight in on), span)
+            if total > most:
+                most, where = total, (lead, side)
+    return most, where
+
+
+@functools.lru_cache(maxsize=None)
+def design(span):
+    """The peak moment and the peak end shear of HS20-44. Of the second spacings from 14 to 30 ft the least is the worst."""
+    return peak_moment(HS20, span)[0], peak_shear(HS20, span)[0]
+
+
+def fit(effects, span, rating):
+    """The first effect that is over so many thousandths of that of HS20-44, or `fits`."""
+    for word, has, most in zip(("moment", "shear"), effects, design(span)):
+        if 1000 * has > rating * most:
+            return word
+    return "fits"
+
+
+def ratio(fraction):
+    return "%d/%d" % (fraction.numerator, fraction.denominator)

@@ -1,0 +1,63 @@
+"""What fields look like. Each function gives the value that a field spells, or None where it has another form."""
+import datetime
+import re
+
+LIMITS = ("closed", "height", "width", "length", "gross", "allowance")
+POSTED = LIMITS + ("rating",)
+RANGES = {
+    "closed": (0, 1), "height": (1, 999), "width": (1, 999), "length": (1, 9999), "gross": (1, 2000000),
+    "allowance": (0, 100000), "rating": (0, 100000),
+}
+
+
+def name(field):
+    """1 to 16 letters, digits, `-` or `_`."""
+    return field.decode() if re.fullmatch(rb"[A-Za-z0-9_-]{1,16}", field) else None
+
+
+def number(field):
+    """One to nine digits, zeros in front among them."""
+    return int(field) if re.fullmatch(rb"[0-9]{1,9}", field) else None
+
+
+def day(field):
+    """YYYY-MM-DD, whether or not there is such a day. Of two days the earlier one has the lesser text."""
+    return field.decode() if re.fullmatch(rb"[0-9]{4}-[0-9]{2}-[0-9]{2}", field) else None
+
+
+def is_day(text):
+    """Whether the calendar has the day. Python's calendar is the Gregorian one from the year 1 to the year 9999."""
+    try:
+        datetime.date(int(text[:4]), int(text[5:7]), int(text[8:]))
+    except ValueError:
+        return False
+    return True
+
+
+def axles(field):
+    """Pairs PLACE:WEIGHT with one space between two."""
+    pairs = []
+    for pair in field.split(b" "):
+        parts = [number(part) for part in pair.split(b":")]
+        if len(parts) != 2 or None in parts:
+            return None
+        pairs.append(tuple(parts))
+    return pairs
+
+
+def route(field):
+    """The names of the segments that are asked for, none where the field is empty: an empty list."""
+    if not field:
+        return []
+    names = [name(part) for part in field.split(b" ")]
+    return None if None in names else names
+
+
+def limit(field):
+    """What a `limit` record sets."""
+    return field.decode() if field in [word.encode() for word in LIMITS] else None
+
+
+def posted(field):
+    """What a `post` record sets."""
+    return field.decode() if field in [word.encode() for word in POSTED] else None

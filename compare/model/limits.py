@@ -1,0 +1,58 @@
+"""The federal weight limits of axle groups, 23 CFR 658.17 with the words of 658.5.
+
+A group is a run of axles next to each other, a single axle among them. Its spread is the distance in whole inches from its first
+axle to its last.
+"""
+SINGLE, TANDEM, GROSS = 20000, 34000, 80000
+SINGLE_SPREAD, TANDEM_SPREAD = 40, 96
+TWO_TANDEM, TWO_TANDEM_SPREAD = 68000, 432
+LEGAL_WIDTH, LEGAL_HEIGHT = 102, 162
+
+
+def formula(spread, count):
+    """W = 500 (L N / (N - 1) + 12 N + 36) with L in feet, to the nearest 500 lb; of two that are as near the lesser one."""
+    over, base = spread * count, 12 * (count - 1)
+    nearest = (2 * over - base + 2 * base - 1) // (2 * base)
+    return 500 * (nearest + 12 * count + 36)
+
+
+def is_tandem(axles):
+    return SINGLE_SPREAD < axles[-1][0] - axles[0][0] <= TANDEM_SPREAD
+
+
+def group_limit(axles):
+    """The limit of a group, and the rule that gives it. The exception for two tandems counts where it gives more."""
+    spread = axles[-1][0] - axles[0][0]
+    if spread <= SINGLE_SPREAD:
+        return SINGLE, "single"
+    if spread <= TANDEM_SPREAD:
+        return TANDEM, "tandem"
+    limit = formula(spread, len(axles))
+    two_tandems = len(axles) == 4 and is_tandem(axles[:2]) and is_tandem(axles[2:]) and spread >= TWO_TANDEM_SPREAD
+    if two_tandems and limit < TWO_TANDEM:
+        return TWO_TANDEM, "two-tandem"
+    return limit, "formula"
+
+
+def groups(axles):
+    """All groups, by first and then by last axle: both places, the weight, the limit and its rule."""
+    return [(i, j, sum(weight for _, weight in axles[i:j + 1]), *group_limit(axles[i:j + 1]))
+            for i in range(len(axles)) for j in range(i, len(axles))]
+
+
+def findings(axles):
+    """The groups over their limits, and then the gross weight over its own."""
+    found = [group for group in groups(axles) if group[2] > group[3]]
+    gross = sum(weight for _, weight in axles)
+    if gross > GROSS:
+        found.append((0, len(axles) - 1, gross, GROSS, "gross"))
+    return found
+
+
+def worst(axles):
+    """The first group than which none has a weight that is a greater part of its limit."""
+    greatest = None
+    for group in groups(axles):
+        if greatest is None or group[2] * greatest[3] > greatest[2] * group[3]:
+            greatest = group
+    return greatest

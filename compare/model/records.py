@@ -1,0 +1,64 @@
+"""From bytes to records: comma-separated text as the Rust crate `csv` reads it by default, without a header row.
+
+A quote opens a quoted field only as the first byte of the field; anywhere else in a field that is not quoted it stands for
+itself. In a quoted field two quotes are one. What follows the closing quote, up to the next comma or line end, belongs to the
+field. A quote that is never closed runs to the end of the text, and that is no mistake. A line end is a line feed, a carriage
+return or both. A line with nothing in it is no record.
+"""
+import re
+
+MARK = b"\xef\xbb\xbf"
+MOST_BYTES = 4194304
+PLAIN, QUOTED, CLOSED = range(3)
+
+
+def unmarked(data):
+    """The text behind the byte order mark, where it begins with one."""
+    return data[len(MARK):] if data.startswith(MARK) else data
+
+
+def records(data):
+    """The records of some bytes, each a list of fields of bytes."""
+    data = unmarked(data)
+    if b'"' not in data:
+        return [line.split(b",") for line in re.split(b"[\r\n]+", data) if line]
+    return list(quoted_records(data))
+
+
+def quoted_records(data):
+    """The same where quotes stand in the text, byte by byte."""
+    fields, field, how, begun = [], bytearray(), PLAIN, False
+    for at in range(len(data)):
+        byte = data[at:at + 1]
+        if how == QUOTED:
+            if byte == b'"':
+                how = CLOSED
+            else:
+                field += byte
+        elif byte == b'"' and how == CLOSED:
+            field += byte
+            how = QUOTED
+        elif byte == b'"' and how == PLAIN and not field:
+            how, begun = QUOTED, True
+        elif byte == b",":
+            fields.append(bytes(field))
+            field, how, begun = bytearray(), PLAIN, True
+        elif byte in b"\r\n":
+            if begun:
+                yield fields + [bytes(field)]
+            fields, field, how, begun = [], bytearray(), PLAIN, False
+        else:
+            field += byte
+            how, begun = PLAIN, True
+    if begun:
+        yield fields + [bytes(field)]
+
+
+def is_text(record):
+    """Whether each field is UTF-8."""
+    try:
+        for field in record:
+            field.decode("utf-8")
+    except UnicodeDecodeError:
+        return False
+    return True

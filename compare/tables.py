@@ -1,0 +1,180 @@
+"""Published tables, compared with the program and with the model. Their values are as printed, and come from neither.
+
+- The federal bridge formula table: "Bridge Formula Weights", Federal Highway Administration, table B, for 23 CFR 658.17(e). A
+  row is a spread in feet; its columns are 2 to 9 axles, in thousands of pounds. The line 'more than 8' stands at 97 inches.
+- AASHTO Standard Specifications for Highway Bridges, Appendix A, HS20-44 on simple spans, one lane: the span in feet, the
+  greatest moment in foot-kips and the greatest end shear in kips, where the truck and not the lane load gives them. The printed
+  values were worked in part by hand: 1,524.0 stands for an exact 1,523.92. So they are compared to less than a tenth.
+
+Two more things are tried on the model: that no second spacing of HS20-44 from 14 to 30 ft exceeds 14 ft, and that no place of
+some trucks, at whole and at half inches, exceeds the peaks.
+"""
+import subprocess
+
+from model.bridges import HS20, design, moment, peak_moment, peak_shear
+from model.files import CheckFile
+from model.report import report
+
+FORMULA = """
+8+ 38 42
+9  39 42.5
+10 40 43.5
+11 -  44
+12 -  45   50
+13 -  45.5 50.5
+14 -  46.5 51.5
+15 -  47   52
+16 -  48   52.5 58
+17 -  48.5 53.5 58.5
+18 -  49.5 54   59
+19 -  50   54.5 60
+20 -  51   55.5 60.5 66
+21 -  51.5 56   61   66.5
+22 -  52.5 56.5 61.5 67
+23 -  53   57.5 62.5 68
+24 -  54   58   63   68.5 74
+25 -  54.5 58.5 63.5 69   74.5
+26 -  55.5 59.5 64   69.5 75
+27 -  56   60   65   70   75.5
+28 -  57   60.5 65.5 71   76.5 82
+29 -  57.5 61.5 66   71.5 77   82.5
+30 -  58.5 62   66.5 72   77.5 83
+31 -  59   62.5 67.5 72.5 78   83.5
+32 -  60   63.5 68   73   78.5 84.5 90
+33 -  -    64   68.5 74   79   85   90.5
+34 -  -    64.5 69   74.5 80   85.5 91
+35 -  -    65.5 70   75   80.5 86   91.5
+36 -  -    66   70.5 75.5 81   86.5 92
+37 -  -    66.5 71   76   81.5 87   93
+38 -  -    67.5 71.5 77   82   87.5 93.5
+39 -  -    68   72.5 77.5 82.5 88.5 94
+40 -  -    68.5 73   78   83.5 89   94.5
+41 -  -    69.5 73.5 78.5 84   89.5 95
+42 -  -    70   74   79   84.5 90   95.5
+43 -  -    70.5 75   80   85   90.5 96
+44 -  -    71.5 75.5 80.5 85.5 91   96.5
+45 -  -    72   76   81   86   91.5 97.5
+46 -  -    72.5 76.5 81.5 87   92.5 98
+47 -  -    73.5 77.5 82   87.5 93   98.5
+48 -  -    74   78   83   88   93.5 99
+49 -  -    74.5 78.5 83.5 88.5 94   99.5
+50 -  -    75.5 79   84   89   94.5 100
+51 -  -    76   80   84.5 89.5 95   100.5
+52 -  -    76.5 80.5 85   90.5 95.5 101
+53 -  -    77.5 81   86   91   96.5 102
+54 -  -    78   81.5 86.5 91.5 97   102.5
+55 -  -    78.5 82.5 87   92   97.5 103
+56 -  -    79.5 83   87.5 92.5 98   103.5
+57 -  -    80   83.5 88   93   98.5 104
+58 -  -    -    84   89   94   99   104.5
+59 -  -    -    85   89.5 94.5 99.5 105
+60 -  -    -    85.5 90   95   100.5 105.5
+"""
+
+AASHTO = """
+1   8.0    32.0
+5   40.0   32.0
+10  80.0   32.0
+14  112.0  32.0
+15  120.0  34.1
+16  128.0  36.0
+18  144.0  39.1
+20  160.0  41.6
+22  176.0  43.6
+24  192.7  45.3
+25  207.4  46.1
+26  222.2  46.8
+28  252.0  48.0
+30  282.1  49.6
+32  312.5  51.0
+34  343.5  52.2
+36  378.9  53.3
+40  449.8  55.2
+50  627.9  58.5
+60  806.5  60.8
+70  985.6  62.4
+80  1164.9 63.6
+90  1344.4 64.5
+100 1524.0 65.3
+110 1703.6 65.9
+120 1883.3 66.4
+"""
+
+
+def formula_rows():
+    """Spread in inches, axles, pounds."""
+    for line in FORMULA.split("\n"):
+        spread, *columns = line.split() or [""]
+        for axles, thousands in enumerate(columns, 2):
+            if thousands != "-":
+                yield 97 if spread == "8+" else 12 * int(spread), axles, round(1000 * float(thousands))
+
+
+def aashto_rows():
+    """Inches, and the moment and the shear in tenths of a foot-kip and of a kip."""
+    for line in AASHTO.split("\n"):
+        if line:
+            feet, *effects = line.split()
+            yield 12 * int(feet), *(round(10 * float(effect)) for effect in effects)
+
+
+def spread_out(spread, count, gross):
+    """So many axles over a spread, as far from each other as they go, of so much weight together."""
+    places = [spread * i // (count - 1) for i in range(count)]
+    return [(place, gross // count + (i < gross % count)) for i, place in enumerate(places)]
+
+
+def check(program, axles, probes=()):
+    """What `check` says of a truck with these axles: by the program, or by the model where there is none."""
+    text = "truck,T,C,150,100,700,%s,\n" % " ".join("%d:%d" % pair for pair in axles)
+    text += "".join("probe,%d,1000,,,,,\n" % inches for inches in probes) + "end,,,,,,,\n"
+    if program is None:
+        return report(CheckFile(text.encode())).split("\n")
+    return subprocess.run([program, "check"], input=text.encode(), capture_output=True).stdout.decode("latin-1").split("\n")
+
+
+def wrong_formula(program, name):
+    """A pound over a printed limit is told with that limit, and the limit itself is not over."""
+    for spread, count, limit in formula_rows():
+        told = "over 1-%d %d %d formula" % (count, limit + 1, limit)
+        if told not in check(program, spread_out(spread, count, limit + 1)):
+            yield "%s: %d axles over %d in: %d is not the limit that is told" % (name, count, spread, limit)
+        if any(line.startswith("over 1-%d %d " % (count, limit)) and line.endswith("formula")
+               for line in check(program, spread_out(spread, count, limit))):
+            yield "%s: %d axles over %d in: %d is over" % (name, count, spread, limit)
+
+
+def tenths(ratio, unit):
+    numerator, denominator = map(int, ratio.split("/"))
+    return numerator / denominator / unit
+
+
+def wrong_aashto(program, name):
+    rows = list(aashto_rows())
+    told = [line.split()[1:] for line in check(program, HS20, [row[0] for row in rows]) if line.startswith("hs20")]
+    for (inches, moment_printed, shear_printed), pair in zip(rows, told):
+        if abs(tenths(pair[0], 1200) - moment_printed) >= 1 or abs(tenths(pair[1], 100) - shear_printed) >= 1:
+            yield "%s: HS20-44 on %d in: %s is not what is printed" % (name, inches, pair)
+    if len(told) != len(rows):
+        yield "%s: %d of %d spans are told" % (name, len(told), len(rows))
+
+
+def wrong_model():
+    for inches, _, _ in aashto_rows():
+        for gap in range(168, 361, 12):
+            longer = ((0, 8000), (168, 32000), (168 + gap, 32000))
+            if peak_moment(longer, inches)[0] > design(inches)[0] or peak_shear(longer, inches)[0] > design(inches)[1]:
+                yield "model: HS20-44 with %d in between its last axles exceeds 14 ft on %d in" % (gap, inches)
+    for axles, span in (([(0, 5), (3, 7), (4, 2), (9, 6)], 8), ([(0, 1), (2, 9), (5, 9), (7, 1)], 11), ([(0, 3), (6, 4)], 5)):
+        most, (_, _, _, scale, lead, section) = peak_moment(axles, span)
+        places = [(q, x, r) for q in (1, 2) for x in range(-9 * q, span * q + 1) for r in range(span * q + 1)]
+        if any(moment(axles, span, *place) > most for place in places) or moment(axles, span, scale, lead, section) != most:
+            yield "model: %d over a span of %d in is not the peak" % (most, span)
+
+
+def compared(program):
+    """How many rows were compared, and what is wrong."""
+    wrong = [*wrong_model()]
+    for tried, name in ((program, "program"), (None, "model")):
+        wrong += [*wrong_formula(tried, name), *wrong_aashto(tried, name)]
+    return len(list(formula_rows())) + len(list(aashto_rows())), wrong
