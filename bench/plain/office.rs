@@ -1,5 +1,5 @@
 //! A day of one actor: each command is carried out in its turn, and the journal is written as it goes.
-use crate::files::{Day, DayFile, Order, RATING, Trip, WHATS};
+use crate::files::{Day, DayFile, Order, RATING, Segment, Trip, WHATS};
 use crate::text::Text;
 use crate::truck::{Effects, HS20, Train};
 use std::cmp::Reverse;
@@ -30,19 +30,41 @@ enum Limit {
     Shear(u32),
 }
 
-/// The peaks of each truck and of the design truck on spans of one length, as they are first asked for.
+/// The peaks of each truck and of the design truck on spans of one length, and whether each truck may pass each segment, as
+/// they are first asked for.
 struct Kept {
     design: Train,
     of_design: Vec<Option<Effects>>,
     of_truck: Vec<Vec<Option<Effects>>>,
+    passes: Vec<Vec<Option<bool>>>,
+}
+
+/// A segment as the node at one of its ends sees it.
+#[derive(Clone, Copy)]
+struct Way {
+    number: u32,
+    node: u32,
+    feet: u32,
+}
+
+/// The ways at each node, one node's behind another's.
+struct Ways {
+    from: Vec<u32>,
+    ways: Vec<Way>,
+}
+
+/// How far a node is from the end of the trip, as far as is known in this turn.
+#[derive(Clone, Copy, Default)]
+struct Reached {
+    far: u64,
+    turn: u32,
 }
 
 /// A search backwards from the end of a trip, with room that is used again.
 struct Search {
-    incoming: Vec<Vec<u32>>,
-    outgoing: Vec<Vec<u32>>,
-    far: Vec<u64>,
-    seen: Vec<u32>,
+    incoming: Ways,
+    outgoing: Ways,
+    reached: Vec<Reached>,
     turn: u32,
     heap: BinaryHeap<Reverse<(u64, u32)>>,
 }
@@ -109,81 +131,100 @@ impl Kept {
     }
 
     fn meets(&mut self, file: &DayFile, truck: u32, segment: u32) -> bool {
-        self.first_limit(file, truck, segment).is_none()
+        if let Some(passes) = self.passes[truck as usize][segment as usize] {
+            return passes;
+        }
+        let passes = self.first_limit(file, truck, segment).is_none();
+        self.passes[truck as usize][segment as usize] = Some(passes);
+        passes
+    }
+
+    fn forget(&mut self, segment: u32) {
+        for passes in &mut self.passes {
+            passes[segment as usize] = None;
+        }
+    }
+}
+
+impl Ways {
+    /// The ways at each node: `ends` gives the node that sees a segment, and the one that it leads to.
+    fn new(file: &DayFile, ends: impl Fn(&Segment) -> (u32, u32)) -> Ways {
+        let mut from = vec![0; file.node_count() + 1];
+        for segment in &file.segments {
+            from[ends(segment).0 as usize + 1] += 1;
+        }
+        for node in 1..from.len() {
+            from[node] += from[node - 1];
+        }
+        let (mut free, mut ways) = (from.clone(), vec![Way { number: 0, node: 0, feet: 0 }; file.segments.len()]);
+        for (number, segment) in file.segments.iter().enumerate() {
+            let (at, node) = ends(segment);
+            ways[free[at as usize] as usize] = Way { number: number as u32, node, feet: segment.feet };
+            free[at as usize] += 1;
+        }
+        Ways { from, ways }
+    }
+
+    fn at(&self, node: u32) -> &[Way] {
+        &self.ways[self.from[node as usize] as usize..self.from[node as usize + 1] as usize]
     }
 }
 
 impl Search {
     fn new(file: &DayFile) -> Search {
-        let nodes = file.node_count();
-        let (mut incoming, mut outgoing) = (vec![Vec::new(); nodes], vec![Vec::new(); nodes]);
-        for (number, segment) in file.segments.iter().enumerate() {
-            incoming[segment.to as usize].push(number as u32);
-            outgoing[segment.from as usize].push(number as u32);
-        }
-        Search { incoming, outgoing, far: vec![0; nodes], seen: vec![0; nodes], turn: 0, heap: BinaryHeap::new() }
+        let (incoming, outgoing) = (Ways::new(file, |s| (s.to, s.from)), Ways::new(file, |s| (s.from, s.to)));
+        let reached = vec![Reached::default(); file.node_count()];
+        Search { incoming, outgoing, reached, turn: 0, heap: BinaryHeap::new() }
     }
 
     /// The shortest route, the first in the order of lists among equals. Whether a segment may be passed is asked only where it
     /// would shorten a way, and the search stops when it comes to the start.
-    fn route(&mut self, file: &DayFile, from: u32, to: u32, mut meets: impl FnMut(u32) -> bool) -> Option<Vec<u32>> {
-        self.turn += 1;
-        self.heap.clear();
-        self.reach(to, 0);
+    fn route(&mut self, from: u32, to: u32, mut meets: impl FnMut(u32) -> bool) -> Option<Vec<u32>> {
+        let Search { incoming, outgoing, reached, turn, heap } = self;
+        *turn += 1;
+        heap.clear();
+        reached[to as usize] = Reached { far: 0, turn: *turn };
+        heap.push(Reverse((0, to)));
         loop {
-            let Reverse((far, node)) = self.heap.pop()?;
+            let Reverse((far, node)) = heap.pop()?;
             if node == from {
                 break;
             }
-            if far > self.far[node as usize] {
+            if far > reached[node as usize].far {
                 continue;
             }
-            for at in 0..self.incoming[node as usize].len() {
-                let number = self.incoming[node as usize][at];
-                let segment = &file.segments[number as usize];
-                let length = far + u64::from(segment.feet);
-                if self.is_nearer(segment.from, length) && meets(number) {
-                    self.reach(segment.from, length);
+            for way in incoming.at(node) {
+                let (length, there) = (far + u64::from(way.feet), &mut reached[way.node as usize]);
+                if (there.turn != *turn || length < there.far) && meets(way.number) {
+                    *there = Reached { far: length, turn: *turn };
+                    heap.push(Reverse((length, way.node)));
                 }
             }
         }
         let (mut route, mut node) = (Vec::new(), from);
         while node != to {
-            let leads_on = |number: &&u32| {
-                let segment = &file.segments[**number as usize];
-                let at = segment.to as usize;
-                self.seen[at] == self.turn
-                    && self.far[at] + u64::from(segment.feet) == self.far[node as usize]
-                    && meets(**number)
+            let leads_on = |way: &&Way| {
+                let there = reached[way.node as usize];
+                there.turn == *turn && there.far + u64::from(way.feet) == reached[node as usize].far && meets(way.number)
             };
-            let number = *self.outgoing[node as usize].iter().find(leads_on).expect("a node that was reached leads on");
-            route.push(number);
-            node = file.segments[number as usize].to;
+            let way = outgoing.at(node).iter().find(leads_on).expect("a node that was reached leads on");
+            route.push(way.number);
+            node = way.node;
         }
         Some(route)
     }
 
-    fn is_nearer(&self, node: u32, far: u64) -> bool {
-        self.seen[node as usize] != self.turn || far < self.far[node as usize]
-    }
-
-    fn reach(&mut self, node: u32, far: u64) {
-        self.seen[node as usize] = self.turn;
-        self.far[node as usize] = far;
-        self.heap.push(Reverse((far, node)));
-    }
-
     /// All nodes that walks from a node lead to, rising.
-    fn reached(&mut self, file: &DayFile, from: u32, mut meets: impl FnMut(u32) -> bool) -> Vec<u32> {
+    fn all(&mut self, from: u32, mut meets: impl FnMut(u32) -> bool) -> Vec<u32> {
         self.turn += 1;
-        self.seen[from as usize] = self.turn;
+        self.reached[from as usize].turn = self.turn;
         let (mut nodes, mut at) = (vec![from], 0);
         while at < nodes.len() {
-            for &number in &self.outgoing[nodes[at] as usize] {
-                let to = file.segments[number as usize].to;
-                if self.seen[to as usize] != self.turn && meets(number) {
-                    self.seen[to as usize] = self.turn;
-                    nodes.push(to);
+            for way in self.outgoing.at(nodes[at]) {
+                let there = &mut self.reached[way.node as usize];
+                if there.turn != self.turn && meets(way.number) {
+                    there.turn = self.turn;
+                    nodes.push(way.node);
                 }
             }
             at += 1;
@@ -199,6 +240,7 @@ impl Office {
             design: Train::new(HS20.to_vec()),
             of_design: vec![None; MOST_INCHES + 1],
             of_truck: vec![Vec::new(); file.trucks.len()],
+            passes: vec![vec![None; file.segments.len()]; file.trucks.len()],
         };
         let (search, using) = (Search::new(&file), vec![Vec::new(); file.segments.len()]);
         let mut journal = Text::default();
@@ -238,14 +280,14 @@ impl Office {
             let failing = trip.asked.iter().copied().find(|segment| !meets(*segment));
             return failing.map_or_else(|| What::Route(trip.asked.clone()), What::Fails);
         }
-        if let Some(route) = search.route(file, trip.from, trip.to, &mut meets) {
+        if let Some(route) = search.route(trip.from, trip.to, &mut meets) {
             return What::Route(route);
         }
-        let anywhere = search.reached(file, trip.from, |_| true);
+        let anywhere = search.all(trip.from, |_| true);
         if anywhere.binary_search(&trip.to).is_err() {
             return What::Cut(anywhere);
         }
-        What::Cut(search.reached(file, trip.from, meets))
+        What::Cut(search.all(trip.from, meets))
     }
 
     fn apply(&mut self, caller: u32, trip: &Trip) {
@@ -282,14 +324,15 @@ impl Office {
                 let inside = |node: u32| nodes.binary_search(&node).is_ok();
                 let least = nodes
                     .iter()
-                    .flat_map(|node| &self.search.outgoing[*node as usize])
-                    .filter(|number| !inside(self.file.segments[**number as usize].to))
+                    .flat_map(|node| self.search.outgoing.at(*node))
+                    .filter(|way| !inside(way.node))
+                    .map(|way| way.number)
                     .min();
                 match least {
                     None => {
                         self.journal.word("noroad");
                     }
-                    Some(&segment) => self.refuse(trip.truck, segment),
+                    Some(segment) => self.refuse(trip.truck, segment),
                 }
             }
         }
@@ -356,6 +399,7 @@ impl Office {
             item
         };
         self.version += 1;
+        self.kept.forget(segment);
         let gone = self.recalled_on(segment);
         for &number in &gone {
             self.permits[number as usize].mark = Mark::Recalled(self.version);

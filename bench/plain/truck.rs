@@ -55,8 +55,17 @@ pub struct Place {
     pub section: i128,
 }
 
+/// An axle's place, and the weight and the weight times place of the axles in front of it.
+#[derive(Clone, Copy)]
+struct Front {
+    place: f64,
+    weight: f64,
+    turn: f64,
+}
+
 pub struct Train {
     pub axles: Vec<(u64, u64)>,
+    fronts: Vec<Front>,
     /// The weight of the axles in front of each axle, and their weight times place.
     weights: Vec<u64>,
     turns: Vec<u64>,
@@ -69,7 +78,13 @@ impl Train {
             weights.push(weights[i] + weight);
             turns.push(turns[i] + weight * place);
         }
-        Train { axles, weights, turns }
+        let front = |(i, axle): (usize, &(u64, u64))| Front {
+            place: axle.0 as f64,
+            weight: weights[i] as f64,
+            turn: turns[i] as f64,
+        };
+        let fronts = axles.iter().enumerate().map(front).collect();
+        Train { axles, fronts, weights, turns }
     }
 
     pub fn gross(&self) -> u64 {
@@ -127,25 +142,46 @@ impl Train {
 
     /// Four times the run's weight and the span, times the run's greatest moment under one of its axles.
     fn value(&self, (first, last): (usize, usize), axle: usize, span: u64) -> i128 {
-        let weight = (self.weights[last + 1] - self.weights[first]) as i128;
-        let turn = (self.turns[last + 1] - self.turns[first]) as i128;
-        let place = self.axles[axle].0;
-        let before = (self.weights[axle] - self.weights[first]) * place - (self.turns[axle] - self.turns[first]);
-        let arm = weight * (i128::from(span) + i128::from(place)) - turn;
-        arm * arm - 4 * weight * i128::from(span) * i128::from(before)
+        let (weight, turn) = self.run((first, last));
+        let (arm, before) = (self.arm(weight, turn, axle, span), self.before(first, axle));
+        i128::from(arm) * i128::from(arm) - 4 * i128::from(weight) * i128::from(span) * i128::from(before)
     }
 
-    /// The greatest value, over the weight of its run.
+    fn run(&self, (first, last): (usize, usize)) -> (u64, u64) {
+        (self.weights[last + 1] - self.weights[first], self.turns[last + 1] - self.turns[first])
+    }
+
+    fn arm(&self, weight: u64, turn: u64, axle: usize, span: u64) -> u64 {
+        weight * (span + self.axles[axle].0) - turn
+    }
+
+    /// The moment about an axle of the run's axles in front of it.
+    fn before(&self, first: usize, axle: usize) -> u64 {
+        (self.weights[axle] - self.weights[first]) * self.axles[axle].0 - (self.turns[axle] - self.turns[first])
+    }
+
+    /// The greatest value, over the weight of its run. Only what is about as great in floating point is compared exactly.
     fn peak(&self, span: u64) -> (i128, i128) {
-        let (mut most, mut over) = (-1, 1);
+        let (mut most, mut over, mut about) = (-1, 1, 0.0);
         for run in self.runs(span) {
-            let weight = (self.weights[run.1 + 1] - self.weights[run.0]) as i128;
-            for axle in run.0..=run.1 {
+            let (weight, turn) = self.run(run);
+            let (heavy, inverse, far) = (weight as f64, 1.0 / weight as f64, 4.0 * span as f64);
+            let (reach, front) = ((weight * span) as f64 - turn as f64, self.fronts[run.0]);
+            let guess = |axle: &Front| {
+                let arm = reach + heavy * axle.place;
+                arm * arm * inverse - far * ((axle.weight - front.weight) * axle.place - (axle.turn - front.turn))
+            };
+            let axles = &self.fronts[run.0..=run.1];
+            if axles.iter().map(guess).fold(0.0, f64::max) < about {
+                continue;
+            }
+            for axle in (run.0..=run.1).filter(|axle| guess(&self.fronts[*axle]) >= about) {
                 let value = self.value(run, axle, span);
-                if value * over > most * weight {
-                    (most, over) = (value, weight);
+                if value * over > most * i128::from(weight) {
+                    (most, over) = (value, i128::from(weight));
                 }
             }
+            about = most as f64 / over as f64 * (1.0 - 1e-9);
         }
         (most, over)
     }
@@ -162,18 +198,17 @@ impl Train {
     }
 
     fn place(&self, span: u64, most: i128, over: i128) -> Place {
-        let of = |(f, l): (usize, usize)| (self.weights[l + 1] - self.weights[f], self.turns[l + 1] - self.turns[f]);
         let runs = self.runs(span);
         let count = self.axles.len();
         for axle in 0..count {
             let reach: Vec<(u64, u64)> = runs
                 .iter()
-                .filter(|r| (r.0..=r.1).contains(&axle) && self.value(**r, axle, span) * over == most * of(**r).0 as i128)
-                .map(|r| of(*r))
+                .filter(|r| (r.0..=r.1).contains(&axle) && self.value(**r, axle, span) * over == most * i128::from(self.run(**r).0))
+                .map(|r| self.run(*r))
                 .collect();
             let all = (0..=axle).flat_map(|f| (axle..count).map(move |l| (f, l)));
             for run in all.filter(|_| !reach.is_empty()) {
-                let (weight, turn) = of(run);
+                let (weight, turn) = self.run(run);
                 if reach.iter().any(|&(w, t)| t * weight == turn * w) {
                     let (w, t, s, p) = (weight as i128, turn as i128, span as i128, self.axles[axle].0 as i128);
                     let (scale, lead, section) = (2 * w, w * (s - p) - t, w * (s + p) - t);
