@@ -1,7 +1,7 @@
 #!/usr/bin/env python3
 """Times the printer and the reader of journals, on one processor.
 
-    tools/time_journal.py JOURNAL [MEGABYTES]
+    bench/time_journal.py JOURNAL [MEGABYTES]
 
 JOURNAL is a file that `permit day` wrote. Its entries are repeated to a journal of so many megabytes (10). A program in a
 temporary folder, over a copy of the crates that it needs, reads that text and prints the history again, seven times; it is

@@ -1,7 +1,7 @@
 #!/usr/bin/env python3
 """Measures for how long each turn of a day is held.
 
-    tools/time_turns.py PROGRAM DAYFILE [TIMES]
+    bench/time_turns.py PROGRAM DAYFILE [TIMES]
 
 A turn is held while the office carries out one call, in the one function that does so under the lock. The kernel notes when
 that function begins and ends (by probes of its own, which want root, and tracefs at /sys/kernel/tracing). The day is run

@@ -162,7 +162,7 @@ impl Train {
 
     /// The greatest value, over the weight of its run. Only what is about as great in floating point is compared exactly.
     fn peak(&self, span: u64) -> (i128, i128) {
-        let (mut most, mut over, mut about) = (-1, 1, 0.0);
+        let (mut most, mut over, mut about) = (-1, 1, 0.0_f64);
         for run in self.runs(span) {
             let (weight, turn) = self.run(run);
             let (heavy, inverse, far) = (weight as f64, 1.0 / weight as f64, 4.0 * span as f64);
@@ -172,7 +172,8 @@ impl Train {
                 arm * arm * inverse - far * ((axle.weight - front.weight) * axle.place - (axle.turn - front.turn))
             };
             let axles = &self.fronts[run.0..=run.1];
-            if axles.iter().map(guess).fold(0.0, f64::max) < about {
+            let greatest = axles.iter().map(guess).fold(0.0, f64::max);
+            if greatest < about {
                 continue;
             }
             for axle in (run.0..=run.1).filter(|axle| guess(&self.fronts[*axle]) >= about) {
@@ -181,7 +182,7 @@ impl Train {
                     (most, over) = (value, i128::from(weight));
                 }
             }
-            about = most as f64 / over as f64 * (1.0 - 1e-9);
+            about = about.max(greatest * (1.0 - 1e-9));
         }
         (most, over)
     }
