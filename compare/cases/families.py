@@ -82,8 +82,9 @@ def many(rng):
     return Case(["day"], text)
 
 
-WORDS = ("check", "day", "make", "trial", "--seed", "--size", "--seed=5", "--size=2", "7", "+5", "007", "-1", "65535", "65536", "0",
-         "40", "41", "--help", "-h", "--version", "--seeds", "--", "", "Check", "--seed=", "--size=1.5", "--seed=-0", "\u00e4", "\udcff")
+WORDS = ("check", "day", "make", "trial", "--seed", "--size", "--seed=5", "--size=2", "7", "+5", "007", "-1", "65535", "65536",
+         "0", "40", "41", "--help", "-h", "--version", "--seeds", "--", "", "Check", "--seed=", "--size=1.5", "--seed=-0",
+         "\u00e4", "\udcff")
 
 
 def worded(rng):

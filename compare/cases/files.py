@@ -157,7 +157,8 @@ class Day:
 
 REFERS = {
     "segment": {2: "node", 3: "node"}, "limit": {1: "segment"}, "span": {2: "segment"}, "setday": {1: "actor"},
-    "apply": {1: "actor", 2: "truck", 3: "node", 4: "node"}, "surrender": {1: "actor"}, "show": {1: "actor"}, "post": {1: "actor"},
+    "apply": {1: "actor", 2: "truck", 3: "node", 4: "node"}, "surrender": {1: "actor"}, "show": {1: "actor"},
+    "post": {1: "actor"},
 }
 
 

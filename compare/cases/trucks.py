@@ -94,7 +94,8 @@ def heavy(rng):
     return placed([rng.choice((1, 40, 300))] * 9, [200000] * 10)
 
 
-WAYS = (ordinary, ordinary, regular, mirrored, near_limits, near_limits, two_tandems, scaled_design, light, light, long, heavy)
+WAYS = (ordinary, ordinary, regular, mirrored, near_limits, near_limits, two_tandems, scaled_design, light, light, long,
+        heavy)
 
 
 def sizes(rng):

@@ -1,4 +1,4 @@
-"""What the words of the command line ask for: one COMMAND and two options with a number each, as the Rust crate `clap` reads them."""
+"""What the words of the command line ask for: one COMMAND, and two options with a number each, as the crate `clap` reads them."""
 import re
 
 COMMANDS = ("check", "day", "make", "trial")
