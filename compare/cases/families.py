@@ -82,6 +82,41 @@ def many(rng):
     return Case(["day"], text)
 
 
+def grid_day(rng):
+    """Trips over a grid on which many routes are as short, while segments are shut and opened."""
+    rows, columns, feet = rng.randint(2, 7), rng.randint(2, 7), rng.choice(((1,), (1, 2), (999, 1000, 1001)))
+    nodes = [(r, c) for r in range(rows) for c in range(columns)]
+    roads = [(a, b) for a in nodes for b in nodes if abs(a[0] - b[0]) + abs(a[1] - b[1]) == 1]
+    rng.shuffle(roads)
+    name = lambda node: "n%d-%d" % node
+    records = [["node", name(node)] for node in nodes]
+    records += [["segment", "s%d" % i, name(a), name(b), rng.choice(feet)] for i, (a, b) in enumerate(roads)]
+    records += [["truck", "t", "c", 168, 110, 720, "0:12000 180:17000 228:17000"], ["actor", "a"]]
+    for _ in range(40):
+        if rng.random() < 0.4:
+            records.append(["post", "a", "s%d" % rng.randrange(len(roads)), "closed", rng.choice((0, 1, 1))])
+        else:
+            start, end = rng.sample(nodes, 2)
+            records.append(["apply", "a", "t", name(start), name(end), "", "2026-03-02", "2026-03-02"])
+    return Case(["day"], plain([full(["day", "2026-03-02"])] + list(map(full, records)) + [full(["end"])]))
+
+
+def far_day(rng):
+    """Two ways of more than 2^32 feet, of which one is a foot shorter, or none."""
+    count, less = rng.choice((430, 600)), rng.choice((0, 1))
+    shorter, at = rng.choice("ab"), rng.randrange(count)
+    records = [["node", "start"], ["node", "end"]]
+    for i in range(1, count):
+        records += [["node", "a%d" % i], ["node", "b%d" % i]]
+    for i in range(count):
+        for way in rng.sample("ab", 2):
+            start, end = ("%s%d" % (way, i) if i else "start"), ("%s%d" % (way, i + 1) if i + 1 < count else "end")
+            records.append(["segment", "%s-%d" % (way, i), start, end, 10000000 - (less if (way, i) == (shorter, at) else 0)])
+    records += [["truck", "t", "c", 168, 110, 720, "0:12000 180:17000 228:17000"], ["actor", "a"],
+                ["apply", "a", "t", "start", "end", "", "2026-03-02", "2026-03-02"]]
+    return Case(["day"], plain([full(["day", "2026-03-02"])] + list(map(full, records)) + [full(["end"])]))
+
+
 WORDS = ("check", "day", "make", "trial", "--seed", "--size", "--seed=5", "--size=2", "7", "+5", "007", "-1", "65535", "65536",
          "0", "40", "41", "--help", "-h", "--version", "--seeds", "--", "", "Check", "--seed=", "--size=1.5", "--seed=-0",
          "\u00e4", "\udcff")
@@ -102,7 +137,7 @@ def worded(rng):
 
 FAMILIES = (
     good_check, good_day, broken_check, broken_day, scratched_file, crowded_day, good_check, good_day, broken_day, dressed_file,
-    broken_check, scratched_file, good_day, made, tried, worded, broken_day, crowded_day, good_check, many,
+    grid_day, scratched_file, good_day, made, tried, worded, broken_day, crowded_day, far_day, many,
 )
 
 

@@ -57,7 +57,7 @@ class Day:
             self.add("limit", *self.limit(rng.choice(self.segments)[0]))
         self.spans = [self.span() for _ in range(rng.choice((0, 1, len(self.segments))))]
         self.actors = [self.define("actor") for _ in range(actors)]
-        self.issued, self.now = 0, 0
+        self.issued, self.now, self.asked = 0, 0, []
         for _ in range(commands):
             self.command()
 
@@ -131,7 +131,8 @@ class Day:
             rating = trucks.rating(rng, rng.choice(self.trucks)[1].effects(inches), inches)
             self.add("post", actor, span, "rating", rating)
         elif kind == "post":
-            segment, what, value = self.limit(rng.choice(self.segments)[0])
+            asked = self.asked and rng.random() < 0.3
+            segment, what, value = self.limit(rng.choice(self.asked) if asked else rng.choice(self.segments)[0])
             self.add("post", actor, segment, what, value)
         else:
             numbers = (0, 1, 999999999, self.issued, *[rng.randint(0, self.issued // 2 + 1)] * 6)
@@ -142,6 +143,7 @@ class Day:
         start, end, route = rng.choice(self.nodes), rng.choice(self.nodes), ""
         if rng.random() < 0.3:
             route, end = self.walk(start)
+            self.asked = route.split()
         if start == end:
             route, end = "", rng.choice([node for node in self.nodes if node != start])
         first = rng.choice((0, 0, 0, 0, 0, 0, 0, 0, -1, 1, 2))
