@@ -1,0 +1,24 @@
+# Completions of bash for permit_cli: its commands and its options.
+_permit_cli() {
+    local word=${COMP_WORDS[COMP_CWORD]} before=${COMP_WORDS[COMP_CWORD - 1]} command='' other
+    COMPREPLY=()
+    for other in "${COMP_WORDS[@]:1:COMP_CWORD-1}"; do
+        case $other in
+            check | day | make | trial) command=$other ;;
+        esac
+    done
+    case $before in
+        --seed | --size) return ;;
+    esac
+    case $word in
+        -*)
+            COMPREPLY=($(compgen -W '--seed --size' -- "$word"))
+            return
+            ;;
+    esac
+    case $command in
+        '') COMPREPLY=($(compgen -W 'check day make trial' -- "$word")) ;;
+        make | trial) COMPREPLY=($(compgen -W '--seed --size' -- "$word")) ;;
+    esac
+}
+complete -F _permit_cli permit_cli
