@@ -1,68 +1,75 @@
--- The best of the runs that can be on the span, one run after another.
-use Rattle.std.proofs.Common.{◌≡◌, ℕ, ◌+◌, ◌*◌, ◌<◌, ◌≤◌, ◌^◌, List, arith, ap, ◌∙◌, inl, inr, length}
-use Rattle.std.proofs.Math.Nat.{mul-le-mul_right}
-use Rattle.std.proofs.lemmas.Bool.{cases_lt}
+-- The best of the pairs, one after another.
+use Rattle.std.proofs.Common.{◌≡◌, ℕ, ◌+◌, ◌-◌, ◌*◌, ◌<◌, ◌≤◌, ◌^◌, List, take, drop, arith, inl, inr}
+use Rattle.std.proofs.Math.Nat.{mul-pos, mul-le-mul_left}
 use Rattle.axle_train.specs.declared.axle.Axle.{Axle}
 use Rattle.axle_train.specs.Bounds.{IsTrain}
 use Rattle.axle_train.specs.Trains.{axle_at}
-use Rattle.axle_train.proofs.Places.{axle_fits}
 use Rattle.moment_peak.specs.declared.best.Candidate.{Candidate}
-use Rattle.moment_peak.specs.declared.run.Run.{Run}
-use Rattle.moment_peak.specs.Runs.{run_value, run_weight, vertex_value, IsRun}
-use Rattle.moment_peak.specs.Sweeps.{IsOnSpan, IsNext}
-use Rattle.moment_peak.specs.Candidates.{IsAtMost, IsAttained, IsBestAxle, IsBestBefore}
-use Rattle.moment_peak.proofs.Sweep.{one_run}
-use Rattle.moment_peak.proofs.BestBounds.{run_loaded, first_value, alone_some}
+use Rattle.moment_peak.specs.declared.pair.Pair.{Pair}
+use Rattle.moment_peak.specs.Candidates.{IsAttained, IsValueOf}
+use Rattle.moment_peak.specs.Centres.{IsNoBetter}
+use Rattle.moment_peak.specs.Pairs.{weight_to, IsTight, IsPair, IsThere, IsUpTo, IsFirstPair, IsNextPair}
+use Rattle.moment_peak.specs.Runs.{run_value, run_weight, run_moment, moment_in, IsRun}
+use Rattle.moment_peak.specs.Sweeps.{IsSummed, IsOnSpan}
+use Rattle.moment_peak.proofs.BestBounds.{run_loaded}
+use Rattle.moment_peak.proofs.OneCentre.{summed_loaded}
+use Rattle.moment_peak.proofs.Pointer.{centre_to}
+use Rattle.moment_peak.proofs.RunSums.{sum_none}
+use Rattle.moment_peak.proofs.Runs.{weight_of}
+use Rattle.moment_peak.proofs.Ties.{met_by_itself}
+use Rattle.moment_peak.proofs.Tight.{parts_of}
 
--- the best of a run's axles is attained
-pub attained_of : (span : ℕ) (axles : List Axle) (run : Run) (best : Candidate) → IsTrain axles → IsOnSpan span axles run → IsBestAxle span axles run (run.last + 1) best → best.value < 2 ^ 72 → 0 < best.value → IsAttained span axles best
-attained_of span axles run best train on b small some =
-    let is_run : IsRun axles best.axle run.first run.last = record { from = b.from; to = b.to; within = on.can_be.within } in
-    let loaded : 0 < run.sums.weight = rw on.sums.weight (run_loaded axles best.axle run.first run.last train.each is_run) in
-    record {
-      on = rw b.same on;
-      from = rw b.same b.from;
-      to = rw b.same b.to;
-      value = rw b.same (b.value (omega (arith, on.can_be.ordered)));
-      some = some;
-      loaded = rw b.same loaded;
-      small = small;
-    }
+pub on_summed : (span : ℕ) (axles : List Axle) (best : Candidate) → IsOnSpan span axles best.run → IsSummed axles best.run
+on_summed span axles best on = record { ordered = on.can_be.ordered; within = on.can_be.within; sums = on.sums }
 
--- where a candidate is at least the best of a run's axles, it is at least each of them
-pub met_by : (span : ℕ) (axles : List Axle) (run : Run) (best result : Candidate) (k : ℕ) → IsOnSpan span axles run → IsBestAxle span axles run (run.last + 1) best → IsAtMost best.value best.run.sums.weight result → IsRun axles k run.first run.last → IsAtMost (run_value span axles k run.first run.last) (run_weight axles run.first run.last) result
-met_by span axles run best result k on b met is_run =
-    let less = mul-le-mul_right result.run.sums.weight (b.greatest k is_run.from (omega (arith, is_run.to))) in
-    let weight : best.run.sums.weight ≡ run_weight axles run.first run.last = ap (λ (r : Run). r.sums.weight) b.same ∙ on.sums.weight in
-    let whole : best.value * result.run.sums.weight ≤ result.value * run_weight axles run.first run.last = rw weight at met in
-    omega (arith, less, whole)
+pub value_summed : (span : ℕ) (axles : List Axle) (pair : Pair) (found : Candidate) → IsPair span axles pair → IsValueOf span axles pair found → IsSummed axles found.run
+value_summed span axles pair found p v = rw v.run (record { ordered = p.on.can_be.ordered; within = p.on.can_be.within; sums = p.on.sums })
 
--- the next run joins those that are met
-pub best_before-more : (span : ℕ) (axles : List Axle) (run next : Run) (best found result : Candidate) → IsTrain axles → IsOnSpan span axles next → IsNext span axles run next → IsBestBefore span axles (run.first + run.last + 1) best → ((v w : ℕ) → IsAtMost v w best → IsAtMost v w result) → IsBestAxle span axles next (next.last + 1) found → IsAtMost found.value found.run.sums.weight result → IsBestBefore span axles (next.first + next.last + 1) result
-best_before-more span axles run next best found result train on is_next before kept b met = λ k first last is_run can below.
-    elim (cases_lt (first + last) (run.first + run.last + 1)) [
-      | inl earlier ↦ kept (run_value span axles k first last) (run_weight axles first last) (before k first last is_run can earlier)
-      | inr later ↦
-          let sum : next.first + next.last ≡ first + last = omega (arith, is_next first last can later) in
-          let one : next.first ≡ first = one_run span axles next.first next.last first last train on.can_be can sum in
-          let end : next.last ≡ last = omega arith in
-          rw (one, end) at (met_by span axles next found result k on b met (rw (one, end) is_run))
+-- a pair's candidate is attained
+pub attained_of : (span : ℕ) (axles : List Axle) (pair : Pair) (found : Candidate) → IsTrain axles → IsPair span axles pair → IsValueOf span axles pair found → found.value < 2 ^ 72 → 0 < found.value → IsAttained span axles found
+attained_of span axles pair found train p v small some = record {
+  on = rw v.run p.on;
+  from = rw (v.run, v.axle) p.from;
+  to = rw (v.run, v.axle) p.to;
+  value = rw (v.run, v.axle) v.value;
+  some = some;
+  loaded = summed_loaded axles found.run train (value_summed span axles pair found p v);
+  small = small;
+}
+
+-- the pair itself is no better than what is no worse than its candidate
+itself : (span : ℕ) (axles : List Axle) (pair : Pair) (found result : Candidate) (k first last : ℕ) → IsPair span axles pair → IsValueOf span axles pair found → IsNoBetter axles result found.value found.run.sums.weight found.axle found.run.first found.run.last → IsThere pair k first last → IsNoBetter axles result (run_value span axles k first last) (run_weight axles first last) k first last
+itself span axles pair found result k first last p v met there = rw (there.at_axle, there.at_first, there.at_last) (rw (v.value, v.axle, v.run, p.on.sums.weight) at met)
+
+-- the first pair
+pub best_start : (span : ℕ) (axles : List Axle) (pair : Pair) (found : Candidate) → IsTrain axles → IsPair span axles pair → IsValueOf span axles pair found → IsFirstPair span axles pair → (k first last : ℕ) → IsTight span axles k first last → IsUpTo pair k first last → IsNoBetter axles found (run_value span axles k first last) (run_weight axles first last) k first last
+best_start span axles pair found train p v is_first k first last t upto =
+    itself span axles pair found found k first last p v (met_by_itself axles found train (value_summed span axles pair found p v)) (is_first k first last t upto)
+
+-- the next pair joins those before
+pub best_more : (span : ℕ) (axles : List Axle) (pair next : Pair) (best found result : Candidate) → IsTrain axles → IsPair span axles next → IsNextPair span axles pair next → ((k first last : ℕ) → IsTight span axles k first last → IsUpTo pair k first last → IsNoBetter axles best (run_value span axles k first last) (run_weight axles first last) k first last) → ((v w k first last : ℕ) → 0 < w → IsNoBetter axles best v w k first last → IsNoBetter axles result v w k first last) → IsValueOf span axles next found → IsNoBetter axles result found.value found.run.sums.weight found.axle found.run.first found.run.last → (k first last : ℕ) → IsTight span axles k first last → IsUpTo next k first last → IsNoBetter axles result (run_value span axles k first last) (run_weight axles first last) k first last
+best_more span axles pair next best found result train p is_next before kept v met k first last t upto =
+    elim (is_next k first last t upto) [
+      | inl earlier ↦ kept (run_value span axles k first last) (run_weight axles first last) k first last (run_loaded axles k first last train.each t.is_run) (before k first last t earlier)
+      | inr there ↦ itself span axles next found result k first last p v met there
     ]
 
--- the first axle alone has a moment
-pub start_some : (span : ℕ) (axles : List Axle) (run : Run) (best : Candidate) → 1 ≤ span → IsTrain axles → run.first ≡ 0 → run.last ≡ 0 → IsBestAxle span axles run (run.last + 1) best → 0 < best.value
-start_some span axles run best some train first last b =
-    let any : 0 < length axles = omega (arith, train.many) in
-    let heavy : 1 ≤ (axle_at axles 0).weight = (axle_fits axles 0 train.each any).1 in
-    let alone = alone_some span (axle_at axles 0).weight heavy some in
-    let value : run_value span axles 0 0 0 ≡ vertex_value span (axle_at axles 0).weight 0 0 = first_value span axles any in
-    let least : run_value span axles 0 0 0 ≤ best.value = rw (first, last) at (b.greatest 0 (omega arith) (omega arith)) in
-    omega (arith, alone, value, least)
+square_some : (R L p S a F T V : ℕ) → 0 < R → S ≤ R * p → 2 * p < L → R * L ≤ a + S → F + T ≡ 0 → a * a ≤ V + 4 * (R * L) * F → 0 < V
+square_some R L p S a F T V loaded most half place none square =
+    let near : R * (2 * p + 1) ≤ R * L = mul-le-mul_left R (let next : 2 * p + 1 ≤ L = omega arith in next) in
+    let some : 0 < a = omega (arith, near, most, loaded, place) in
+    let no_front : F ≡ 0 = omega (arith, none) in
+    omega (arith, mul-pos some some, rw no_front at square)
 
--- it is the first run that can be on the span
-pub best_before-start : (span : ℕ) (axles : List Axle) (run : Run) (best : Candidate) → IsOnSpan span axles run → run.first ≡ 0 → run.last ≡ 0 → IsBestAxle span axles run (run.last + 1) best → IsBestBefore span axles (run.first + run.last + 1) best
-best_before-start span axles run best on first last b = λ k f l is_run can below.
-    let one : run.first ≡ f = omega arith in
-    let end : run.last ≡ l = omega arith in
-    let met : IsAtMost best.value best.run.sums.weight best = omega arith in
-    rw (one, end) at (met_by span axles run best best k on b met (rw (one, end) is_run))
+-- the first pair has a moment
+pub start_some : (span : ℕ) (axles : List Axle) (pair : Pair) (found : Candidate) → IsTrain axles → IsPair span axles pair → IsValueOf span axles pair found → pair.run.first ≡ 0 → pair.axle ≡ 0 → 2 * (axle_at axles pair.run.last).place < span → 0 < found.value
+start_some span axles pair found train p v first axle half =
+    let f = pair.run.first in
+    let l = pair.run.last in
+    let is_run : IsRun axles pair.axle f l = record { from = p.from; to = p.to; within = p.on.can_be.within } in
+    let s = parts_of span axles pair.axle f l train is_run p.on.can_be in
+    let same : pair.axle ≡ f = omega (arith, first, axle) in
+    let none : weight_to axles f pair.axle ≡ 0 = rw same (sum_none weight_of axles f) in
+    let off : s.front + moment_in (take (pair.axle - f) (drop f axles)) ≡ 0 = omega (arith, rw none at s.off) in
+    rw v.value (square_some (run_weight axles f l) span (axle_at axles l).place (run_moment axles f l) s.a s.front (moment_in (take (pair.axle - f) (drop f axles))) (run_value span axles pair.axle f l)
+    (run_loaded axles pair.axle f l train.each is_run) (centre_to axles f l train p.on.can_be.ordered p.on.can_be.within) half (omega (arith, s.place)) off s.most)

@@ -78,6 +78,13 @@ run_below q span r s place lead run e h b =
       ]
     ]
 
+-- the axles of a run are on the span, and they alone
+pub record IsAlone (q span : ℕ) (lead : ℤ) (axles : List Axle) (first last : ℕ) : Type 0 where
+  pub first_on : IsAboard q (q * span) lead (axle_at axles first)
+  pub last_on : IsAboard q (q * span) lead (axle_at axles last)
+  pub front_off : 0 < first → IsBefore q lead (axle_at axles (first - 1))
+  pub back_off : last + 1 < length axles → IsPast q (q * span) lead (axle_at axles (last + 1))
+
 -- an axle and a run with it that bound a placement's moment
 pub record SomeVertex (q span m x : ℕ) (lead : ℤ) (axles : List Axle) : Type 0 where
   pub k : ℕ
@@ -85,6 +92,7 @@ pub record SomeVertex (q span m x : ℕ) (lead : ℤ) (axles : List Axle) : Type
   pub last : ℕ
   pub is_run : IsRun axles k first last
   pub can_be : CanBeOnSpan span axles first last
+  pub alone : IsAlone q span lead axles first last
   pub stands : at q lead (axle_at axles k) ≡ pos x
   pub below : BelowVertex q span m x (axle_at axles k).place (run axles first last)
 
@@ -123,28 +131,40 @@ axle_past front middle back =
     let n : length front + length middle + 0 ≡ length front + (length middle + 0) = omega arith in
     rw n (get_or-append-add front (middle ++ back) (length middle + 0) no_axle) ∙ get_or-append-add middle back 0 no_axle
 
--- the run on the span is one that can be there
-pub can_be_there : (q span : ℕ) (lead : ℤ) (front middle back : List Axle) → 1 ≤ q → 0 < length middle → AllByRecursion (IsBefore q lead) front → AllByRecursion (IsAboard q (q * span) lead) middle → AllByRecursion (IsPast q (q * span) lead) back → CanBeOnSpan span (front ++ (middle ++ back)) (length front) (length front + length middle - 1)
-can_be_there q span lead front middle back some any before aboard past =
+-- the run on the span, whose neighbours are off it
+alone_there : (q span : ℕ) (lead : ℤ) (front middle back : List Axle) → 0 < length middle → AllByRecursion (IsBefore q lead) front → AllByRecursion (IsAboard q (q * span) lead) middle → AllByRecursion (IsPast q (q * span) lead) back → IsAlone q span lead (front ++ (middle ++ back)) (length front) (length front + length middle - 1)
+alone_there q span lead front middle back any before aboard past =
     let axles = front ++ (middle ++ back) in
     let whole : length axles ≡ length front + (length middle + length back) = omega (arith, length-append front (middle ++ back), length-append middle back) in
     let first : axle_at axles (length front) ≡ axle_at middle 0 = rw (add-zero (length front)) at (axle_in front middle back 0 any) in
     let n : length front + (length middle - 1) ≡ length front + length middle - 1 = omega arith in
     let last : axle_at axles (length front + length middle - 1) ≡ axle_at middle (length middle - 1) = rw n at (axle_in front middle back (length middle - 1) (omega arith)) in
     record {
-      ordered = omega arith;
-      within = omega (arith, whole);
-      fits = rw (first, last) (omega (arith, fits_from q span lead (axle_at middle 0) (axle_at middle (length middle - 1)) some (all_at (IsAboard q (q * span) lead) middle 0 aboard any) (all_at (IsAboard q (q * span) lead) middle (length middle - 1) aboard (omega arith))));
-      alone = λ in_front behind.
+      first_on = rw first (all_at (IsAboard q (q * span) lead) middle 0 aboard any);
+      last_on = rw last (all_at (IsAboard q (q * span) lead) middle (length middle - 1) aboard (omega arith));
+      front_off = λ in_front.
           let b : axle_at axles (length front - 1) ≡ axle_at front (length front - 1) = get_or-append front (middle ++ back) no_axle (length front - 1) (omega arith) in
+          rw b (all_at (IsBefore q lead) front (length front - 1) before (omega arith));
+      back_off = λ behind.
           let m : length front + length middle - 1 + 1 ≡ length front + length middle + 0 = omega arith in
           let p : axle_at axles (length front + length middle - 1 + 1) ≡ axle_at back 0 = rw m (axle_past front middle back) in
-          let far = alone_from q span lead (axle_at front (length front - 1)) (axle_at back 0) (all_at (IsBefore q lead) front (length front - 1) before (omega arith)) (all_at (IsPast q (q * span) lead) back 0 past (omega (arith, whole, behind))) in
-          rw (b, p) (omega (arith, far));
+          rw p (all_at (IsPast q (q * span) lead) back 0 past (omega (arith, whole, behind)));
     }
+
+-- it is one that can be there
+can_be_there : (q span : ℕ) (lead : ℤ) (axles : List Axle) (first last : ℕ) → 1 ≤ q → first ≤ last → last < length axles → IsAlone q span lead axles first last → CanBeOnSpan span axles first last
+can_be_there q span lead axles first last some ordered within w = record {
+  ordered = ordered;
+  within = within;
+  fits = omega (arith, fits_from q span lead (axle_at axles first) (axle_at axles last) some w.first_on w.last_on);
+  alone = λ in_front behind. omega (arith, alone_from q span lead (axle_at axles (first - 1)) (axle_at axles (last + 1)) (w.front_off in_front) (w.back_off behind));
+}
 
 some_vertex_at : (q span m x : ℕ) (lead : ℤ) (front middle back : List Axle) (k : ℕ) → 1 ≤ q → k < length middle → AllByRecursion (IsBefore q lead) front → AllByRecursion (IsAboard q (q * span) lead) middle → AllByRecursion (IsPast q (q * span) lead) back → at q lead (axle_at middle k) ≡ pos x → BelowVertex q span m x (axle_at middle k).place middle → SomeVertex q span m x lead (front ++ (middle ++ back))
 some_vertex_at q span m x lead front middle back k some h before aboard past stands below =
+    let axles = front ++ (middle ++ back) in
+    let within : length front + length middle - 1 < length axles = omega (arith, length-append front (middle ++ back), length-append middle back) in
+    let alone = alone_there q span lead front middle back (omega arith) before aboard past in
     record {
       k = length front + k;
       first = length front;
@@ -152,9 +172,10 @@ some_vertex_at q span m x lead front middle back k some h before aboard past sta
       is_run = record {
         from = omega arith;
         to = omega arith;
-        within = omega (arith, length-append front (middle ++ back), length-append middle back);
+        within = within;
       };
-      can_be = can_be_there q span lead front middle back some (omega arith) before aboard past;
+      can_be = can_be_there q span lead axles (length front) (length front + length middle - 1) some (omega arith) within alone;
+      alone = alone;
       stands = rw (axle_in front middle back k h) stands;
       below = rw (run_of front middle back (omega arith), axle_in front middle back k h) below;
     }

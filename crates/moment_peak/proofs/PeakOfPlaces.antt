@@ -68,7 +68,7 @@ among_moments axles span q section lead scale coarse on there =
     (Contains-map (f section) (leads span q) lead there))
 
 -- a peak that is below a value which it is not above has that value
-same_value : (R q m value n d L : ℕ) → 1 ≤ q → m * d ≡ n * (q * q * L) → 4 * R * m ≤ q * q * value → value * d ≤ n * (4 * R * L) → n * (4 * R * L) ≡ value * d
+pub same_value : (R q m value n d L : ℕ) → 1 ≤ q → m * d ≡ n * (q * q * L) → 4 * R * m ≤ q * q * value → value * d ≤ n * (4 * R * L) → n * (4 * R * L) ≡ value * d
 same_value R q m value n d L scale reached under most =
     let square : 0 < q * q = mul-pos scale scale in
     let other : n * (4 * R * L) ≤ value * d = le_of_mul-le-mul_right {m = n * (4 * R * L)} {n = value * d} {k = q * q} (omega (arith, mul-le-mul_right d under, ap (λ t. 4 * R * t) reached)) square in
@@ -88,7 +88,7 @@ module _ (axles : List Axle) (span : ℕ) (some : 1 ≤ span) (train : IsTrain a
       (among_leads span (2 * R) (lead_at (2 * R) place v) (omega (arith, ints, behind)) (omega (arith, ints, on)))
 
   -- what is no less than each of these moments is no less than a run's value
-  value_under : (n d : ℕ) → ((q section : ℕ) (lead : ℤ) → 1 ≤ q → section ≤ q * span → Contains (moments_of axles span) (moment_at axles span q section lead) → moment_sum (q * span) section (placed q lead axles) * d ≤ n * (q * q * span)) → (k first last : ℕ) → IsRun axles k first last → run_value span axles k first last * d ≤ n * (4 * run_weight axles first last * span)
+  pub value_under : (n d : ℕ) → ((q section : ℕ) (lead : ℤ) → 1 ≤ q → section ≤ q * span → Contains (moments_of axles span) (moment_at axles span q section lead) → moment_sum (q * span) section (placed q lead axles) * d ≤ n * (q * q * span)) → (k first last : ℕ) → IsRun axles k first last → run_value span axles k first last * d ≤ n * (4 * run_weight axles first last * span)
   value_under n d most k first last is_run =
       let R = run_weight axles first last in
       let value = run_value span axles k first last in

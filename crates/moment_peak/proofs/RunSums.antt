@@ -8,9 +8,10 @@ use Rattle.axle_train.specs.Bounds.{EachFits, IsTrain}
 use Rattle.axle_train.specs.Trains.{axle_at, no_axle}
 use Rattle.influence_line.proofs.Totals.{total, total_is}
 use Rattle.moment_peak.proofs.Runs.{weight_of, moment_of}
+use Rattle.moment_peak.specs.declared.run.Run.{Run}
 use Rattle.moment_peak.specs.declared.run.Sums.{Sums}
 use Rattle.moment_peak.specs.Runs.{weight_in, moment_in}
-use Rattle.moment_peak.specs.Sweeps.{AreSums}
+use Rattle.moment_peak.specs.Sweeps.{AreSums, IsSummed}
 
 -- one axle more at the end
 pub sum_more : (f : Axle → ℕ) (axles : List Axle) (first last : ℕ) → first ≤ last → last < length axles → sum_by f (take (last + 1 - first) (drop first axles)) ≡ sum_by f (take (last - first) (drop first axles)) + f (axle_at axles last)
@@ -62,3 +63,44 @@ sums_with axles first k before after axle train from within here b weight moment
 -- no axle
 pub sums_none : (axles : List Axle) (first : ℕ) (sums : Sums) → IsTrain axles → sums.weight ≡ 0 → sums.moment ≡ 0 → AreSums axles first first sums
 sums_none axles first sums train weight moment = are_sums axles first first sums train (omega (arith, weight, sum_none weight_of axles first)) (omega (arith, moment, sum_none moment_of axles first))
+
+-- a run with the axle behind it
+pub summed_with : (axles : List Axle) (run next : Run) (axle : Axle) → IsTrain axles → IsSummed axles run → run.last + 1 < length axles → axle ≡ axle_at axles (run.last + 1) → next.first ≡ run.first → next.last ≡ run.last + 1 → next.sums.weight ≡ run.sums.weight + axle.weight → next.sums.moment ≡ run.sums.moment + axle.weight * axle.place → IsSummed axles next
+summed_with axles run next axle train s more here first last weight moment = record {
+  ordered = omega (arith, s.ordered, first, last);
+  within = omega (arith, last);
+  sums = rw (first, last) (sums_with axles run.first (run.last + 1) run.sums next.sums axle train (omega (arith, s.ordered)) more here s.sums weight moment);
+}
+
+-- a run without its first axle
+pub summed_without_first : (axles : List Axle) (run next : Run) (axle : Axle) → IsTrain axles → IsSummed axles run → run.first < run.last → axle ≡ axle_at axles run.first → next.first ≡ run.first + 1 → next.last ≡ run.last → next.sums.weight + axle.weight ≡ run.sums.weight → next.sums.moment + axle.weight * axle.place ≡ run.sums.moment → IsSummed axles next
+summed_without_first axles run next axle train s longer here first last weight moment = record {
+  ordered = omega (arith, first, last);
+  within = omega (arith, last, s.within);
+  sums = rw (first, last) (are_sums axles (run.first + 1) (run.last + 1) next.sums train
+      (omega (arith, s.sums.weight, weight, ap weight_of here, sum_less weight_of axles run.first (run.last + 1) (omega arith) (omega (arith, s.within))))
+      (omega (arith, s.sums.moment, moment, ap moment_of here, sum_less moment_of axles run.first (run.last + 1) (omega arith) (omega (arith, s.within)))));
+}
+
+-- a run without its last axle
+pub summed_without_last : (axles : List Axle) (run next : Run) (axle : Axle) → IsTrain axles → IsSummed axles run → run.first < run.last → axle ≡ axle_at axles run.last → next.first ≡ run.first → next.last + 1 ≡ run.last → next.sums.weight + axle.weight ≡ run.sums.weight → next.sums.moment + axle.weight * axle.place ≡ run.sums.moment → IsSummed axles next
+summed_without_last axles run next axle train s longer here first last weight moment = record {
+  ordered = omega (arith, first, last);
+  within = omega (arith, last, s.within);
+  sums = rw (first, last) (are_sums axles run.first run.last next.sums train
+      (omega (arith, s.sums.weight, weight, ap weight_of here, sum_more weight_of axles run.first run.last s.ordered s.within))
+      (omega (arith, s.sums.moment, moment, ap moment_of here, sum_more moment_of axles run.first run.last s.ordered s.within)));
+}
+
+-- its first axle and its last are part of its sums
+pub first_part : (axles : List Axle) (run : Run) (axle : Axle) → IsSummed axles run → axle ≡ axle_at axles run.first → (axle.weight ≤ run.sums.weight) × (axle.weight * axle.place ≤ run.sums.moment)
+first_part axles run axle s here = (
+  omega (arith, s.sums.weight, ap weight_of here, sum_less weight_of axles run.first (run.last + 1) (omega (arith, s.ordered)) (omega (arith, s.within))),
+  omega (arith, s.sums.moment, ap moment_of here, sum_less moment_of axles run.first (run.last + 1) (omega (arith, s.ordered)) (omega (arith, s.within))),
+)
+
+pub last_part : (axles : List Axle) (run : Run) (axle : Axle) → IsSummed axles run → axle ≡ axle_at axles run.last → (axle.weight ≤ run.sums.weight) × (axle.weight * axle.place ≤ run.sums.moment)
+last_part axles run axle s here = (
+  omega (arith, s.sums.weight, ap weight_of here, sum_more weight_of axles run.first run.last s.ordered s.within),
+  omega (arith, s.sums.moment, ap moment_of here, sum_more moment_of axles run.first run.last s.ordered s.within),
+)

@@ -1,44 +1,35 @@
 -- A vertex with the centre of weight of a run at the peak has the peak's moment.
-use Rattle.std.proofs.Common.{◌≡◌, ℕ, ◌+◌, ◌-◌, ◌*◌, ◌<◌, ◌≤◌, List, arith, refl, ap, sym, ◌∙◌, ℤ, pos, ◌+ℤ◌, ◌*ℤ◌, inl, inr}
-use Rattle.std.proofs.lemmas.Bool.{cases_lt}
+use Rattle.std.proofs.Common.{◌≡◌, ℕ, ◌+◌, ◌-◌, ◌*◌, ◌<◌, ◌≤◌, List, arith, refl, ap, sym, ◌∙◌, ℤ, pos, ◌+ℤ◌, ◌*ℤ◌}
 use Rattle.std.proofs.Math.Nat.{le_of_mul-le-mul_left, eq_of_mul-eq-mul_right, mul-pos, mul-le-mul_right, le_antisymm}
 use Rattle.std.proofs.lemmas.Int.{ints}
 use borrow.Author.Differences.{up, down}
 use Rattle.axle_train.specs.declared.axle.Axle.{Axle}
 use Rattle.axle_train.specs.Bounds.{IsTrain}
 use Rattle.axle_train.specs.Trains.{axle_at}
+use Rattle.influence_line.specs.Peaks.{IsPeakMoment, IsTrainPlaced}
 use Rattle.influence_line.specs.Placed.{moment_sum, placed}
 use Rattle.influence_line.specs.declared.placing.Place.{Place}
 use Rattle.moment_peak.specs.declared.best.Candidate.{Candidate}
-use Rattle.moment_peak.specs.declared.first.Vertex.{Vertex}
+use Rattle.moment_peak.specs.declared.run.Run.{Run}
+use Rattle.moment_peak.specs.Candidates.{IsAttained}
+use Rattle.moment_peak.specs.Centres.{HaveOneCentre, IsWidest}
 use Rattle.moment_peak.specs.Runs.{run, front_in, back_in, run_weight, run_moment, run_value, IsRun}
-use Rattle.moment_peak.specs.Candidates.{IsAttained, IsBest}
 use Rattle.moment_peak.specs.Vertices.{IsVertex, Reaches}
-use Rattle.moment_peak.specs.Firsts.{IsPeakRun, HaveOneCentre, IsAtPeak}
-use Rattle.influence_line.proofs.Values.{cancel_den}
-use Rattle.moment_peak.proofs.BestBounds.{lead_at, vertex_reaches, greatest, inside_left, run_loaded}
+use Rattle.moment_peak.proofs.BestBounds.{lead_at, vertex_reaches, inside_left, run_loaded}
 use Rattle.moment_peak.proofs.BySums.{balance_in}
 use Rattle.moment_peak.proofs.Finer.{moment_scaled}
 use Rattle.moment_peak.proofs.Small.{under_from}
+use Rattle.moment_peak.proofs.Tight.{section_from}
 
 -- one placement at two scales has one moment
 pub same_place : (g q n r h q' n' r' : ℕ) (lead lead' : ℤ) (axles : List Axle) → 0 < g → 0 < h → r ≤ n → r' ≤ n' → g * q ≡ h * q' → g * n ≡ h * n' → g * r ≡ h * r' → pos g *ℤ lead ≡ pos h *ℤ lead' → g * g * moment_sum n r (placed q lead axles) ≡ h * h * moment_sum n' r' (placed q' lead' axles)
 same_place g q n r h q' n' r' lead lead' axles g_some h_some on on' eq en er el =
     sym (moment_scaled g q n r lead axles g_some on) ∙ rw (eq, en, er, el) (moment_scaled h q' n' r' lead' axles h_some on')
 
--- at its vertex a run at the peak has the peak's moment
-exact_from : (R L w bv V M : ℕ) → M * (4 * w * L) ≤ bv * (2 * R * (2 * R) * L) → V * R ≤ M → V * w ≡ bv * R → M * (4 * w * L) ≡ bv * (2 * R * (2 * R) * L)
-exact_from R L w bv V M above below high =
-    le_antisymm above (omega (arith, mul-le-mul_right (4 * w * L) below, ap (λ t. 4 * R * L * t) high))
-
-pub value_some : (V w bv R : ℕ) → V * w ≡ bv * R → 0 < bv → 0 < R → 0 < V
-value_some V w bv R e h k =
-    elim (cases_lt 0 V) [
-      | inl some ↦ some
-      | inr none ↦
-          let zero : V ≡ 0 = omega arith in
-          absurd (omega (arith, rw zero at e, mul-pos h k))
-    ]
+-- at its vertex a run whose value is the peak has the peak's moment
+exact_from : (R L V M num den : ℕ) → M * den ≤ num * (2 * R * (2 * R) * L) → V * R ≤ M → num * (4 * R * L) ≡ V * den → M * den ≡ num * (2 * R * (2 * R) * L)
+exact_from R L V M num den above below exact =
+    le_antisymm above (omega (arith, mul-le-mul_right den below, ap (λ t. R * t) exact))
 
 -- where the axle of a run at the peak stands, and its moment there
 pub record PeakPlace (span : ℕ) (axles : List Axle) (num den k first last : ℕ) : Type 0 where
@@ -47,29 +38,23 @@ pub record PeakPlace (span : ℕ) (axles : List Axle) (num den k first last : �
   pub on : v ≤ 2 * run_weight axles first last * span
   pub reaches : moment_sum (2 * run_weight axles first last * span) v (placed (2 * run_weight axles first last) (lead_at (2 * run_weight axles first last) (axle_at axles k).place v) axles) * den ≡ num * (2 * run_weight axles first last * (2 * run_weight axles first last) * span)
 
-pub section_from : (R span D E S p v : ℕ) → v + E ≡ R * span + D → D + S ≡ E + R * p → v + S ≡ R * span + R * p
-section_from R span D E S p v h k = omega arith
-
-pub peak_place : (span : ℕ) (axles : List Axle) (best : Candidate) (num den k first last : ℕ) → 0 < span → IsTrain axles → IsAttained span axles best → IsBest span axles best → num * (4 * best.run.sums.weight * span) ≡ best.value * den → IsPeakRun span axles best k first last → PeakPlace span axles num den k first last
-peak_place span axles best num den k first last some train a is_best e peak =
+pub peak_place : (span : ℕ) (axles : List Axle) (num den k first last : ℕ) → IsTrain axles → ((q section : ℕ) (lead : ℤ) → 1 ≤ q → section ≤ q * span → moment_sum (q * span) section (placed q lead axles) * den ≤ num * (q * q * span)) → IsRun axles k first last → num * (4 * run_weight axles first last * span) ≡ run_value span axles k first last * den → 0 < run_value span axles k first last → PeakPlace span axles num den k first last
+peak_place span axles num den k first last train most is_run exact value =
     let p = (axle_at axles k).place in
     let R = run_weight axles first last in
     let D = front_in p (run axles first last) in
     let E = back_in p (run axles first last) in
     let v = R * span + D - E in
-    let loaded : 0 < R = run_loaded axles k first last train.each peak.is_run in
-    let value : 0 < run_value span axles k first last = value_some (run_value span axles k first last) best.run.sums.weight best.value R peak.as_high a.some loaded in
+    let loaded : 0 < R = run_loaded axles k first last train.each is_run in
     let left = inside_left span R D E value in
     let reaches = vertex_reaches span axles k first last value in
-    let above = greatest span axles best train is_best (2 * R) v (lead_at (2 * R) p v) (omega arith) reaches.0 in
+    let above = most (2 * R) v (lead_at (2 * R) p v) (omega arith) reaches.0 in
     let m = moment_sum (2 * R * span) v (placed (2 * R) (lead_at (2 * R) p v) axles) in
-    let exact = exact_from R span best.run.sums.weight best.value (run_value span axles k first last) m above reaches.1 peak.as_high in
-    let four : 0 < 4 = omega arith in
     record {
       v = v;
       section = section_from R span D E (run_moment axles first last) p v (omega arith) (balance_in p (run axles first last));
       on = reaches.0;
-      reaches = cancel_den m best.value (4 * best.run.sums.weight * span) num den (2 * R * (2 * R) * span) e (mul-pos (mul-pos four a.loaded) some) exact;
+      reaches = exact_from R span (run_value span axles k first last) m num den above reaches.1 exact;
     }
 
 -- the place of a vertex with that centre is the same place, at another scale
@@ -117,18 +102,36 @@ vertex_at_peak span axles num den k first last first' last' at train peak_run pl
       reaches = rw scale (cancel_scale g R _ _ num den span some loaded moments place.reaches);
     }
 
--- the vertex that the program found, by the sums that it carries
-pub found_at : (span : ℕ) (axles : List Axle) (best : Candidate) (num den : ℕ) (found : Vertex) (axle : Axle) (at : Place) → 0 < span → IsTrain axles → IsAttained span axles best → IsBest span axles best → num * (4 * best.run.sums.weight * span) ≡ best.value * den → IsAtPeak span axles best found → axle ≡ axle_at axles found.axle → at.q ≡ 2 * found.sums.weight → at.section + found.sums.moment ≡ found.sums.weight * span + found.sums.weight * axle.place → at.lead +ℤ pos (found.sums.moment + found.sums.weight * axle.place) ≡ pos (found.sums.weight * span) → VertexAtPeak span axles num den found.axle found.first found.last at
-found_at span axles best num den found axle at some train a is_best e there here scale section lead =
-    let place = peak_place span axles best num den found.axle there.first there.last some train a is_best e there.peak in
-    vertex_at_peak span axles num den found.axle found.first found.last there.first there.last at train there.peak.is_run place there.is_run there.centre
-    (rw there.sums.weight at scale)
-    (rw (here, there.sums.moment, there.sums.weight) at section)
-    (rw (here, there.sums.moment, there.sums.weight) at lead)
+-- the best run is at the peak
+pub best_place : (span : ℕ) (axles : List Axle) (best : Candidate) (num den : ℕ) → IsTrain axles → IsAttained span axles best → IsPeakMoment (IsTrainPlaced axles) span num den → num * (4 * best.run.sums.weight * span) ≡ best.value * den → PeakPlace span axles num den best.axle best.run.first best.run.last
+best_place span axles best num den train a peak e =
+    let is_run : IsRun axles best.axle best.run.first best.run.last = record { from = a.from; to = a.to; within = a.on.can_be.within } in
+    peak_place span axles num den best.axle best.run.first best.run.last train (λ q section lead scale on. peak.greatest q section (placed q lead axles) scale on (lead, refl)) is_run (rw (a.value, a.on.sums.weight) at e) (rw a.value at a.some)
 
--- its centre of weight is no further behind the axle than the span
-pub found_left : (span : ℕ) (axles : List Axle) (best : Candidate) (found : Vertex) (axle : Axle) → 0 < span → IsTrain axles → IsAttained span axles best → IsBest span axles best → IsAtPeak span axles best found → axle ≡ axle_at axles found.axle → found.sums.moment ≤ found.sums.weight * span + found.sums.weight * axle.place
-found_left span axles best found axle some train a is_best there here =
-    let place = peak_place span axles best best.value (4 * best.run.sums.weight * span) found.axle there.first there.last some train a is_best refl there.peak in
-    let loaded = run_loaded axles found.axle there.first there.last train.each there.peak.is_run in
-    rw (here, there.sums.moment, there.sums.weight) (left_from (run_weight axles there.first there.last) (run_weight axles found.first found.last) span (run_moment axles found.first found.last) (axle_at axles found.axle).place (run_moment axles there.first there.last) place.v loaded place.section there.centre)
+-- the vertex that the program found, by the sums that it carries: its run is the widest with the centre of the best
+module _ (span : ℕ) (axles : List Axle) (best : Candidate) (num den : ℕ) (found : Run) (axle : Axle) (train : IsTrain axles) (a : IsAttained span axles best) (peak : IsPeakMoment (IsTrainPlaced axles) span num den) (e : num * (4 * best.run.sums.weight * span) ≡ best.value * den) (w : IsWidest axles best.run.sums found) (here : axle ≡ axle_at axles best.axle) where
+  best_is_run : IsRun axles best.axle best.run.first best.run.last
+  best_is_run = record { from = a.from; to = a.to; within = a.on.can_be.within }
+
+  found_centre : HaveOneCentre axles found.first found.last best.run.first best.run.last
+  found_centre = rw (a.on.sums.weight, a.on.sums.moment) at w.same_centre
+
+  -- each axle of the best run is in it
+  pub found_is_run : IsRun axles best.axle found.first found.last
+  found_is_run =
+      let inside = w.inside best.run.first best.run.last a.on.can_be.ordered a.on.can_be.within (rw (a.on.sums.weight, a.on.sums.moment) refl) in
+      record { from = omega (arith, inside.0, a.from); to = omega (arith, inside.1, a.to); within = w.summed.within }
+
+  pub found_at : (at : Place) → at.q ≡ 2 * found.sums.weight → at.section + found.sums.moment ≡ found.sums.weight * span + found.sums.weight * axle.place → at.lead +ℤ pos (found.sums.moment + found.sums.weight * axle.place) ≡ pos (found.sums.weight * span) → VertexAtPeak span axles num den best.axle found.first found.last at
+  found_at at scale section lead =
+      vertex_at_peak span axles num den best.axle found.first found.last best.run.first best.run.last at train best_is_run (best_place span axles best num den train a peak e) found_is_run found_centre
+      (rw w.summed.sums.weight at scale)
+      (rw (here, w.summed.sums.moment, w.summed.sums.weight) at section)
+      (rw (here, w.summed.sums.moment, w.summed.sums.weight) at lead)
+
+  -- its centre of weight is no further behind the axle than the span
+  pub found_left : found.sums.moment ≤ found.sums.weight * span + found.sums.weight * axle.place
+  found_left =
+      let place = best_place span axles best num den train a peak e in
+      let loaded = run_loaded axles best.axle best.run.first best.run.last train.each best_is_run in
+      rw (here, w.summed.sums.moment, w.summed.sums.weight) (left_from (run_weight axles best.run.first best.run.last) (run_weight axles found.first found.last) span (run_moment axles found.first found.last) (axle_at axles best.axle).place (run_moment axles best.run.first best.run.last) place.v loaded place.section found_centre)

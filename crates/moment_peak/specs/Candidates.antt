@@ -1,8 +1,8 @@
--- The best run so far.
+-- The greatest moment of a run under one of its axles, and the best of them.
 use Rattle.std.specs.Prelude.{◌≡◌, ℕ, ◌+◌, ◌-◌, ◌*◌, ◌<◌, ◌≤◌, ◌^◌, List}
 use Rattle.axle_train.specs.declared.axle.Axle.{Axle}
 use Rattle.moment_peak.specs.declared.best.Candidate.{Candidate}
-use Rattle.moment_peak.specs.declared.run.Run.{Run}
+use Rattle.moment_peak.specs.declared.pair.Pair.{Pair}
 use Rattle.moment_peak.specs.declared.run.Sums.{Sums}
 use Rattle.moment_peak.specs.Runs.{run_value, run_weight, IsRun, CanBeOnSpan}
 use Rattle.moment_peak.specs.Sweeps.{IsOnSpan}
@@ -12,15 +12,11 @@ abbrev pub value_by_sums : ℕ → Sums → Sums → ℕ → ℕ
 value_by_sums span run before place =
     (run.weight * (span + place) - run.moment) * (run.weight * (span + place) - run.moment) - 4 * (run.weight * span) * (before.weight * place - before.moment)
 
--- the first of the axles of a run before end under which its value is greatest
-pub record IsBestAxle (span : ℕ) (axles : List Axle) (run : Run) (end : ℕ) (best : Candidate) : Type 0 where
-  pub same : best.run ≡ run
-  pub from : run.first ≤ best.axle
-  pub to : best.axle ≤ run.last
-  pub none : end ≡ run.first → (best.value ≡ 0) × (best.axle ≡ run.first)
-  pub value : run.first < end → best.value ≡ run_value span axles best.axle run.first run.last
-  pub greatest : (k : ℕ) → run.first ≤ k → k < end → run_value span axles k run.first run.last ≤ best.value
-  pub first : (k : ℕ) → run.first ≤ k → k < best.axle → run_value span axles k run.first run.last < best.value
+-- the candidate is the value of a pair's axle and run
+pub record IsValueOf (span : ℕ) (axles : List Axle) (pair : Pair) (candidate : Candidate) : Type 0 where
+  pub axle : candidate.axle ≡ pair.axle
+  pub run : candidate.run ≡ pair.run
+  pub value : candidate.value ≡ run_value span axles pair.axle pair.run.first pair.run.last
 
 -- the candidate is the value of an axle and a run that can be on the span
 pub record IsAttained (span : ℕ) (axles : List Axle) (best : Candidate) : Type 0 where
@@ -35,10 +31,6 @@ pub record IsAttained (span : ℕ) (axles : List Axle) (best : Candidate) : Type
 -- its value over its weight is no more than the candidate's
 abbrev pub IsAtMost : ℕ → ℕ → Candidate → Type 0
 IsAtMost value weight best = value * best.run.sums.weight ≤ best.value * weight
-
--- so is each axle and run that can be on the span, where the sum of its first and last is below end
-abbrev pub IsBestBefore : ℕ → List Axle → ℕ → Candidate → Type 0
-IsBestBefore span axles end best = (k first last : ℕ) → IsRun axles k first last → CanBeOnSpan span axles first last → first + last < end → IsAtMost (run_value span axles k first last) (run_weight axles first last) best
 
 -- all axles and runs that can be on the span are at most the candidate
 abbrev pub IsBest : ℕ → List Axle → Candidate → Type 0

@@ -1,4 +1,4 @@
--- The runs that can be the axles on the span, one after another, with the sums of each.
+-- Runs that can be the axles on the span, and their sums.
 use Rattle.std.specs.Prelude.{◌≡◌, ℕ, ◌+◌, ◌-◌, ◌<◌, ◌≤◌, List, length, take, drop}
 use Rattle.axle_train.specs.declared.axle.Axle.{Axle}
 use Rattle.axle_train.specs.Trains.{spread}
@@ -13,18 +13,16 @@ pub record AreSums (axles : List Axle) (first end : ℕ) (sums : Sums) : Type 0 
   pub light : sums.weight ≤ 2000000
   pub near : sums.moment ≤ 6000000000
 
+-- a run of a train's axles, and its sums
+pub record IsSummed (axles : List Axle) (run : Run) : Type 0 where
+  pub ordered : run.first ≤ run.last
+  pub within : run.last < length axles
+  pub sums : AreSums axles run.first (run.last + 1) run.sums
+
 -- a run that can be exactly the axles on the span, and its sums
 pub record IsOnSpan (span : ℕ) (axles : List Axle) (run : Run) : Type 0 where
   pub can_be : CanBeOnSpan span axles run.first run.last
   pub sums : AreSums axles run.first (run.last + 1) run.sums
-
--- next is the first after run of the runs that can be exactly the axles on the span: of two of them the later one begins or ends later
-abbrev pub IsNext : ℕ → List Axle → Run → Run → Type 0
-IsNext span axles run next = (first last : ℕ) → CanBeOnSpan span axles first last → run.first + run.last + 1 ≤ first + last → next.first + next.last ≤ first + last
-
--- run is the last of these runs
-abbrev pub IsLast : ℕ → List Axle → Run → Type 0
-IsLast span axles run = (first last : ℕ) → CanBeOnSpan span axles first last → first + last ≤ run.first + run.last
 
 -- the axle behind the run, if there is one, does not fit on the span with it
 abbrev pub IsFull : ℕ → List Axle → Run → Type 0

@@ -1,13 +1,14 @@
-// The run with the greatest moment, among those that can be exactly the axles on the span.
+// The axle and the run with the greatest moment.
 
-ghost use Rattle.std.specs.Prelude.{◌≡◌, ℕ, ◌+◌, ◌-◌, ◌*◌, ◌<◌, ◌≤◌, ◌^◌, ◌⊎◌, length};
+ghost use Rattle.std.specs.Prelude.{◌≡◌, ℕ, ◌+◌, ◌-◌, ◌*◌, ◌<◌, ◌≤◌, ◌^◌, ◌⊎◌};
 ghost use Rattle.axle_train.specs.Bounds.{IsTrain};
-ghost use Rattle.axle_train.specs.Trains.{axle_at};
-ghost use Rattle.moment_peak.specs.Candidates.{IsAtMost, IsAttained, IsBest, IsBestAxle, value_by_sums};
-ghost use Rattle.moment_peak.specs.Runs.{run_value, run_weight, IsRun};
-ghost use Rattle.moment_peak.specs.Sweeps.{AreSums, IsOnSpan};
+ghost use Rattle.moment_peak.specs.Candidates.{IsAttained, IsBest, value_by_sums};
+ghost use Rattle.moment_peak.specs.Centres.{IsEarlier, IsFirstBest, IsNoBetter};
+ghost use Rattle.moment_peak.specs.Sweeps.{IsSummed};
 
+use crate::pair::Pair;
 use crate::run::{Run, Sums};
+use crate::widest::widest;
 use axle_train::Train;
 
 /// An axle and a run: the run's greatest moment under that axle is `value` pounds times inches over four times the run's
@@ -19,72 +20,70 @@ pub struct Candidate {
     pub run: Run,
 }
 
-/// The axle and the run with the greatest moment.
-pub fn best_run(train: &Train, span: u32) -> Candidate
+/// The axle and the run with the greatest moment. Of several it is the least axle, and the run whose widest one with the
+/// same centre of weight comes first.
+pub fn best_pair(train: &Train, span: u32) -> Candidate
     requires some { 1 ≤ span }
     requires long { span ≤ 6000 }
     ensures attained { IsAttained span train.now result }
     ensures best { IsBest span train.now result }
+    ensures first { IsFirstBest span train.now result }
     ensures bounds { IsTrain train.now }
 {
-    let mut run = Run::start(train);
-    let mut best = best_axle(train, span, run);
-    'runs: while let Some(next) = run.next(train, span) {
-        run = next;
-        best = better(best, best_axle(train, span, run));
+    let mut pair = Pair::start(train, span);
+    let mut best = pair.candidate(train, span);
+    'pairs: while let Some(next) = pair.next(train, span) {
+        pair = next;
+        best = better(train, best, pair.candidate(train, span));
     }
     best
 }
 
-/// The first of a run's axles under which its moment is greatest.
-pub fn best_axle(train: &Train, span: u32, run: Run) -> Candidate
-    requires long { span ≤ 6000 }
-    requires on { IsOnSpan span train.now run }
-    ensures best { IsBestAxle span train.now run (run.last + 1) result }
-    ensures small { result.value < 2 ^ 72 }
-{
-    let len = train.len();
-    let last = run.last;
-    prove!(last < len);
-    let mut best = Candidate {
-        value: 0,
-        axle: run.first,
-        run,
-    };
-    let mut before = Sums::none();
-    for k in run.first..last + 1 {
-        let axle = train.axle(k);
-        let value = vertex_value(span, run.sums, before, axle.place);
-        if value > best.value {
-            best = Candidate {
-                value,
-                axle: k,
-                run,
-            };
-        }
-        before = before.with(axle);
-    }
-    best
-}
-
-/// The better of two candidates, `best` where they are equal.
-fn better(best: Candidate, next: Candidate) -> Candidate
-    requires loaded { 0 < best.run.sums.weight }
+/// The better of two candidates. Where both are as good it is the one with the lesser axle, which is that of `best`, and
+/// where they have one axle the earlier one.
+fn better(train: &Train, best: Candidate, next: Candidate) -> Candidate
+    requires runs { IsSummed train.now best.run × IsSummed train.now next.run }
     requires small { (best.value < 2 ^ 72) × (next.value < 2 ^ 72) }
-    requires light { (best.run.sums.weight ≤ 2000000) × (next.run.sums.weight ≤ 2000000) }
-    ensures kept { (v w : ℕ) → IsAtMost v w best → IsAtMost v w result }
-    ensures met { IsAtMost next.value next.run.sums.weight result }
-    ensures either { (result ≡ best) ⊎ ((result ≡ next) × (0 < next.value)) }
+    requires order { best.axle ≤ next.axle }
+    ensures kept { (v w k first last : ℕ) → 0 < w → IsNoBetter train.now best v w k first last → IsNoBetter train.now result v w k first last }
+    ensures met { IsNoBetter train.now result next.value next.run.sums.weight next.axle next.run.first next.run.last }
+    ensures either { (result ≡ best) ⊎ (result ≡ next) }
 {
+    let _len = train.len();
     let left = next.value * u128::from(best.run.sums.weight);
     let right = best.value * u128::from(next.run.sums.weight);
-    if left > right { next } else { best }
+    if left > right {
+        return next;
+    }
+    if left == right {
+        if best.axle == next.axle {
+            return earlier(train, best, next);
+        }
+    }
+    best
+}
+
+/// The one of two candidates whose widest run with the same centre of weight comes first, in the order of first and last.
+#[inline(never)]
+fn earlier(train: &Train, best: Candidate, next: Candidate) -> Candidate
+    requires runs { IsSummed train.now best.run × IsSummed train.now next.run }
+    ensures { ((result ≡ best) × IsEarlier train.now best next) ⊎ ((result ≡ next) × IsEarlier train.now next best) }
+{
+    let old = widest(train, best.run);
+    let new = widest(train, next.run);
+    if old.first < new.first {
+        return best;
+    }
+    if new.first < old.first {
+        return next;
+    }
+    if old.last <= new.last { best } else { next }
 }
 
 /// The value of a run at one of its axles, by its sums, those of its axles before that one, and that one's place. At its
 /// vertex the axle stands `at` units of 1 / (2 * weight) inch from the left support. The moment there is the left reaction
 /// times that distance, at * at / (4 * weight * span), less `front`, what the axles in front take off.
-fn vertex_value(span: u32, run: Sums, before: Sums, place: u32) -> u128
+pub fn vertex_value(span: u32, run: Sums, before: Sums, place: u32) -> u128
     requires long { span ≤ 6000 }
     requires near { place ≤ 3000 }
     requires light { run.weight ≤ 2000000 }

@@ -1,9 +1,9 @@
-// The runs that can be exactly the axles on the span, one after another.
+// Runs of neighbouring axles, with their sums.
 
-ghost use Rattle.std.specs.Prelude.{◌≡◌, ℕ, ◌+◌, ◌*◌, ◌-◌, ◌<◌, ◌≤◌, length, IfNone, IfSome};
+ghost use Rattle.std.specs.Prelude.{◌≡◌, ◌+◌, ◌*◌, ◌<◌, ◌≤◌, length};
 ghost use Rattle.axle_train.specs.Bounds.{IsTrain};
-ghost use Rattle.axle_train.specs.Trains.{axle_at, spread};
-ghost use Rattle.moment_peak.specs.Sweeps.{AreSums, IsFull, IsLast, IsNext, IsOnSpan};
+ghost use Rattle.axle_train.specs.Trains.{axle_at};
+ghost use Rattle.moment_peak.specs.Sweeps.{IsSummed};
 
 use axle_train::{Axle, Train};
 
@@ -69,53 +69,64 @@ pub struct Run {
 }
 
 impl Run {
-    /// The first run that can be exactly the axles on a span, whatever its length: the first axle alone.
-    pub fn start(train: &Train) -> Run
-        ensures on { (span : ℕ) → IsOnSpan span train.now result }
-        ensures start { (result.first ≡ 0) × (result.last ≡ 0) }
+    /// The axles in front of the middle of a span at whose start the first one stands.
+    pub fn start(train: &Train, span: u32) -> Run
+        requires some { 1 ≤ span }
+        ensures summed { IsSummed train.now result }
+        ensures first { result.first ≡ 0 }
+        ensures half { 2 * (axle_at train.now result.last).place < span }
+        ensures full { result.last + 1 < length train.now → span ≤ 2 * (axle_at train.now (result.last + 1)).place }
         ensures bounds { IsTrain train.now }
     {
         let len = train.len();
-        prove!(0 < len);
-        Run {
-            first: 0,
-            last: 0,
-            sums: Sums::none().with(train.axle(0)),
+        let mut run = Run::alone(train, 0);
+        for last in 1..len {
+            if 2 * train.axle(last).place >= span {
+                return run;
+            }
+            run = run.with_next(train);
         }
+        run
     }
 
-    /// The next run that can be exactly the axles on the span, as the train rolls over it. A step takes one axle more at
-    /// the end, one less at the front, or both, so a train of n axles has at most 2n - 1 such runs.
-    pub fn next(self, train: &Train, span: u32) -> Option<Run>
-        requires on { IsOnSpan span train.now self }
-        ensures on { IfSome result (λ next. IsOnSpan span train.now next) }
-        ensures later { IfSome result (λ next. self.first + self.last < next.first + next.last) }
-        ensures next { IfSome result (λ next. IsNext span train.now self next) }
-        ensures last { IfNone result (IsLast span train.now self) }
+    /// All axles of a train.
+    pub fn whole(train: &Train) -> Run
+        ensures summed { IsSummed train.now result }
+        ensures first { result.first ≡ 0 }
+        ensures last { result.last + 1 ≡ length train.now }
     {
         let len = train.len();
-        let end = self.last + 1;
-        if end < len {
-            if train.spread(self.first, end) <= span {
-                return Some(self.with_next(train, span));
-            }
-            if self.first == self.last {
-                return Some(Run::alone(train, span, end));
-            }
-        } else if self.first == self.last {
-            return None;
+        let mut run = Run::alone(train, 0);
+        'axles: while run.last + 1 < len {
+            run = run.with_next(train);
         }
-        Some(self.without_first(train, span))
+        run
     }
 
-    /// The run with the axle behind it, where that one fits on the span too.
-    fn with_next(self, train: &Train, span: u32) -> Run
-        requires on { IsOnSpan span train.now self }
-        requires within { self.last + 1 < length train.now }
-        requires fits { spread train.now self.first (self.last + 1) ≤ span }
-        ensures on { IsOnSpan span train.now result }
+    /// One axle alone.
+    pub fn alone(train: &Train, i: usize) -> Run
+        requires within { i < length train.now }
+        ensures summed { IsSummed train.now result }
+        ensures first { result.first ≡ i }
+        ensures last { result.last ≡ i }
+    {
+        let _len = train.len();
+        Run {
+            first: i,
+            last: i,
+            sums: Sums::none().with(train.axle(i)),
+        }
+    }
+
+    /// The run with the axle behind it.
+    pub fn with_next(self, train: &Train) -> Run
+        requires summed { IsSummed train.now self }
+        requires more { self.last + 1 < length train.now }
+        ensures summed { IsSummed train.now result }
         ensures first { result.first ≡ self.first }
         ensures last { result.last ≡ self.last + 1 }
+        ensures weight { result.sums.weight ≡ self.sums.weight + (axle_at train.now (self.last + 1)).weight }
+        ensures moment { result.sums.moment ≡ self.sums.moment + (axle_at train.now (self.last + 1)).weight * (axle_at train.now (self.last + 1)).place }
     {
         let len = train.len();
         let last = self.last + 1;
@@ -127,16 +138,17 @@ impl Run {
         }
     }
 
-    /// The run without its first axle, where none fits on the span behind it.
-    fn without_first(self, train: &Train, span: u32) -> Run
-        requires on { IsOnSpan span train.now self }
+    /// The run without its first axle.
+    pub fn without_first(self, train: &Train) -> Run
+        requires summed { IsSummed train.now self }
         requires longer { self.first < self.last }
-        requires full { IsFull span train.now self }
-        ensures on { IsOnSpan span train.now result }
+        ensures summed { IsSummed train.now result }
         ensures first { result.first ≡ self.first + 1 }
         ensures last { result.last ≡ self.last }
+        ensures weight { result.sums.weight + (axle_at train.now self.first).weight ≡ self.sums.weight }
+        ensures moment { result.sums.moment + (axle_at train.now self.first).weight * (axle_at train.now self.first).place ≡ self.sums.moment }
     {
-        let len = train.len();
+        let _len = train.len();
         Run {
             first: self.first + 1,
             last: self.last,
@@ -144,20 +156,19 @@ impl Run {
         }
     }
 
-    /// The run of one axle alone, where the one before it is further from it than the span.
-    fn alone(train: &Train, span: u32, i: usize) -> Run
-        requires some { 0 < i }
-        requires within { i < length train.now }
-        requires far { span < spread train.now (i - 1) i }
-        ensures on { IsOnSpan span train.now result }
-        ensures first { result.first ≡ i }
-        ensures last { result.last ≡ i }
+    /// The run without its last axle.
+    pub fn without_last(self, train: &Train) -> Run
+        requires summed { IsSummed train.now self }
+        requires longer { self.first < self.last }
+        ensures summed { IsSummed train.now result }
+        ensures first { result.first ≡ self.first }
+        ensures last { result.last + 1 ≡ self.last }
     {
         let _len = train.len();
         Run {
-            first: i,
-            last: i,
-            sums: Sums::none().with(train.axle(i)),
+            first: self.first,
+            last: self.last - 1,
+            sums: self.sums.without(train.axle(self.last)),
         }
     }
 }
