@@ -59,32 +59,33 @@ def repeated(journal, size):
     return b"\n".join([lines[0], *(entries * times), last, b""])
 
 
-def built(folder):
-    """Builds the program, over the crates of the repository, and gives its path."""
+def built(folder, name, top, main, proofs):
+    """Builds a program of this name over a crate of the repository and all that are below it, and gives its path."""
     home = os.path.dirname(os.path.dirname(os.path.realpath(__file__)))
     with open(home + "/crates.txt") as file:
         crates = file.read()
-    uses = {name: line.split() for name, line in re.findall(r"^(\w+)[^:#\n]*:(.*)", crates, re.M)}
-    below = {"journal_reader", *uses["journal_reader"]}
-    while not below >= {name for crate in below for name in uses.get(crate, [])}:
-        below |= {name for crate in below for name in uses.get(crate, [])}
+    uses = {crate: line.split() for crate, line in re.findall(r"^(\w+)[^:#\n]*:(.*)", crates, re.M)}
+    below = {top}
+    while not below >= {used for crate in below for used in uses.get(crate, [])}:
+        below |= {used for crate in below for used in uses.get(crate, [])}
     with open(folder + "/crates.txt", "w") as file:
-        for name in below & set(uses):
-            file.write("%s: %s\n" % (name, " ".join(uses[name])))
-        file.write("time_journal: %s\n" % " ".join(below))
-    for name in below & set(uses):
+        for crate in below & set(uses):
+            file.write("%s: %s\n" % (crate, " ".join(uses[crate])))
+        file.write("%s: %s\n" % (name, " ".join(below)))
+    for crate in below & set(uses):
         for part in ("src", "specs", "proofs", "out/rlib"):
-            of = "/crates/%s/%s" % (name, part)
+            of = "/crates/%s/%s" % (crate, part)
             if os.path.isdir(home + of):
                 shutil.copytree(home + of, folder + of)
-    crate = folder + "/crates/time_journal"
-    os.makedirs(crate + "/src")
-    with open(crate + "/src/main.rt", "w") as file:
-        file.write(MAIN)
+    crate = folder + "/crates/" + name
+    for path, text in [("src/main.rt", main)] + [("proofs/" + path, text) for path, text in proofs.items()]:
+        os.makedirs(os.path.dirname(crate + "/" + path), exist_ok=True)
+        with open(crate + "/" + path, "w") as file:
+            file.write(text)
     ran = subprocess.run(
         ["rt", "run"], cwd=crate, stdin=subprocess.DEVNULL, stdout=subprocess.PIPE, stderr=subprocess.STDOUT
     )
-    program = crate + "/out/time_journal"
+    program = crate + "/out/" + name
     if not os.path.isfile(program):
         sys.exit(ran.stdout.decode() + "the program is not built")
     return program
@@ -102,12 +103,17 @@ def best(program, text):
     return fastest
 
 
-if not 2 <= len(sys.argv) <= 3:
-    sys.exit(__doc__)
-with open(sys.argv[1], "rb") as file:
-    TEXT = repeated(file.read(), int(sys.argv[2] if len(sys.argv) > 2 else 10) * 1000000)
-with tempfile.TemporaryDirectory() as folder:
-    READING, PRINTING = best(built(folder), TEXT)
-print("%d bytes in %d lines" % (len(TEXT), TEXT.count(b"\n")))
-print("printing: %.0f MB/s" % (len(TEXT) * 1000 / PRINTING))
-print("reading: %.0f MB/s" % (len(TEXT) * 1000 / READING))
+def main():
+    if not 2 <= len(sys.argv) <= 3:
+        sys.exit(__doc__)
+    with open(sys.argv[1], "rb") as file:
+        text = repeated(file.read(), int(sys.argv[2] if len(sys.argv) > 2 else 10) * 1000000)
+    with tempfile.TemporaryDirectory() as folder:
+        reading, printing = best(built(folder, "time_journal", "journal_reader", MAIN, {}), text)
+    print("%d bytes in %d lines" % (len(text), text.count(b"\n")))
+    print("printing: %.0f MB/s" % (len(text) * 1000 / printing))
+    print("reading: %.0f MB/s" % (len(text) * 1000 / reading))
+
+
+if __name__ == "__main__":
+    main()

@@ -113,7 +113,7 @@ fn spanned(rt: &impl Abort, alloc: Global) -> Network {
 }
 
 // A train of 32 axles of 62,500 lb, 31 of them 96 in apart.
-fn long_train(rt: &impl Abort, alloc: Global) -> Result<Train, Fail> {
+pub(crate) fn long_train(rt: &impl Abort, alloc: Global) -> Result<Train, Fail> {
     let mut axles = Vec::new(alloc);
     for i in 0..31u32 {
         axles.push(Axle {
@@ -183,7 +183,7 @@ fn submitted_copy(alloc: Global, found: &Found) -> Result<Call, Fail>
 }
 
 // Submits so many copies of what was found, each of which issues a permit.
-fn submit_copies(
+pub(crate) fn submit_copies(
     rt: &impl Abort,
     alloc: Global,
     office: &mut Office,

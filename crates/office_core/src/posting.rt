@@ -1,12 +1,13 @@
 // The answer to a posting.
 
-ghost use Rattle.std.specs.Prelude.{◌≡◌, ◌+◌, ◌<◌, ◌≤◌, ◌++◌, ◌∷◌, [], length, IfOk, OnOk, OnErr, true, if◌then◌else◌};
+ghost use Rattle.std.specs.Prelude.{◌≡◌, ◌+◌, ◌<◌, ◌≤◌, ◌++◌, ◌∷◌, [], length, IfOk, OnOk, OnErr, None, is_some, replicate, true, if◌then◌else◌};
 ghost use Rattle.restriction_log.specs.Changes.{takes};
 ghost use Rattle.restriction_log.specs.States.{AreOf};
+ghost use Rattle.trip_analysis.specs.Findings.{limit_for};
 ghost use Rattle.permit_book.specs.Permits.{is_issued, is_live, marked, permit_of};
 ghost use Rattle.permit_book.specs.declared.permit.Mark.TheVariants as mark;
 ghost use Rattle.office_core.specs.declared.entry.Call.TheVariants as call;
-ghost use Rattle.office_core.specs.Recalls.{AreLive, marked_all};
+ghost use Rattle.office_core.specs.Recalls.{AreLive, AreVerdicts, marked_all};
 ghost use Rattle.office_core.specs.Users.{IsIndexed, IsUser, users_of};
 ghost use Rattle.office_core.specs.Machine.{HasRoom};
 ghost use Rattle.office_core.specs.Registers.{Costs, IsNext, MeetElsewhere, Posts, is_recalled_in, posting_reply, recalls_of};
@@ -21,7 +22,7 @@ use recall_index::Index;
 use restriction_log::{Change, PostRefusal, State, touched};
 use road_graph::Numbers;
 use snapshot_store::Next;
-use std::alloc::AllocError;
+use std::alloc::{AllocError, Global};
 use std::sync::ledger::Ledger;
 use trip_analysis::failing_limit_by;
 
@@ -83,8 +84,12 @@ impl Register {
     {
         let mut numbers = Vec::new(self.alloc);
         let users = self.users(segment);
+        if users.is_empty() {
+            return Ok(numbers);
+        }
+        let mut verdicts = none_judged(self.alloc, self.base().fleet().len())?;
         for i in 0..users.len() {
-            let is_one = self.is_recalled(state, segment, users[i], steps);
+            let is_one = self.is_recalled(state, segment, users[i], &mut verdicts, steps);
             push_if(&mut numbers, is_one, users[i])?;
         }
         Ok(numbers)
@@ -96,20 +101,56 @@ impl Register {
         state: &State,
         segment: u32,
         number: u32,
+        verdicts: &mut Vec<Option<bool>>,
         steps: &mut Steps<L>,
     ) -> bool
         requires user { IsUser self.now.machine.permits segment number }
         requires of_base { AreOf self.now.base.roads state.now }
         requires there { segment < length self.now.base.roads.segments }
         requires elsewhere { MeetElsewhere self.now state.now segment }
+        requires verdicts { AreVerdicts self.now.base state.now segment verdicts.old.items }
         ensures value { result ≡ is_recalled_in self.now state.now number }
+        ensures verdicts { AreVerdicts self.now.base state.now segment verdicts.new.items }
         ensures steps { steps.new ≤ steps.old + 1 }
     {
         let permit = &self.permits()[number as usize - 1];
-        let (truck, study) = (permit.truck, self.study(permit.truck));
         permit.status(self.today()).is_in_force()
-            && failing_limit_by(self.base(), state, truck, study, segment, steps).is_some()
+            && self.fails(state, segment, permit.truck, verdicts, steps)
     }
+
+    // Whether a state fails a truck at a segment. A truck is judged but once, however many permits it has there.
+    fn fails<L: Ledger>(
+        &self,
+        state: &State,
+        segment: u32,
+        truck: u32,
+        verdicts: &mut Vec<Option<bool>>,
+        steps: &mut Steps<L>,
+    ) -> bool
+        requires truck { truck < length self.now.base.fleet }
+        requires of_base { AreOf self.now.base.roads state.now }
+        requires there { segment < length self.now.base.roads.segments }
+        requires verdicts { AreVerdicts self.now.base state.now segment verdicts.old.items }
+        ensures value { result ≡ is_some (limit_for self.now.base state.now truck segment) }
+        ensures verdicts { AreVerdicts self.now.base state.now segment verdicts.new.items }
+        ensures steps { steps.new ≤ steps.old + 1 }
+    {
+        if let Some(fails) = verdicts[truck as usize] {
+            return fails;
+        }
+        let study = self.study(truck);
+        let limit = failing_limit_by(self.base(), state, truck, study, segment, steps);
+        let fails = limit.is_some();
+        verdicts[truck as usize] = Some(fails);
+        fails
+    }
+}
+
+// That no truck of so many is judged yet.
+fn none_judged(alloc: Global, trucks: usize) -> Result<Vec<Option<bool>>, AllocError>
+    ensures { IfOk result (λ verdicts. verdicts.items ≡ replicate trucks None) }
+{
+    vec![in alloc; None; trucks]
 }
 
 // A number more, where it is one of those.
