@@ -14,11 +14,13 @@
 mod deciding;
 mod gate;
 mod laws;
+mod room;
 mod worker;
 
 pub use deciding::{Docket, carry_out, decide};
 pub use gate::{Gate, OpenGate};
 pub use laws::{runs_are_one, scripts_are_short, unfoldings_are_short};
+pub use room::most_entries;
 pub use worker::{Outcome, Worker, run_actors};
 
 #[cfg(test)]

@@ -6,7 +6,7 @@ ghost use Rattle.analyst_pool.specs.Interrupted.{Interrupts};
 ghost use Rattle.office_core.specs.Commands.{MayCarryOut};
 ghost use Rattle.analyst_pool.specs.Ran.{IsReady};
 
-use crate::{Docket, Gate, OpenGate, Outcome, Worker, carry_out, decide, run_actors};
+use crate::{Docket, Gate, OpenGate, Outcome, Worker, carry_out, decide, most_entries, run_actors};
 use axle_train::{Axle, Train};
 use clearance_rules::Load;
 use office_core::{Command, Looked, Office, OfficeCalls, OneSeat, Reply};
@@ -407,6 +407,13 @@ fn decides_an_application(rt: HostRuntime) -> Result<(), Fail> {
     let issued = "Issued { number: 1, version: 0, route: Numbers { list: [0] } }";
     assert_eq!(rt; format!(in alloc; "{reply:?}")?.as_str(), issued);
     assert_eq!(rt; office.history().len(), 2);
+    Ok(())
+}
+
+#[test]
+fn has_room_for_what_commands_make(rt: HostRuntime) -> Result<(), Fail> {
+    assert_eq!(&rt; most_entries(&[CLOSED, OPEN]), 34);
+    assert_eq!(&rt; most_entries::<Change>(&[]), 1);
     Ok(())
 }
 

@@ -1,14 +1,14 @@
 // An office whose actors carry out the commands of a day file.
 
-ghost use Rattle.std.specs.Prelude.{◌≡◌, ◌*◌, ◌≤◌, length, IfOk, OnOk};
+ghost use Rattle.std.specs.Prelude.{◌≡◌, IfOk, OnOk};
 ghost use Rattle.road_graph.specs.Roads.{IsRoads};
 ghost use Rattle.day_text.specs.Laws.{IsDayFile};
 ghost use Rattle.day_run.specs.Served.{IsServed, LoneActorsAreOne};
 
 use crate::ended::Ended;
 use crate::workers::work_all;
-use analyst_pool::Gate;
-use day_text::{DayFile, Order};
+use analyst_pool::{Gate, most_entries};
+use day_text::DayFile;
 use office_core::Office;
 use office_desk::Desk;
 use office_io::NoMemory;
@@ -42,16 +42,6 @@ pub fn serve<R: Threads + Wait + AllocGlobal + Sync, G: Gate + Sync>(
         Ended::NoMemory => Err(NoMemory),
         Ended::Full => unreachable!(),
     }
-}
-
-// Room for the 17 entries that a command makes at the most; at least one.
-fn most_entries(orders: &[Order]) -> u32
-    requires { length orders.now ≤ 4096 }
-    ensures some { 1 ≤ result }
-    ensures enough { 17 * length orders.now ≤ result }
-    ensures bounded { result ≤ 1000000 }
-{
-    (17 * orders.len() as u32).max(1)
 }
 
 /// A law, and no code: over roads within their bounds, no two histories serve a day of at most one actor.

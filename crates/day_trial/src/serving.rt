@@ -1,13 +1,13 @@
 // An office that carries out the commands of a day file.
 
-ghost use Rattle.std.specs.Prelude.{◌≡◌, ◌+◌, ◌*◌, ◌<◌, ◌≤◌, [], length, max, All, IfOk, IfSome, OnOk};
+ghost use Rattle.std.specs.Prelude.{◌≡◌, ◌+◌, ◌*◌, ◌<◌, ◌≤◌, [], length, All, IfOk, IfSome, OnOk};
 ghost use Rattle.road_graph.specs.Roads.{IsRoads};
 ghost use Rattle.office_core.specs.Commands.{MayCarryOut};
 ghost use Rattle.day_text.specs.Laws.{IsDayFile};
 ghost use Rattle.day_trial.specs.Serial.{IsSerial};
 ghost use Rattle.day_trial.specs.Serving.{FollowsOffice, HasCarriedOut, HasServed, WasCarriedOut};
 
-use analyst_pool::{Docket, OpenGate, carry_out, scripts_are_short, unfoldings_are_short};
+use analyst_pool::{Docket, OpenGate, carry_out, most_entries, scripts_are_short, unfoldings_are_short};
 use day_text::{DayFile, Order};
 use office_core::{Office, OneSeat, Reply};
 use office_io::NoMemory;
@@ -32,17 +32,6 @@ pub fn serve_in_order(alloc: Global, file: DayFile) -> Result<Office, NoMemory>
     let _history = office.history();
     scripts_are_short();
     Ok(office)
-}
-
-// Room for the 17 entries that a command makes at the most; at least one.
-fn most_entries(orders: &[Order]) -> u32
-    requires { length orders.now ≤ 4096 }
-    ensures some { 1 ≤ result }
-    ensures enough { 17 * length orders.now ≤ result }
-    ensures bounded { result ≤ 1000000 }
-    ensures value { result ≡ max 1 (17 * length orders.now) }
-{
-    (17 * orders.len() as u32).max(1)
 }
 
 // Carries out each command in turn.

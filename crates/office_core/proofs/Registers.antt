@@ -1,7 +1,9 @@
 -- What an office keeps stays in order.
-use Rattle.std.proofs.Common.{◌≡◌, ◌∷◌, ◌++◌, [], List, ℕ, ◌+◌, ◌-◌, ◌<◌, ◌≤◌, true, length, drop, filter, ap, sym, subst, refl, ◌∙◌, Option, None, is_some, Result, Ok, Err, IfOk, arith}
+use Rattle.std.proofs.Common.{◌≡◌, ◌∷◌, ◌++◌, [], List, ℕ, ◌+◌, ◌-◌, ◌<◌, ◌≤◌, true, length, drop, filter, ap, sym, subst, refl, ◌∙◌, Bool, Option, None, Some, is_some, Result, Ok, Err, IfOk, arith, replicate}
 use Rattle.std.proofs.lemmas.Bool.Decides.{nat_tests}
-use Rattle.std.proofs.lemmas.List.{append-nil, drop_all}
+use Rattle.std.specs.Prelude.{slice_get}
+use Rattle.std.proofs.lemmas.List.{append-nil, drop_all, get_or-replicate, length-replicate}
+use Rattle.std.proofs.lemmas.Option.{get_or_from_slice_get, slice_get_within}
 use Rattle.std.specs.List.{All}
 use Rattle.std.specs.Arc.{arc_value}
 use Rattle.road_graph.specs.Roads.{Roads}
@@ -11,7 +13,6 @@ use Rattle.snapshot_store.specs.Stores.{IsNextOf, NextState, Stored, version_of,
 use Rattle.permit_book.specs.declared.permit.Permit.{Permit}
 use Rattle.permit_book.specs.declared.permit.Mark.TheVariants as mark
 use Rattle.permit_book.specs.Permits.{AreNumbered, in_force, is_live, no_permit, permit_of}
-use Rattle.clearance_rules.specs.declared.limit.Limit.{Limit}
 use Rattle.recall_index.specs.Uses.{IsAdded, IsRemoved, Lists, using_in}
 use Rattle.trip_analysis.specs.declared.application.Application.{Application}
 use Rattle.trip_analysis.specs.declared.finding.What.{What}
@@ -23,7 +24,7 @@ use Rattle.trip_analysis.specs.Followers.{GoesOn}
 use Rattle.trip_analysis.proofs.Following.{goes_on_posted}
 use Rattle.office_core.specs.declared.register.Register.TheInside.{Inside}
 use Rattle.office_core.specs.declared.entry.Reply.TheVariants as reply
-use Rattle.office_core.specs.Recalls.{AreLive, IsRanged, marked_all, recalled_by, recalled_now}
+use Rattle.office_core.specs.Recalls.{AreLive, AreVerdicts, IsRanged, marked_all, recalled_by, recalled_now}
 use Rattle.office_core.specs.Users.{IsIndexed, IsUser, users_of}
 use Rattle.office_core.specs.Machine.{IsGood, Machine, machine_at, posted_reply, state_with, with_posting}
 use Rattle.office_core.specs.Registers.{HeldAt, IsNext, IsRegister, MeetElsewhere, RegisterParts, is_recalled_in, parts_of, posting_reply, recalls_of, state_now, stored_now}
@@ -59,15 +60,28 @@ recalled_whole i p state segment k numbers users seen inv elsewhere are done is 
     sym (append-nil numbers) ∙ (ap (λ l. numbers ++ filter (is_recalled_in p state) l) (sym (drop_all k users done))
     ∙ (is ∙ (ap (filter (is_recalled_in p state)) are ∙ recalled_among p.base state segment p.machine.day p.machine.permits numbered elsewhere)))
 
--- of a permit in force that uses the segment its test there decides
-pub recalled_so : (p : RegisterParts) (state : InForce) (segment n : ℕ) (q : Permit) (l : Option Limit) → IsUser p.machine.permits segment n → MeetElsewhere p state segment → q ≡ permit_of p.machine.permits n
-    → in_force p.machine.day q ≡ true → l ≡ limit_for p.base state q.truck segment → is_some l ≡ is_recalled_in p state n
-recalled_so p state segment n q l user elsewhere same on found =
+-- of a permit in force that uses the segment it decides whether the state fails its truck there
+pub recalled_so : (p : RegisterParts) (state : InForce) (segment n : ℕ) (q : Permit) → IsUser p.machine.permits segment n → MeetElsewhere p state segment → q ≡ permit_of p.machine.permits n
+    → in_force p.machine.day q ≡ true → is_some (limit_for p.base state q.truck segment) ≡ is_recalled_in p state n
+recalled_so p state segment n q user elsewhere same on =
     let issued = user.issued in
     let low : n - 1 < length p.machine.permits = grind (arith, nat_tests, issued) in
     let own = permit_of p.machine.permits n in
-    recalled_if_failing p.base state segment p.machine.day own l (elsewhere (n - 1) no_permit low) user.uses
-    (ap (in_force p.machine.day) (sym same) ∙ on) (found ∙ ap (λ (r : Permit). limit_for p.base state r.truck segment) same)
+    recalled_if_failing p.base state segment p.machine.day own (limit_for p.base state q.truck segment) (elsewhere (n - 1) no_permit low) user.uses
+    (ap (in_force p.machine.day) (sym same) ∙ on) (ap (λ (r : Permit). limit_for p.base state r.truck segment) same)
+
+no_verdict : (trucks t : ℕ) (b : Bool) (empty : Option Bool) → empty ≡ None → slice_get (replicate trucks empty) t ≡ Some (Some b) → ⊥
+no_verdict trucks t b empty none at =
+    let low : t < trucks = omega (arith, slice_get_within (replicate trucks empty) t (Some b) at, length-replicate trucks empty) in
+    let is : empty ≡ Some b = sym (get_or-replicate trucks t empty empty low) ∙ get_or_from_slice_get (replicate trucks empty) t (Some b) empty at in
+    cc
+
+-- where no truck is judged yet, the verdicts are as they should be
+pub none_judged : (base : BaseLists) (state : InForce) (segment trucks : ℕ) → trucks ≡ length base.fleet → AreVerdicts base state segment (replicate trucks None)
+none_judged base state segment trucks all = record {
+  many = length-replicate trucks None ∙ all;
+  each = λ t b at. absurd (no_verdict trucks t b None refl at);
+}
 
 -- the answer to a posting is made of what it would make
 pub posted_as : (p : RegisterParts) (next : NextState) (change : Change) (numbers : List ℕ) (v : ℕ) → IsNext p next → next.change ≡ change → numbers ≡ recalls_of p next.state → v ≡ length p.machine.postings + 1 → reply.Posted v numbers ≡ posting_reply p change

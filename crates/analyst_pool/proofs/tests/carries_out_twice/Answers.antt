@@ -1,5 +1,4 @@
 use Rattle.std.proofs.Common.{[], ◌∷◌, ◌++◌}
-use denote.Param.Send.{sendable}
 use Rattle.std.proofs.lemmas.List.Elements.{All-get_or, All-nil, All-push, All-same}
 use Rattle.trip_analysis.specs.Bases.{BaseLists}
 use Rattle.office_core.specs.declared.seat.OneSeat.{OneSeat}
@@ -13,7 +12,7 @@ abbrev Ready : BaseLists → Worker OneSeat → Type 0
 Ready base = IsReady base calls_of
 
 pub run_actors-requires-send-C : goal.run_actors-requires-send-C
-run_actors-requires-send-C g c κs within = search (sendable, seat_send)
+run_actors-requires-send-C g c κs within = seat_send _
 
 pub run_actors-requires-clause-ready : goal.run_actors-requires-clause-ready
 run_actors-requires-clause-ready g c κs within i d inside = let ready = Ready c.deref-about.result.now in

@@ -1,5 +1,21 @@
-use Rattle.office_core.proofs.Registers.{recalled_whole}
+use Rattle.std.proofs.Common.{arith, ap, sym, ◌∙◌, ◌++◌, ◌≡◌, filter, length}
+use Rattle.trip_analysis.specs.Bases.{BaseLists}
+use Rattle.office_core.specs.Registers.{is_recalled_in}
+use Rattle.office_core.proofs.Registers.{none_judged, recalled_whole}
 use Rattle.office_core.proofs.register.Register.recalled_by.Goals as goal
+
+pub returns-then-is_empty-clause-numbers : goal.returns-then-is_empty-clause-numbers
+returns-then-is_empty-clause-numbers g c =
+    recalled_whole c.self.inside c.args.self.now c.args.state.now c.args.segment 0 c.new-numbers.result.items c.users-users.result.now c.self.view_is c.self.invariant c.requires.elsewhere c.users-users.ensures.value
+    (grind (arith, c.is_empty.ensures, c.if-is_empty.ensures, c.if-is_empty.true)) (ap (λ l. l ++ filter (is_recalled_in c.args.self.now c.args.state.now) c.users-users.result.now) c.new-numbers.ensures.items)
+
+pub loop-i-init : goal.loop-i-init
+loop-i-init g c = record {
+  numbers = ap (λ l. l ++ filter (is_recalled_in c.args.self.now c.args.state.now) c.users-users.result.now) c.new-numbers.ensures.items;
+  verdicts = rw c.in_ok-verdicts.ensures
+      (none_judged c.args.self.now.base c.args.state.now c.args.segment (length c.fleet.result.now) (ap (λ l. length l) c.fleet.ensures.value ∙ ap (λ (b : BaseLists). length b.fleet) c.base.ensures.value));
+  steps = omega arith;
+}
 
 pub returns-clause-numbers : goal.returns-clause-numbers
 returns-clause-numbers g c =

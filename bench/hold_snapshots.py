@@ -1,7 +1,7 @@
 #!/usr/bin/env python3
 """Measures the memory of snapshots that are held at once.
 
-    tools/hold_snapshots.py
+    bench/hold_snapshots.py
 
 A program in a temporary folder, over a copy of the crates that it needs, makes the greatest network (4,096 nodes, 16,384
 segments, 2,048 spans), posts 4,096 changes one after another, each on another segment or span, and keeps a snapshot of each
