@@ -16,9 +16,9 @@ use Rattle.trip_analysis.specs.Applications.{Sound, IsAskedWalk}
 use Rattle.trip_analysis.specs.Findings.{limit_for, is_passable, first_on, first_or, first_meeting, leaving, leaves, IsFinding, IsFoundBy, asked_finding, flags_of, is_in, what_of, needs_none}
 use Rattle.trip_analysis.specs.declared.finding.What.TheVariants as what
 use Rattle.route_search.specs.Walks.{IsWalk, every, flagged, CanReach, AreReached}
-use Rattle.route_search.specs.declared.found.Found.{Found}
-use Rattle.route_search.specs.declared.found.Found.TheVariants as found
-use Rattle.route_search.specs.Founds.{IsFound as IsSearched}
+use Rattle.route_search.specs.declared.shortest.Shortest.{Shortest}
+use Rattle.route_search.specs.declared.shortest.Shortest.TheVariants as shortest
+use Rattle.route_search.specs.Founds.{IsShortest as IsSearched}
 use Rattle.trip_analysis.proofs.Found.{among_from_is_in, is_in_from_among}
 use Rattle.trip_analysis.proofs.Meanings.{asked_meet, routes_are_first}
 use Rattle.route_search.specs.Laws.{Leaves}
@@ -33,10 +33,10 @@ found_by base state a w off h = elim (cases_Bool (needs_none base a.truck)) [ in
 pub is_needed : (base : BaseLists) (state : InForce) (a : Application) → needs_none base a.truck ≡ false → IsFinding base state a what.NotNeeded → ⊥
 is_needed base state a needed h = by a.asked (h.found needed)
   where
-    searched : (f : Found) → what.NotNeeded ≡ what_of f → ⊥
-    searched (found.Route segments feet potential) same = cc
-    searched (found.Cut reached) same = cc
-    searched (found.NoRoad reached) same = cc
+    searched : (f : Shortest) → what.NotNeeded ≡ what_of f → ⊥
+    searched (shortest.Route segments feet) same = cc
+    searched (shortest.Cut reached) same = cc
+    searched (shortest.NoRoad reached) same = cc
 
     asked_by : (route : List ℕ) (f : Option Failing) → what.NotNeeded ≡ asked_finding f route → ⊥
     asked_by route (Some f) is = cc
@@ -89,10 +89,10 @@ first_limit base state truck f (s ∷ rest) e = by (limit_for base state truck s
 pub fails_asked : (base : BaseLists) (state : InForce) (a : Application) (s : ℕ) → IsFinding base state a (what.Fails s) → IsOnAsked a s
 fails_asked base state a s h = by a.asked refl (found_by base state a (what.Fails s) (λ e. cc) h)
   where
-    searched : (f : Found) → what.Fails s ≡ what_of f → IsOnAsked a s
-    searched (found.Route segments feet potential) same = cc
-    searched (found.Cut reached) same = cc
-    searched (found.NoRoad reached) same = cc
+    searched : (f : Shortest) → what.Fails s ≡ what_of f → IsOnAsked a s
+    searched (shortest.Route segments feet) same = cc
+    searched (shortest.Cut reached) same = cc
+    searched (shortest.NoRoad reached) same = cc
 
     asked_by : (route : List ℕ) (f : Option Failing) → a.asked ≡ Some route → first_on base state a.truck route ≡ f → what.Fails s ≡ asked_finding f route → IsOnAsked a s
     asked_by route (Some f) asked e is = let same : f.segment ≡ s = cc in record { route = route; asked = asked; on = ap (λ (n : ℕ). is_in n route) (sym same) ∙ first_in base state a.truck f route e }
@@ -121,11 +121,11 @@ pub record IsCutOf (a : Application) (nodes : List ℕ) : Type 0 where
 pub cut_of : (base : BaseLists) (state : InForce) (a : Application) (nodes : List ℕ) → IsFinding base state a (what.Cut nodes) → IsCutOf a nodes
 cut_of base state a nodes h = by a.asked refl (found_by base state a (what.Cut nodes) (λ e. cc) h)
   where
-    searched : a.asked ≡ None → (f : Found) → IsSearched base.roads (flags_of base state a.truck) a.from a.to f → what.Cut nodes ≡ what_of f → IsCutOf a nodes
-    searched none (found.Route segments feet potential) is same = cc
-    searched none (found.Cut reached) is same = let e : reached ≡ nodes = cc in
+    searched : a.asked ≡ None → (f : Shortest) → IsSearched base.roads (flags_of base state a.truck) a.from a.to f → what.Cut nodes ≡ what_of f → IsCutOf a nodes
+    searched none (shortest.Route segments feet) is same = cc
+    searched none (shortest.Cut reached) is same = let e : reached ≡ nodes = cc in
         record { asked = none; apart = subst (λ (l : List ℕ). Separates l a.from a.to) e (reached_separate base.roads.segments (flagged (flags_of base state a.truck)) a.from a.to reached is.nodes is.none) }
-    searched none (found.NoRoad reached) is same = let e : reached ≡ nodes = cc in
+    searched none (shortest.NoRoad reached) is same = let e : reached ≡ nodes = cc in
         record { asked = none; apart = subst (λ (l : List ℕ). Separates l a.from a.to) e (reached_separate base.roads.segments every a.from a.to reached is.nodes is.none) }
 
     asked_by : (route : List ℕ) (f : Option Failing) → what.Cut nodes ≡ asked_finding f route → IsCutOf a nodes
@@ -140,10 +140,10 @@ cut_of base state a nodes h = by a.asked refl (found_by base state a (what.Cut n
 pub road_or : (base : BaseLists) (state : InForce) (a : Application) (nodes : List ℕ) → IsFinding base state a (what.Cut nodes) → CanReach base.roads.segments every a.from a.to ⊎ (CanReach base.roads.segments every a.from a.to → ⊥)
 road_or base state a nodes h = by a.asked refl (found_by base state a (what.Cut nodes) (λ e. cc) h)
   where
-    searched : (f : Found) → IsSearched base.roads (flags_of base state a.truck) a.from a.to f → what.Cut nodes ≡ what_of f → CanReach base.roads.segments every a.from a.to ⊎ (CanReach base.roads.segments every a.from a.to → ⊥)
-    searched (found.Route segments feet potential) is same = cc
-    searched (found.Cut reached) is same = inl is.walk
-    searched (found.NoRoad reached) is same = inr is.none
+    searched : (f : Shortest) → IsSearched base.roads (flags_of base state a.truck) a.from a.to f → what.Cut nodes ≡ what_of f → CanReach base.roads.segments every a.from a.to ⊎ (CanReach base.roads.segments every a.from a.to → ⊥)
+    searched (shortest.Route segments feet) is same = cc
+    searched (shortest.Cut reached) is same = inl is.walk
+    searched (shortest.NoRoad reached) is same = inr is.none
 
     asked_by : (route : List ℕ) (f : Option Failing) → what.Cut nodes ≡ asked_finding f route → CanReach base.roads.segments every a.from a.to ⊎ (CanReach base.roads.segments every a.from a.to → ⊥)
     asked_by route (Some f) is = cc

@@ -7,7 +7,9 @@ use Rattle.road_graph.proofs.Places.{get_within}
 use Rattle.route_search.specs.declared.found.Found.{Found}
 use Rattle.route_search.specs.declared.found.Found.TheVariants.{Cut, NoRoad, Route}
 use Rattle.route_search.specs.Walks.{AreReached, IsAmong, IsWalk, every, flagged}
-use Rattle.route_search.specs.Founds.{IsFound, IsInRange}
+use Rattle.route_search.specs.declared.shortest.Shortest.{Shortest}
+use Rattle.route_search.specs.declared.shortest.Shortest.TheVariants as shortest
+use Rattle.route_search.specs.Founds.{IsFound, IsInRange, IsShortest, IsShortestInRange}
 use Rattle.route_search.specs.Laws.{Leaves}
 use Rattle.route_search.proofs.Reaches.{reach_more}
 
@@ -52,3 +54,8 @@ pub in_range : (roads : Roads) (passable : List Bool) (a b : ℕ) (found : Found
 in_range roads passable a b (Route segments feet potential) ok there h = λ k i at. walk_within roads.segments (flagged passable) a b segments k i h.route.walk at
 in_range roads passable a b (Cut reached) ok there h = λ k v at. let (path, walk) = h.nodes.sound k v at in end_within roads (flagged passable) a v path ok there walk
 in_range roads passable a b (NoRoad reached) ok there h = λ k v at. let (path, walk) = h.nodes.sound k v at in end_within roads every a v path ok there walk
+
+pub shortest_in_range : (roads : Roads) (passable : List Bool) (a b : ℕ) (found : Shortest) → IsRoads roads → a < length roads.nodes → IsShortest roads passable a b found → IsShortestInRange roads found
+shortest_in_range roads passable a b (shortest.Route segments feet) ok there h = λ k i at. walk_within roads.segments (flagged passable) a b segments k i h.route.walk at
+shortest_in_range roads passable a b (shortest.Cut reached) ok there h = λ k v at. let (path, walk) = h.nodes.sound k v at in end_within roads (flagged passable) a v path ok there walk
+shortest_in_range roads passable a b (shortest.NoRoad reached) ok there h = λ k v at. let (path, walk) = h.nodes.sound k v at in end_within roads every a v path ok there walk

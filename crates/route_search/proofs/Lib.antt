@@ -1,11 +1,14 @@
 pub mod Queues
+pub mod Joined
 pub mod Weights
 pub mod Steps
 pub mod Relaxing
 pub mod Routes
+pub mod Nearest
 pub mod Reaches
 pub mod Listed
 pub mod Outcomes
 pub mod Uniqueness
 pub mod Cuts
+pub mod Columns
 pub mod Staying

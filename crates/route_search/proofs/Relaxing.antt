@@ -8,7 +8,7 @@ use Rattle.route_search.specs.Settling.{IsRelaxing, IsTried, all_weight, beyond}
 use Rattle.route_search.proofs.Weights.{known-least}
 use Rattle.route_search.proofs.Steps.{relaxing_tried, tried_less}
 
-module _ (roads : Roads) (may : ℕ → Bool) (goal : ℕ) (ok : IsRoads roads) (ps : List (Option ℕ)) (queue : List Waiting) (v d : ℕ) (arrivals tried : List Arrival) (all : IsIncoming roads.segments v arrivals) (h : IsRelaxing roads may goal ps queue v d tried) (j : ℕ) (a : Arrival) (place : slice_get arrivals j ≡ Some a) where
+module _ (roads : Roads) (may : ℕ → Bool) (start : Option ℕ) (goal : ℕ) (ok : IsRoads roads) (ps : List (Option ℕ)) (queue : List Waiting) (v d : ℕ) (arrivals tried : List Arrival) (all : IsIncoming roads.segments v arrivals) (h : IsRelaxing roads may start goal ps queue v d tried) (j : ℕ) (a : Arrival) (place : slice_get arrivals j ≡ Some a) where
   pub turn_from : a.from < length ps
   turn_from = let (s, here, to, from, feet) = all.sound j a place in omega (arith, (ok.each a.segment s here).from, from, h.kept.many)
 
@@ -20,17 +20,17 @@ module _ (roads : Roads) (may : ℕ → Bool) (goal : ℕ) (ok : IsRoads roads) 
       let fits = ok.each a.segment s here in
       omega (arith, low, few, fits.far, feet, h.kept.many, ok.few_nodes)
 
-  module _ (now : List (Option ℕ)) (waiting : List Waiting) (may1 : may a.segment ≡ true) (w : IsTried ps queue now waiting a.from (d + a.feet)) where
-    pub turn_more : IsRelaxing roads may goal now waiting v d (tried ++ a ∷ [])
+  module _ (now : List (Option ℕ)) (waiting : List Waiting) (may1 : may a.segment ≡ true) (w : IsTried roads start ps queue now waiting a.from (d + a.feet)) where
+    pub turn_more : IsRelaxing roads may start goal now waiting v d (tried ++ a ∷ [])
     turn_more =
         let (s, here, to, from, feet) = all.sound j a place in
         let there : slice_get ps s.to ≡ Some (Some d) = rw to h.here in
-        let shown : IsTried ps queue now waiting s.from (d + s.feet) = rw (← from, ← feet) w in
-        relaxing_tried roads may goal ok ps queue now waiting a.segment s d here may1 there v a tried from feet h shown
+        let shown : IsTried roads start ps queue now waiting s.from (d + s.feet) = rw (← from, ← feet) w in
+        relaxing_tried roads may start goal ok ps queue now waiting a.segment s d here may1 there v a tried from feet h shown
 
     pub turn_less : all_weight now + length waiting ≤ all_weight ps + length queue
     turn_less =
         let (s, here, to, from, feet) = all.sound j a place in
         let there : slice_get ps s.to ≡ Some (Some d) = rw to h.here in
-        let shown : IsTried ps queue now waiting s.from (d + s.feet) = rw (← from, ← feet) w in
-        tried_less roads may goal ok ps queue now waiting a.segment s d here may1 there h.kept shown
+        let shown : IsTried roads start ps queue now waiting s.from (d + s.feet) = rw (← from, ← feet) w in
+        tried_less roads may start goal ok ps queue now waiting a.segment s d here may1 there h.kept shown

@@ -1,11 +1,11 @@
 -- Potentials stay where the flag changes of a segment that leads on no walk of least length.
 use Rattle.std.proofs.Common.{◌≡◌, ◌≢◌, ◌+◌, ◌-◌, ◌<◌, ◌≤◌, ◌∷◌, [], ℕ, List, Bool, true, false, Option, Some, None, length, get_or, set, get_or-set_other, refl, ap, sym, subst, inl, inr, arith, ◌∙◌}
-use Rattle.std.specs.Prelude.{slice_get, nat_lt}
+use Rattle.std.specs.Prelude.{slice_get}
 use Rattle.std.proofs.lemmas.Bool.{cases_eq, ltb-true}
 use Rattle.std.proofs.lemmas.Option.{get_or_from_slice_get, slice_get-get_or}
 use Rattle.road_graph.specs.declared.segment.Segment.{Segment}
 use Rattle.road_graph.specs.Roads.{IsRoads, Roads, no_segment, segment_at}
-use Rattle.route_search.specs.Walks.{ArePotentials, IsLeastLength, IsPotential, IsWalk, feet_at, feet_of, flagged}
+use Rattle.route_search.specs.Walks.{ArePotentials, IsPotential, IsWalk, feet_at, feet_of, flagged}
 use Rattle.route_search.specs.Staying.{is_slack, is_slack_by}
 use Rattle.route_search.proofs.Routes.{least_at, tight_first}
 use Rattle.route_search.proofs.Uniqueness.{certify, zero_at_goal}

@@ -2,16 +2,18 @@
 use Rattle.std.proofs.Common.{◌≡◌, ◌≢◌, ◌⊎◌, ◌+◌, ◌*◌, ◌<◌, ◌≤◌, ◌∷◌, ◌++◌, [], ℕ, suc, zero, List, Bool, true, false, Option, Some, None, length, set, get_or, refl, ap, sym, subst, inl, inr, arith, ◌∙◌, length-set, replicate}
 use Rattle.std.proofs.lemmas.List.{length-replicate}
 use Rattle.std.specs.Prelude.{slice_get}
-use Rattle.std.proofs.lemmas.Bool.{cases_eq, false≢true}
+use Rattle.std.proofs.lemmas.Bool.{cases_eq, cases_lt, false≢true}
 use Rattle.std.proofs.lemmas.Option.{get_or_from_slice_get, slice_get-get_or}
 use Rattle.road_graph.specs.declared.segment.Segment.{Segment}
 use Rattle.road_graph.specs.Roads.{IsIncoming, IsRoads, Roads}
 use Rattle.road_graph.proofs.Places.{get-push_cases, get-set_other, get-set_same}
 use Rattle.road_graph.specs.declared.segment.Arrival.{Arrival}
 use Rattle.route_search.specs.declared.waiting.Waiting.{Waiting}
-use Rattle.route_search.specs.Walks.{ArePotentials, IsPotential, IsWalk, feet_at, feet_of}
-use Rattle.route_search.specs.Settling.{IsBelow, IsIn, IsKept, IsPushed, IsRelaxing, IsSearching, IsSettledFrom, IsShortened, IsTried, all_weight, beyond, known, one_if_known, weight_of}
-use Rattle.route_search.proofs.Weights.{all_weight-set, known-set}
+use Rattle.route_search.specs.Walks.{AreNear, ArePotentials, IsPotential, IsWalk, every, feet_at, feet_of, flagged}
+use Rattle.route_search.specs.Settling.{AreAsked, IsBelow, IsIn, IsKept, IsMet, IsOut, IsPushed, IsRelaxing, IsSearching, IsSettled, IsShortened, IsTried, all_weight, beyond, known, one_if_known, weight_of}
+use Rattle.route_search.proofs.Joined.{feet_join, feet_on, walk_join, walk_on}
+use Rattle.route_search.proofs.Outcomes.{to_every}
+use Rattle.route_search.proofs.Weights.{all_weight-set, known-least, known-set}
 
 pub some_injective : (a b : ℕ) → Some (Some a) ≡ Some (Some b) → a ≡ b
 some_injective a b e = cc
@@ -32,8 +34,30 @@ module _ (ps : List (Option ℕ)) (u d : ℕ) (within : u < length ps) where
     | inr ne ↦ record { value = b.value; at = get-set_other ps u (Some d) v ne ∙ b.at; below = b.below }
   ]
 
-  pub still_settled : d < weight_of (get_or ps u None) → (segments : List Segment) (may : ℕ → Bool) (v e least : ℕ) → IsSettledFrom segments may ps v e least → IsSettledFrom segments may (set ps u (Some d)) v e least
-  still_settled less segments may v e least h i s low at may1 to = still_below less s.from (e + s.feet) (h i s low at may1 to)
+  still_out : d < weight_of (get_or ps u None) → (segments : List Segment) (start : Option ℕ) (v m : ℕ) → IsOut segments start ps v m → IsOut segments start (set ps u (Some d)) v m
+  still_out less segments None v m out = absurd out
+  still_out less segments (Some a) v m (b, at, far) =
+      let low = still_below less a b (record { value = b; at = at; below = omega arith }) in
+      (low.value, low.at, λ way walk. let k = far way walk in omega (arith, k, low.below))
+
+  pub still_met : d < weight_of (get_or ps u None) → (segments : List Segment) (start : Option ℕ) (v m : ℕ) → IsMet segments start ps v m → IsMet segments start (set ps u (Some d)) v m
+  still_met less segments start v m (inl b) = inl (still_below less v m b)
+  still_met less segments start v m (inr out) = inr (still_out less segments start v m out)
+
+  pub still_settled : d < weight_of (get_or ps u None) → (segments : List Segment) (may : ℕ → Bool) (start : Option ℕ) (v e : ℕ) → IsSettled segments may start ps v e → IsSettled segments may start (set ps u (Some d)) v e
+  still_settled less segments may start v e h i s at may1 to = still_met less segments start s.from (e + s.feet) (h i s at may1 to)
+
+-- what is out at the end of a segment is out at its beginning
+pub out_before : (segments : List Segment) (start : Option ℕ) (ps : List (Option ℕ)) (i : ℕ) (s : Segment) (d : ℕ) → slice_get segments i ≡ Some s → IsOut segments start ps s.to d → IsOut segments start ps s.from (d + s.feet)
+out_before segments None ps i s d at out = absurd out
+out_before segments (Some a) ps i s d at (b, known, far) = (
+  b,
+  known,
+  λ way walk.
+      let k = far (way ++ i ∷ []) (walk_on segments every a i s way at refl walk) in
+      let e = feet_on segments i s way at in
+      omega (arith, k, e),
+)
 
 -- a potential is below what stands for none
 pub known_small : (k d : ℕ) → d ≤ 10000000 * k → k ≤ 4096 → d < beyond
@@ -52,7 +76,7 @@ known_after ps u d feet (Some old) within is less few low high =
     let k = high old refl in
     (omega (arith, e, z), omega (arith, e, z, k, less))
 
-module _ (roads : Roads) (may : ℕ → Bool) (goal : ℕ) (ok : IsRoads roads) where
+module _ (roads : Roads) (may : ℕ → Bool) (start : Option ℕ) (goal : ℕ) (ok : IsRoads roads) where
   -- a segment more on a walk of known length
   walk_more : (i : ℕ) (s : Segment) (path : List ℕ) (d : ℕ) → slice_get roads.segments i ≡ Some s → may i ≡ true → IsWalk roads.segments may s.to goal path → feet_of roads.segments path ≡ d
       → (way : List ℕ) × IsWalk roads.segments may s.from goal way × (feet_of roads.segments way ≡ d + s.feet)
@@ -91,7 +115,7 @@ module _ (roads : Roads) (may : ℕ → Bool) (goal : ℕ) (ok : IsRoads roads) 
         })
 
     -- the arrival is tried: it is settled, as the earlier ones are
-    pub relaxing_tried : (v : ℕ) (a : Arrival) (tried : List Arrival) → a.from ≡ s.from → a.feet ≡ s.feet → IsRelaxing roads may goal ps queue v d tried → IsTried ps queue now waiting s.from (d + s.feet) → IsRelaxing roads may goal now waiting v d (tried ++ a ∷ [])
+    pub relaxing_tried : (v : ℕ) (a : Arrival) (tried : List Arrival) → a.from ≡ s.from → a.feet ≡ s.feet → IsRelaxing roads may start goal ps queue v d tried → IsTried roads start ps queue now waiting s.from (d + s.feet) → IsRelaxing roads may start goal now waiting v d (tried ++ a ∷ [])
     relaxing_tried v a tried from feet h (inl w) =
         let within : s.from < length ps = omega (arith, h.kept.many, (ok.each i s at).from) in
         let ne : v ≢ s.from = (λ is. let value : get_or ps s.from None ≡ Some d = get_or_from_slice_get ps s.from (Some d) None (subst (λ (n : ℕ). slice_get ps n ≡ Some (Some d)) is h.here) in
@@ -100,8 +124,8 @@ module _ (roads : Roads) (may : ℕ → Bool) (goal : ℕ) (ok : IsRoads roads) 
           kept = kept_shortened h.kept w;
           here = rw w.list (get-set_other ps s.from (Some (d + s.feet)) v ne ∙ h.here);
           settled = rw w.list (λ j t place may2. elim (get-push_cases tried a j t place) [
-            | inl old ↦ still_below ps s.from (d + s.feet) within w.less t.from (d + t.feet) (h.settled j t old may2)
-            | inr is ↦ rw (is.1, from, feet) (record { value = d + s.feet; at = get-set_same ps s.from (Some (d + s.feet)) within; below = omega arith })
+            | inl old ↦ still_met ps s.from (d + s.feet) within w.less roads.segments start t.from (d + t.feet) (h.settled j t old may2)
+            | inr is ↦ rw (is.1, from, feet) (inl (record { value = d + s.feet; at = get-set_same ps s.from (Some (d + s.feet)) within; below = omega arith }))
           ]);
           waits = rw w.list (λ u e now_at. elim (cases_eq u s.from) [
             | inl is ↦ (let same : e ≡ d + s.feet = at_new ps s.from (d + s.feet) within e (subst (λ (n : ℕ). slice_get (set ps s.from (Some (d + s.feet))) n ≡ Some (Some e)) is now_at) in
@@ -110,7 +134,7 @@ module _ (roads : Roads) (may : ℕ → Bool) (goal : ℕ) (ok : IsRoads roads) 
               | inl is ↦ inl is
               | inr k ↦ elim k [
                 | inl in_queue ↦ inr (inl (w.pushed.others (record { length = e; node = u }) in_queue))
-                | inr done ↦ inr (inr (still_settled ps s.from (d + s.feet) within w.less roads.segments may u e 0 done))
+                | inr done ↦ inr (inr (still_settled ps s.from (d + s.feet) within w.less roads.segments may start u e done))
               ]
             ]
           ]);
@@ -120,13 +144,13 @@ module _ (roads : Roads) (may : ℕ → Bool) (goal : ℕ) (ok : IsRoads roads) 
       here = h.here;
       settled = λ j t place may2. elim (get-push_cases tried a j t place) [
         | inl old ↦ h.settled j t old may2
-        | inr is ↦ rw (is.1, from, feet) w.below
+        | inr is ↦ rw (is.1, from, feet) w.met
       ];
       waits = h.waits;
     })
 
     -- a try lets no more to do
-    pub tried_less : IsKept roads may goal ps queue → IsTried ps queue now waiting s.from (d + s.feet) → all_weight now + length waiting ≤ all_weight ps + length queue
+    pub tried_less : IsKept roads may goal ps queue → IsTried roads start ps queue now waiting s.from (d + s.feet) → all_weight now + length waiting ≤ all_weight ps + length queue
     tried_less h (inl w) =
         let within : s.from < length ps = omega (arith, h.many, (ok.each i s at).from) in
         rw w.list (omega (arith, all_weight-set ps s.from (Some (d + s.feet)) within, w.less, w.pushed.len))
@@ -134,7 +158,7 @@ module _ (roads : Roads) (may : ℕ → Bool) (goal : ℕ) (ok : IsRoads roads) 
 
   module _ (ps : List (Option ℕ)) (queue : List Waiting) (v d : ℕ) where
     -- an arrival that may not be passed
-    pub relaxing_skip : (a : Arrival) (tried : List Arrival) → may a.segment ≡ false → IsRelaxing roads may goal ps queue v d tried → IsRelaxing roads may goal ps queue v d (tried ++ a ∷ [])
+    pub relaxing_skip : (a : Arrival) (tried : List Arrival) → may a.segment ≡ false → IsRelaxing roads may start goal ps queue v d tried → IsRelaxing roads may start goal ps queue v d (tried ++ a ∷ [])
     relaxing_skip a tried may0 h = record {
       kept = h.kept;
       here = h.here;
@@ -146,11 +170,11 @@ module _ (roads : Roads) (may : ℕ → Bool) (goal : ℕ) (ok : IsRoads roads) 
     }
 
     -- all arrivals are tried
-    pub relaxed : (arrivals : List Arrival) → IsIncoming roads.segments v arrivals → IsRelaxing roads may goal ps queue v d arrivals → IsSearching roads may goal ps queue
+    pub relaxed : (arrivals : List Arrival) → IsIncoming roads.segments v arrivals → IsRelaxing roads may start goal ps queue v d arrivals → IsSearching roads may start goal ps queue
     relaxed arrivals all h = record {
       kept = h.kept;
       waits = λ u e at. elim (h.waits u e at) [
-        | inl is ↦ (let same : e ≡ d = some_injective e d (sym at ∙ ap (slice_get ps) is ∙ h.here) in inr (rw (is, same) (λ i s low here may1 to.
+        | inl is ↦ (let same : e ≡ d = some_injective e d (sym at ∙ ap (slice_get ps) is ∙ h.here) in inr (rw (is, same) (λ i s here may1 to.
             let (j, a, place, number) = all.complete i s here to in
             let (t, there, end, from, feet) = all.sound j a place in
             let same2 : t ≡ s = same_segment t s (sym there ∙ ap (slice_get roads.segments) number ∙ here) in
@@ -162,8 +186,23 @@ module _ (roads : Roads) (may : ℕ → Bool) (goal : ℕ) (ok : IsRoads roads) 
       ];
     }
 
+    -- no walk by the node is asked for
+    pub relaxed_out : (tried : List Arrival) → IsRelaxing roads may start goal ps queue v d tried → IsOut roads.segments start ps v d → IsSearching roads may start goal ps queue
+    relaxed_out tried h out = record {
+      kept = h.kept;
+      waits = λ u e at. elim (h.waits u e at) [
+        | inl is ↦ (let same : e ≡ d = some_injective e d (sym at ∙ ap (slice_get ps) is ∙ h.here) in inr (λ i s here may1 to.
+            let there : IsOut roads.segments start ps s.to e = rw (to, is, same) out in
+            inr (out_before roads.segments start ps i s e here there)))
+        | inr k ↦ k
+      ];
+    }
+
+    pub relaxing_small : (tried : List Arrival) → IsRelaxing roads may start goal ps queue v d tried → d < beyond
+    relaxing_small tried h = let low = h.kept.bounded v d h.here in let few = known-least ps in omega (arith, low, few, h.kept.many, ok.few_nodes)
+
   -- a node comes out of the queue
-  module _ (ps : List (Option ℕ)) (queue rest : List Waiting) (x : Waiting) (h : IsSearching roads may goal ps queue) (one : IsIn x queue) (others : (w : Waiting) → IsIn w queue → (w ≡ x) ⊎ IsIn w rest) (no_more : (w : Waiting) → IsIn w rest → IsIn w queue) where
+  module _ (ps : List (Option ℕ)) (queue rest : List Waiting) (x : Waiting) (h : IsSearching roads may start goal ps queue) (one : IsIn x queue) (others : (w : Waiting) → IsIn w queue → (w ≡ x) ⊎ IsIn w rest) (no_more : (w : Waiting) → IsIn w rest → IsIn w queue) where
     kept_popped : IsKept roads may goal ps rest
     kept_popped = record {
       many = h.kept.many;
@@ -176,7 +215,7 @@ module _ (roads : Roads) (may : ℕ → Bool) (goal : ℕ) (ok : IsRoads roads) 
     pub popped_within : x.node < length ps
     popped_within = omega (arith, h.kept.ranged x one, h.kept.many)
 
-    pub popped_near : slice_get ps x.node ≡ Some (Some x.length) → IsRelaxing roads may goal ps rest x.node x.length []
+    pub popped_near : slice_get ps x.node ≡ Some (Some x.length) → IsRelaxing roads may start goal ps rest x.node x.length []
     popped_near here = record {
       kept = kept_popped;
       here = here;
@@ -187,7 +226,7 @@ module _ (roads : Roads) (may : ℕ → Bool) (goal : ℕ) (ok : IsRoads roads) 
       ];
     }
 
-    pub popped_stale : (slice_get ps x.node ≡ Some (Some x.length) → ⊥) → IsSearching roads may goal ps rest
+    pub popped_stale : (slice_get ps x.node ≡ Some (Some x.length) → ⊥) → IsSearching roads may start goal ps rest
     popped_stale stale = record {
       kept = kept_popped;
       waits = λ u e at. elim (h.waits u e at) [
@@ -199,34 +238,96 @@ module _ (roads : Roads) (may : ℕ → Bool) (goal : ℕ) (ok : IsRoads roads) 
       ];
     }
 
-  -- nothing waits any more: the potentials are least lengths
-  least : (ps : List (Option ℕ)) → ((v d : ℕ) → slice_get ps v ≡ Some (Some d) → IsSettledFrom roads.segments may ps v d 0) → slice_get ps goal ≡ Some (Some 0) → (path : List ℕ) (v : ℕ) → IsWalk roads.segments may v goal path → IsBelow ps v (feet_of roads.segments path)
-  least ps settled start [] v w = record { value = 0; at = rw w start; below = omega arith }
-  least ps settled start (i ∷ path) v w =
+-- a walk leads from the start to v that is with m feet more no longer than what the start has, if one start is asked for alone
+abbrev IsWithin : List Segment → Option ℕ → List (Option ℕ) → ℕ → ℕ → Type 0
+IsWithin segments None ps v m = Unit {0}
+IsWithin segments (Some a) ps v m = (b : ℕ) → slice_get ps a ≡ Some (Some b) → (way : List ℕ) × IsWalk segments every a v way × (feet_of segments way + m ≤ b)
+
+within_more : (segments : List Segment) (start : Option ℕ) (ps : List (Option ℕ)) (i : ℕ) (s : Segment) (m n : ℕ) → slice_get segments i ≡ Some s → n ≡ s.feet + m → IsWithin segments start ps s.from n → IsWithin segments start ps s.to m
+within_more segments None ps i s m n at sum w = tt
+within_more segments (Some a) ps i s m n at sum w = λ b known.
+    let (way, walk, low) = w b known in
+    let e = feet_on segments i s way at in
+    (way ++ i ∷ [], walk_on segments every a i s way at refl walk, omega (arith, low, e, sum))
+
+within_met : (segments : List Segment) (start : Option ℕ) (ps : List (Option ℕ)) (v m n : ℕ) → m ≤ n → IsWithin segments start ps v n → IsMet segments start ps v m → IsBelow ps v m
+within_met segments start ps v m n less w (inl b) = b
+within_met segments None ps v m n less w (inr out) = absurd out
+within_met segments (Some a) ps v m n less w (inr (b, known, far)) =
+    let (way, walk, low) = w b known in
+    let k = far way walk in
+    absurd (omega (arith, k, low, less))
+
+module _ (roads : Roads) (may : ℕ → Bool) (start : Option ℕ) (goal : ℕ) (ok : IsRoads roads) (ps : List (Option ℕ)) (h : IsSearching roads may start goal ps []) where
+  settled : (v d : ℕ) → slice_get ps v ≡ Some (Some d) → IsSettled roads.segments may start ps v d
+  settled v d at = elim (h.waits v d at) [
+    | inl in_queue ↦ (let (k, low, is) = in_queue in absurd (omega (arith, low)))
+    | inr done ↦ done
+  ]
+
+  -- nothing waits any more: no walk that is asked for is shorter than the potentials say
+  pub least : (path : List ℕ) (v : ℕ) → IsWalk roads.segments may v goal path → IsWithin roads.segments start ps v (feet_of roads.segments path) → IsBelow ps v (feet_of roads.segments path)
+  least [] v w near = record { value = 0; at = rw w h.kept.zero; below = omega arith }
+  least (i ∷ path) v w near =
       let (s, at, may1, from, rest) = w in
-      let b = least ps settled start path s.to rest in
-      let c = settled s.to b.value b.at i s (omega arith) at may1 refl in
       let told : feet_at (slice_get roads.segments i) ≡ s.feet = ap feet_at at in
+      let n = feet_at (slice_get roads.segments i) + feet_of roads.segments path in
+      let here : IsWithin roads.segments start ps s.from n = subst (λ (u : ℕ). IsWithin roads.segments start ps u n) (sym from) near in
+      let b = least path s.to rest (within_more roads.segments start ps i s (feet_of roads.segments path) n at (omega (arith, told)) here) in
+      let met = settled s.to b.value b.at i s at may1 refl in
+      let c = within_met roads.segments start ps s.from (b.value + s.feet) n (omega (arith, b.below, told)) here met in
       record { value = c.value; at = rw (← from) c.at; below = omega (arith, c.below, b.below, told) }
 
-  pub settled_all : (ps : List (Option ℕ)) → IsSearching roads may goal ps [] → ArePotentials roads.segments may (length roads.nodes) goal ps
+-- all potentials are asked for
+module _ (roads : Roads) (may : ℕ → Bool) (goal : ℕ) (ok : IsRoads roads) where
+  pub settled_all : (ps : List (Option ℕ)) → IsSearching roads may None goal ps [] → ArePotentials roads.segments may (length roads.nodes) goal ps
   settled_all ps h = record {
     many = h.kept.many;
     each = λ v p at. either v p at;
   }
     where
-      settled : (v d : ℕ) → slice_get ps v ≡ Some (Some d) → IsSettledFrom roads.segments may ps v d 0
-      settled v d at = elim (h.waits v d at) [
-        | inl in_queue ↦ (let (k, low, is) = in_queue in absurd (omega (arith, low)))
-        | inr done ↦ done
-      ]
-
       either : (v : ℕ) (p : Option ℕ) → slice_get ps v ≡ Some p → IsPotential roads.segments may v goal p
-      either v None at = λ path walk. (let b = least ps settled h.kept.zero path v walk in let bad : Some None ≡ Some (Some b.value) = sym at ∙ b.at in absurd (cc))
+      either v None at = λ path walk. (let b = least roads may None goal ok ps h path v walk tt in let bad : Some None ≡ Some (Some b.value) = sym at ∙ b.at in absurd (cc))
       either v (Some d) at = record {
         reached = h.kept.reached v d at;
-        least = λ path walk. (let b = least ps settled h.kept.zero path v walk in let same : d ≡ b.value = some_injective d b.value (sym at ∙ b.at) in omega (arith, same, b.below));
+        least = λ path walk. (let b = least roads may None goal ok ps h path v walk tt in let same : d ≡ b.value = some_injective d b.value (sym at ∙ b.at) in omega (arith, same, b.below));
       }
+
+-- those of one start alone
+module _ (roads : Roads) (may : ℕ → Bool) (a goal : ℕ) (ok : IsRoads roads) (ps : List (Option ℕ)) (h : IsSearching roads may (Some a) goal ps []) where
+  near_here : (p : Option ℕ) → slice_get ps a ≡ Some p → IsPotential roads.segments may a goal p
+  near_here None at = λ path walk.
+      let b = least roads may (Some a) goal ok ps h path a walk (λ b known. absurd (let bad : Some None ≡ Some (Some b) = sym at ∙ known in cc)) in
+      let bad : Some None ≡ Some (Some b.value) = sym at ∙ b.at in absurd (cc)
+  near_here (Some d) at = record {
+    reached = h.kept.reached a d at;
+    least = λ path walk. elim (cases_lt (feet_of roads.segments path) d) [
+      | inr long ↦ long
+      | inl short ↦
+          let near : IsWithin roads.segments (Some a) ps a (feet_of roads.segments path) = (λ b known.
+          let same : d ≡ b = some_injective d b (sym at ∙ known) in ([], refl, omega (arith, same, short))) in
+          let b = least roads may (Some a) goal ok ps h path a walk near in
+          let same : d ≡ b.value = some_injective d b.value (sym at ∙ b.at) in omega (arith, same, b.below)
+    ];
+  }
+
+  near_on : (v : ℕ) (way path : List ℕ) → IsWalk roads.segments may a v way → IsWalk roads.segments may v goal path
+      → ((other : List ℕ) → IsWalk roads.segments may a goal other → feet_of roads.segments way + feet_of roads.segments path ≤ feet_of roads.segments other)
+      → slice_get ps v ≡ Some (Some (feet_of roads.segments path))
+  near_on v way path to on shortest =
+      let near : IsWithin roads.segments (Some a) ps v (feet_of roads.segments path) = (λ b known.
+      let (other, walk, long) = h.kept.reached a b known in
+      let k = shortest other walk in
+      (way, to_every roads.segments may a v way to, omega (arith, k, long))) in
+      let b = least roads may (Some a) goal ok ps h path v on near in
+      let (rest, walk, long) = h.kept.reached v b.value b.at in
+      let k = shortest (way ++ rest) (walk_join roads.segments may a v goal way rest to walk) in
+      let e = feet_join roads.segments way rest in
+      let same : b.value ≡ feet_of roads.segments path = omega (arith, b.below, long, k, e) in
+      b.at ∙ ap (λ (n : ℕ). Some (Some n)) same
+
+  pub settled_near : AreNear roads.segments may (length roads.nodes) a goal ps
+  settled_near = record { many = h.kept.many; each = h.kept.reached; here = near_here; on = near_on }
 
 get-replicate : (n v : ℕ) (p q : Option ℕ) → slice_get (replicate n p) v ≡ Some q → q ≡ p
 get-replicate zero v p q h = cc
@@ -234,8 +335,8 @@ get-replicate (suc n) zero p q h = cc
 get-replicate (suc n) (suc v) p q h = get-replicate n v p q h
 
 -- the goal alone is known, and waits
-pub searching_first : (roads : Roads) (may : ℕ → Bool) (goal : ℕ) (ps : List (Option ℕ)) (queue : List Waiting) → goal < length roads.nodes → ps ≡ replicate (length roads.nodes) None → IsPushed [] queue (record { length = 0; node = goal }) → IsSearching roads may goal (set ps goal (Some 0)) queue
-searching_first roads may goal ps queue there e w =
+pub searching_first : (roads : Roads) (may : ℕ → Bool) (start : Option ℕ) (goal : ℕ) (ps : List (Option ℕ)) (queue : List Waiting) → goal < length roads.nodes → ps ≡ replicate (length roads.nodes) None → IsPushed [] queue (record { length = 0; node = goal }) → IsSearching roads may start goal (set ps goal (Some 0)) queue
+searching_first roads may start goal ps queue there e w =
     let many : length ps ≡ length roads.nodes = rw e (length-replicate (length roads.nodes) None) in
     let within : goal < length ps = omega (arith, many, there) in
     let none : (v : ℕ) (p : Option ℕ) → slice_get ps v ≡ Some p → p ≡ None = (λ v p at. get-replicate (length roads.nodes) v None p (subst (λ (l : List (Option ℕ)). slice_get l v ≡ Some p) e at)) in
@@ -253,3 +354,7 @@ searching_first roads may goal ps queue there e w =
       };
       waits = λ v d at. inl (rw ((only v d at).0, (only v d at).1) w.one);
     }
+
+pub asked_found : (roads : Roads) (passable : List Bool) (start : Option ℕ) (goal : ℕ) (ok : IsRoads roads) (ps : List (Option ℕ)) → IsSearching roads (flagged passable) start goal ps [] → AreAsked roads passable start goal ps
+asked_found roads passable None goal ok ps h = settled_all roads (flagged passable) goal ok ps h
+asked_found roads passable (Some a) goal ok ps h = settled_near roads (flagged passable) a goal ok ps h

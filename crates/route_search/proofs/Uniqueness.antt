@@ -6,7 +6,9 @@ use Rattle.road_graph.specs.Roads.{IsRoads, Roads}
 use Rattle.route_search.specs.declared.found.Found.{Found}
 use Rattle.route_search.specs.declared.found.Found.TheVariants.{Cut, NoRoad, Route}
 use Rattle.route_search.specs.Walks.{ArePotentials, AreReached, IsNotAfter, IsPotential, IsRoute, IsWalk, every, feet_at, feet_of, flagged}
-use Rattle.route_search.specs.Founds.{IsFound}
+use Rattle.route_search.specs.declared.shortest.Shortest.{Shortest}
+use Rattle.route_search.specs.declared.shortest.Shortest.TheVariants as shortest
+use Rattle.route_search.specs.Founds.{IsFound, IsShortest}
 use Rattle.route_search.proofs.Outcomes.{to_every}
 use Rattle.route_search.proofs.Routes.{known_at}
 
@@ -122,4 +124,20 @@ finding_unique roads passable a b (Cut xs) (NoRoad ys) h k = absurd (k.none h.wa
 finding_unique roads passable a b (NoRoad xs) (Route ys e qs) h k = absurd (h.none (ys, to_every roads.segments (flagged passable) a b ys k.route.walk))
 finding_unique roads passable a b (NoRoad xs) (Cut ys) h k = absurd (h.none k.walk)
 finding_unique roads passable a b (NoRoad xs) (NoRoad ys) h k =
+    let nodes : xs ≡ ys = reached_unique roads.segments every a xs ys h.nodes k.nodes in cc
+
+pub shortest_unique : (roads : Roads) (passable : List Bool) (a b : ℕ) (f g : Shortest) → IsShortest roads passable a b f → IsShortest roads passable a b g → f ≡ g
+shortest_unique roads passable a b (shortest.Route xs d) (shortest.Route ys e) h k =
+    let route : xs ≡ ys = route_unique roads.segments (flagged passable) a b xs ys h.route k.route in
+    let feet : d ≡ e = sym h.feet_is ∙ ap (feet_of roads.segments) route ∙ k.feet_is in
+    cc
+shortest_unique roads passable a b (shortest.Route xs d) (shortest.Cut ys) h k = absurd (k.none (xs, h.route.walk))
+shortest_unique roads passable a b (shortest.Route xs d) (shortest.NoRoad ys) h k = absurd (k.none (xs, to_every roads.segments (flagged passable) a b xs h.route.walk))
+shortest_unique roads passable a b (shortest.Cut xs) (shortest.Route ys e) h k = absurd (h.none (ys, k.route.walk))
+shortest_unique roads passable a b (shortest.Cut xs) (shortest.Cut ys) h k =
+    let nodes : xs ≡ ys = reached_unique roads.segments (flagged passable) a xs ys h.nodes k.nodes in cc
+shortest_unique roads passable a b (shortest.Cut xs) (shortest.NoRoad ys) h k = absurd (k.none h.walk)
+shortest_unique roads passable a b (shortest.NoRoad xs) (shortest.Route ys e) h k = absurd (h.none (ys, to_every roads.segments (flagged passable) a b ys k.route.walk))
+shortest_unique roads passable a b (shortest.NoRoad xs) (shortest.Cut ys) h k = absurd (h.none k.walk)
+shortest_unique roads passable a b (shortest.NoRoad xs) (shortest.NoRoad ys) h k =
     let nodes : xs ≡ ys = reached_unique roads.segments every a xs ys h.nodes k.nodes in cc

@@ -3,11 +3,22 @@ use Rattle.std.specs.Prelude.{◌≡◌, ℕ, ◌<◌, Bool, List, length, Optio
 use Rattle.road_graph.specs.Roads.{Roads}
 use Rattle.route_search.specs.declared.found.Found.{Found}
 use Rattle.route_search.specs.declared.found.Found.TheVariants.{Cut, NoRoad, Route}
-use Rattle.route_search.specs.Walks.{ArePotentials, AreReached, CanReach, IsRoute, every, feet_of, flagged}
+use Rattle.route_search.specs.declared.shortest.Shortest.{Shortest}
+use Rattle.route_search.specs.declared.shortest.Shortest.TheVariants as shortest
+use Rattle.route_search.specs.Walks.{AreNear, ArePotentials, AreReached, CanReach, IsRoute, every, feet_of, flagged}
 
 -- for each node the least length of a walk to a goal, over the flagged segments of a network
 abbrev pub ArePotentialsOver : Roads → List Bool → ℕ → List (Option ℕ) → Type 0
 ArePotentialsOver roads passable goal potentials = ArePotentials roads.segments (flagged passable) (length roads.nodes) goal potentials
+
+-- the potentials that are asked for one start alone, over the flagged segments of a network
+abbrev pub AreNearOver : Roads → List Bool → ℕ → ℕ → List (Option ℕ) → Type 0
+AreNearOver roads passable start goal potentials = AreNear roads.segments (flagged passable) (length roads.nodes) start goal potentials
+
+-- the first of the shortest passable walks from a to b, and its length
+pub record IsShortestRoute (roads : Roads) (passable : List Bool) (a b : ℕ) (segments : List ℕ) (feet : ℕ) : Type 0 where
+  pub route : IsRoute roads.segments (flagged passable) a b segments
+  pub feet_is : feet_of roads.segments segments ≡ feet
 
 -- the first of the shortest passable walks from a to b, its length, and the potentials that certify it
 pub record IsRouteFound (roads : Roads) (passable : List Bool) (a b : ℕ) (segments : List ℕ) (feet : ℕ) (potential : List (Option ℕ)) : Type 0 where
@@ -33,8 +44,19 @@ IsFound roads passable a b (Route segments feet potential) = IsRouteFound roads 
 IsFound roads passable a b (Cut reached) = IsCutFound roads passable a b reached
 IsFound roads passable a b (NoRoad reached) = IsNoRoadFound roads a b reached
 
+-- the same without the potentials
+abbrev pub IsShortest : Roads → List Bool → ℕ → ℕ → Shortest → Type 0
+IsShortest roads passable a b (shortest.Route segments feet) = IsShortestRoute roads passable a b segments feet
+IsShortest roads passable a b (shortest.Cut reached) = IsCutFound roads passable a b reached
+IsShortest roads passable a b (shortest.NoRoad reached) = IsNoRoadFound roads a b reached
+
 -- the segments of a route, and the nodes that are reached, are there
 abbrev pub IsInRange : Roads → Found → Type 0
 IsInRange roads (Route segments feet potential) = (k i : ℕ) → slice_get segments k ≡ Some i → i < length roads.segments
 IsInRange roads (Cut reached) = (k v : ℕ) → slice_get reached k ≡ Some v → v < length roads.nodes
 IsInRange roads (NoRoad reached) = (k v : ℕ) → slice_get reached k ≡ Some v → v < length roads.nodes
+
+abbrev pub IsShortestInRange : Roads → Shortest → Type 0
+IsShortestInRange roads (shortest.Route segments feet) = (k i : ℕ) → slice_get segments k ≡ Some i → i < length roads.segments
+IsShortestInRange roads (shortest.Cut reached) = (k v : ℕ) → slice_get reached k ≡ Some v → v < length roads.nodes
+IsShortestInRange roads (shortest.NoRoad reached) = (k v : ℕ) → slice_get reached k ≡ Some v → v < length roads.nodes

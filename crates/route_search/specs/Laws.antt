@@ -4,7 +4,8 @@ use Rattle.road_graph.specs.declared.segment.Segment.{Segment}
 use Rattle.road_graph.specs.Roads.{IsRoads, Roads}
 use Rattle.route_search.specs.declared.found.Found.{Found}
 use Rattle.route_search.specs.Walks.{ArePotentials, AreReached, IsAmong, IsRoute, IsWalk}
-use Rattle.route_search.specs.Founds.{IsFound, IsInRange}
+use Rattle.route_search.specs.declared.shortest.Shortest.{Shortest}
+use Rattle.route_search.specs.Founds.{IsFound, IsInRange, IsShortest, IsShortestInRange}
 
 -- potentials certify that no walk is shorter: where a segment may be passed and its end has a potential, its start has one,
 -- at most the segment's feet more
@@ -35,11 +36,20 @@ abbrev pub OneFinding : Type 0
 OneFinding =
     (roads : Roads) (passable : List Bool) (a b : ℕ) (f g : Found) → IsFound roads passable a b f → IsFound roads passable a b g → f ≡ g
 
+abbrev pub OneShortest : Type 0
+OneShortest =
+    (roads : Roads) (passable : List Bool) (a b : ℕ) (f g : Shortest) → IsShortest roads passable a b f → IsShortest roads passable a b g → f ≡ g
+
 -- what is found is in range
 abbrev pub FindingsAreInRange : Type 0
 FindingsAreInRange =
     (roads : Roads) (passable : List Bool) (a b : ℕ) (found : Found) → IsRoads roads → a < length roads.nodes → IsFound roads passable a b found
     → IsInRange roads found
+
+abbrev pub ShortestAreInRange : Type 0
+ShortestAreInRange =
+    (roads : Roads) (passable : List Bool) (a b : ℕ) (found : Shortest) → IsRoads roads → a < length roads.nodes → IsShortest roads passable a b found
+    → IsShortestInRange roads found
 
 -- a segment leaves a set of nodes where it begins in the set and does not end in it
 abbrev pub Leaves : (ℕ → Bool) → Segment → Type 0

@@ -8,3 +8,4 @@ pub mod Listing
 pub mod Buckets
 pub use Rattle.road_graph.specs.Roads
 pub mod Staying
+pub mod Heights

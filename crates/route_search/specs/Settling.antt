@@ -4,7 +4,8 @@ use Rattle.road_graph.specs.declared.segment.Segment.{Segment}
 use Rattle.road_graph.specs.Roads.{Roads}
 use Rattle.road_graph.specs.declared.segment.Arrival.{Arrival}
 use Rattle.route_search.specs.declared.waiting.Waiting.{Waiting}
-use Rattle.route_search.specs.Walks.{IsWalk, feet_of, flagged}
+use Rattle.route_search.specs.Founds.{AreNearOver, ArePotentialsOver}
+use Rattle.route_search.specs.Walks.{IsWalk, every, feet_of, flagged}
 
 -- above every length that can be found
 abbrev pub beyond : ℕ
@@ -38,10 +39,25 @@ pub record IsBelow (potentials : List (Option ℕ)) (u most : ℕ) : Type 0 wher
   pub at : slice_get potentials u ≡ Some (Some value)
   pub below : value ≤ most
 
--- the segments into v numbered from `least` on lead to no shorter way than d by v
-abbrev pub IsSettledFrom : List Segment → (ℕ → Bool) → List (Option ℕ) → ℕ → ℕ → ℕ → Type 0
-IsSettledFrom segments may potentials v d least =
-    (i : ℕ) (s : Segment) → least ≤ i → slice_get segments i ≡ Some s → may i ≡ true → s.to ≡ v → IsBelow potentials s.from (d + s.feet)
+-- a length is more than a known one
+abbrev pub IsMore : ℕ → Option ℕ → Type 0
+IsMore feet None = ⊥
+IsMore feet (Some least) = least < feet
+
+-- where one start alone is asked for: each walk from it by u and on for so many feet is longer than one that is known
+abbrev pub IsOut : List Segment → Option ℕ → List (Option ℕ) → ℕ → ℕ → Type 0
+IsOut segments None potentials u feet = ⊥
+IsOut segments (Some start) potentials u feet =
+    (known : ℕ) × (slice_get potentials start ≡ Some (Some known)) × ((way : List ℕ) → IsWalk segments every start u way → known < feet_of segments way + feet)
+
+-- u has a potential, at most this, or no such walk by u is asked for
+abbrev pub IsMet : List Segment → Option ℕ → List (Option ℕ) → ℕ → ℕ → Type 0
+IsMet segments start potentials u feet = IsBelow potentials u feet ⊎ IsOut segments start potentials u feet
+
+-- the segments into v lead to no shorter way than d by v that is asked for
+abbrev pub IsSettled : List Segment → (ℕ → Bool) → Option ℕ → List (Option ℕ) → ℕ → ℕ → Type 0
+IsSettled segments may start potentials v d =
+    (i : ℕ) (s : Segment) → slice_get segments i ≡ Some s → may i ≡ true → s.to ≡ v → IsMet segments start potentials s.from (d + s.feet)
 
 -- what every try keeps: the goal has 0, each potential is the length of some walk and is bounded, and the nodes that wait are
 -- there
@@ -54,24 +70,24 @@ pub record IsKept (roads : Roads) (may : ℕ → Bool) (goal : ℕ) (potentials 
 
 -- each potential waits in the queue, or the segments into its node lead to no shorter way: where nothing waits, no walk is
 -- shorter than the potentials say
-pub record IsSearching (roads : Roads) (may : ℕ → Bool) (goal : ℕ) (potentials : List (Option ℕ)) (queue : List Waiting) : Type 0 where
+pub record IsSearching (roads : Roads) (may : ℕ → Bool) (start : Option ℕ) (goal : ℕ) (potentials : List (Option ℕ)) (queue : List Waiting) : Type 0 where
   pub kept : IsKept roads may goal potentials queue
-  pub waits : (v d : ℕ) → slice_get potentials v ≡ Some (Some d) → IsIn (record { length = d; node = v }) queue ⊎ IsSettledFrom roads.segments may potentials v d 0
+  pub waits : (v d : ℕ) → slice_get potentials v ≡ Some (Some d) → IsIn (record { length = d; node = v }) queue ⊎ IsSettled roads.segments may start potentials v d
 
 -- the same but for v, of which these arrivals are settled
-pub record IsRelaxing (roads : Roads) (may : ℕ → Bool) (goal : ℕ) (potentials : List (Option ℕ)) (queue : List Waiting) (v d : ℕ) (tried : List Arrival) : Type 0 where
+pub record IsRelaxing (roads : Roads) (may : ℕ → Bool) (start : Option ℕ) (goal : ℕ) (potentials : List (Option ℕ)) (queue : List Waiting) (v d : ℕ) (tried : List Arrival) : Type 0 where
   pub kept : IsKept roads may goal potentials queue
   pub here : slice_get potentials v ≡ Some (Some d)
-  pub settled : (j : ℕ) (a : Arrival) → slice_get tried j ≡ Some a → may a.segment ≡ true → IsBelow potentials a.from (d + a.feet)
-  pub waits : (u e : ℕ) → slice_get potentials u ≡ Some (Some e) → (u ≡ v) ⊎ (IsIn (record { length = e; node = u }) queue ⊎ IsSettledFrom roads.segments may potentials u e 0)
+  pub settled : (j : ℕ) (a : Arrival) → slice_get tried j ≡ Some a → may a.segment ≡ true → IsMet roads.segments start potentials a.from (d + a.feet)
+  pub waits : (u e : ℕ) → slice_get potentials u ≡ Some (Some e) → (u ≡ v) ⊎ (IsIn (record { length = e; node = u }) queue ⊎ IsSettled roads.segments may start potentials u e)
 
 -- the search over the flagged segments goes on with these potentials and this queue
-abbrev pub IsSearchingOver : Roads → List Bool → ℕ → List (Option ℕ) → List Waiting → Type 0
-IsSearchingOver roads passable goal potentials queue = IsSearching roads (flagged passable) goal potentials queue
+abbrev pub IsSearchingOver : Roads → List Bool → Option ℕ → ℕ → List (Option ℕ) → List Waiting → Type 0
+IsSearchingOver roads passable start goal potentials queue = IsSearching roads (flagged passable) start goal potentials queue
 
 -- the same but for a node that was taken from the queue, no arrival of which is settled yet
-abbrev pub IsRelaxingOver : Roads → List Bool → ℕ → List (Option ℕ) → List Waiting → Waiting → Type 0
-IsRelaxingOver roads passable goal potentials queue near = IsRelaxing roads (flagged passable) goal potentials queue near.node near.length []
+abbrev pub IsRelaxingOver : Roads → List Bool → Option ℕ → ℕ → List (Option ℕ) → List Waiting → Waiting → Type 0
+IsRelaxingOver roads passable start goal potentials queue near = IsRelaxing roads (flagged passable) start goal potentials queue near.node near.length []
 
 -- no more is left to do with these potentials and this queue than with those before
 abbrev pub IsNoMoreWork : List (Option ℕ) → List Waiting → List (Option ℕ) → List Waiting → Type 0
@@ -90,11 +106,21 @@ pub record IsShortened (potentials : List (Option ℕ)) (queue : List Waiting) (
   pub less : d < weight_of (slice_index_or potentials u None)
   pub pushed : IsPushed queue waiting (record { length = d; node = u })
 
--- the potential of u was at most d
-pub record IsLeft (potentials : List (Option ℕ)) (queue : List Waiting) (now : List (Option ℕ)) (waiting : List Waiting) (u d : ℕ) : Type 0 where
+-- the potential of u was at most d, or u is not asked for with it
+pub record IsLeft (roads : Roads) (start : Option ℕ) (potentials : List (Option ℕ)) (queue : List Waiting) (now : List (Option ℕ)) (waiting : List Waiting) (u d : ℕ) : Type 0 where
   pub list : now ≡ potentials
   pub same : waiting ≡ queue
-  pub below : IsBelow potentials u d
+  pub met : IsMet roads.segments start potentials u d
 
-abbrev pub IsTried : List (Option ℕ) → List Waiting → List (Option ℕ) → List Waiting → ℕ → ℕ → Type 0
-IsTried potentials queue now waiting u d = IsShortened potentials queue now waiting u d ⊎ IsLeft potentials queue now waiting u d
+abbrev pub IsTried : Roads → Option ℕ → List (Option ℕ) → List Waiting → List (Option ℕ) → List Waiting → ℕ → ℕ → Type 0
+IsTried roads start potentials queue now waiting u d = IsShortened potentials queue now waiting u d ⊎ IsLeft roads start potentials queue now waiting u d
+
+-- the start that is asked for alone, if one is, is there
+abbrev pub IsThere : Option ℕ → ℕ → Type 0
+IsThere None nodes = Unit {0}
+IsThere (Some start) nodes = start < nodes
+
+-- what a search tells: all potentials, or those that are asked for one start alone
+abbrev pub AreAsked : Roads → List Bool → Option ℕ → ℕ → List (Option ℕ) → Type 0
+AreAsked roads passable None goal potentials = ArePotentialsOver roads passable goal potentials
+AreAsked roads passable (Some start) goal potentials = AreNearOver roads passable start goal potentials

@@ -47,6 +47,16 @@ pub record ArePotentials (segments : List Segment) (may : ℕ → Bool) (nodes g
   pub many : length potentials ≡ nodes
   pub each : (v : ℕ) (p : Option ℕ) → slice_get potentials v ≡ Some p → IsPotential segments may v goal p
 
+-- what is asked for one start alone: each potential is the length of some walk to the goal, that of the start is its least
+-- length, and each node on a walk of least length from the start has the length of the rest of that walk
+pub record AreNear (segments : List Segment) (may : ℕ → Bool) (nodes start goal : ℕ) (potentials : List (Option ℕ)) : Type 0 where
+  pub many : length potentials ≡ nodes
+  pub each : (v d : ℕ) → slice_get potentials v ≡ Some (Some d) → (path : List ℕ) × IsWalk segments may v goal path × (feet_of segments path ≡ d)
+  pub here : (p : Option ℕ) → slice_get potentials start ≡ Some p → IsPotential segments may start goal p
+  pub on : (v : ℕ) (way path : List ℕ) → IsWalk segments may start v way → IsWalk segments may v goal path
+      → ((other : List ℕ) → IsWalk segments may start goal other → feet_of segments way + feet_of segments path ≤ feet_of segments other)
+      → slice_get potentials v ≡ Some (Some (feet_of segments path))
+
 -- of the walks of least length the one that is first in dictionary order
 pub record IsRoute (segments : List Segment) (may : ℕ → Bool) (a b : ℕ) (route : List ℕ) : Type 0 where
   pub walk : IsWalk segments may a b route

@@ -1,13 +1,17 @@
 // The search from one node to another.
 
 ghost use Rattle.std.specs.Prelude.{◌≡◌, ◌<◌, length, IfOk};
+ghost use Rattle.road_graph.specs.Roads.{IsRoads};
 ghost use Rattle.route_search.specs.Walks.{CanReach, flagged};
-ghost use Rattle.route_search.specs.Founds.{ArePotentialsOver, IsFound};
+ghost use Rattle.route_search.specs.Founds.{AreNearOver, ArePotentialsOver, IsFound, IsShortest};
+ghost use Rattle.route_search.specs.Heights.{AreHeights};
 
 use crate::follow::follow;
 use crate::found::{Found, Potentials};
+use crate::heights::Heights;
 use crate::reach::{listed, reach};
 use crate::settle::settle;
+use crate::shortest::Shortest;
 use crate::waiting::Waiting;
 use office_io::NoMemory;
 use road_graph::{Network, Numbers};
@@ -43,61 +47,50 @@ pub fn potentials(
     requires to { to < length network.now.nodes }
     ensures { IfOk result (ArePotentialsOver network.now passable.now to) }
 {
-    let list = settle(alloc, network, passable, to)?;
+    let list = settle(alloc, network, passable, to, None, &Heights::none(alloc))?;
     Ok(Potentials::of(list))
 }
 
-/// What `search` finds, where the potentials are known. `NoMemory` where no memory was left.
-pub fn search_by(
+/// What `search` finds, without the potentials. Where heights are given, nodes that they show to lead away from `from` are
+/// left out. `NoMemory` where no memory was left.
+pub fn shortest_walk(
     alloc: Global,
     network: &Network,
     passable: &[bool],
-    potentials: &Potentials,
+    heights: &Heights,
     from: u32,
     to: u32,
-) -> Result<Found, NoMemory>
+) -> Result<Shortest, NoMemory>
     requires flags { length passable.now ≡ length network.now.segments }
+    requires heights { AreHeights network.now.segments heights.now }
     requires from { from < length network.now.nodes }
     requires to { to < length network.now.nodes }
-    requires potentials { ArePotentialsOver network.now passable.now to potentials.now }
-    ensures { IfOk result (IsFound network.now passable.now from to) }
+    ensures { IfOk result (IsShortest network.now passable.now from to) }
 {
-    Ok(find_by(alloc, network, passable, potentials, from, to)?)
+    let list = settle(alloc, network, passable, to, Some(from), heights)?;
+    Ok(shown(alloc, network, passable, &list, from, to)?)
 }
 
-// The route that the potentials show, or why there is none.
-fn find_by(
+/// The same, where the potentials are known. `NoMemory` where no memory was left.
+pub fn shortest_walk_by(
     alloc: Global,
     network: &Network,
     passable: &[bool],
     potentials: &Potentials,
     from: u32,
     to: u32,
-) -> Result<Found, AllocError>
+) -> Result<Shortest, NoMemory>
     requires flags { length passable.now ≡ length network.now.segments }
     requires from { from < length network.now.nodes }
     requires to { to < length network.now.nodes }
     requires potentials { ArePotentialsOver network.now passable.now to potentials.now }
-    ensures { IfOk result (IsFound network.now passable.now from to) }
+    ensures { IfOk result (IsShortest network.now passable.now from to) }
 {
     network.lists_are_in_order();
-    match potentials.at(from) {
-        Some(length) => {
-            let list = potentials.as_slice();
-            let start = Waiting { length, node: from };
-            let segments = follow(alloc, network, passable, list, start, to)?;
-            let potential = potentials.try_clone(alloc)?;
-            Ok(Found::Route {
-                segments: Numbers::of(segments),
-                length,
-                potential,
-            })
-        }
-        None => no_route(alloc, network, passable, from, to),
-    }
+    Ok(shown(alloc, network, passable, potentials.as_slice(), from, to)?)
 }
 
-// The potentials first, and then the route that they show, or why there is none.
+// The potentials first, and then what they show.
 fn find(
     alloc: Global,
     network: &Network,
@@ -110,16 +103,42 @@ fn find(
     requires to { to < length network.now.nodes }
     ensures { IfOk result (IsFound network.now passable.now from to) }
 {
-    let potentials = settle(alloc, network, passable, to)?;
+    let list = settle(alloc, network, passable, to, None, &Heights::none(alloc))?;
+    match shown(alloc, network, passable, &list, from, to)? {
+        Shortest::Route { segments, length } => Ok(Found::Route {
+            segments,
+            length,
+            potential: Potentials::of(list),
+        }),
+        Shortest::Cut { reached } => Ok(Found::Cut { reached }),
+        Shortest::NoRoad { reached } => Ok(Found::NoRoad { reached }),
+    }
+}
+
+// The route that potentials show, or why there is none.
+fn shown(
+    alloc: Global,
+    network: &Network,
+    passable: &[bool],
+    potentials: &[Option<u64>],
+    from: u32,
+    to: u32,
+) -> Result<Shortest, AllocError>
+    requires roads { IsRoads network.now }
+    requires flags { length passable.now ≡ length network.now.segments }
+    requires from { from < length network.now.nodes }
+    requires to { to < length network.now.nodes }
+    requires potentials { AreNearOver network.now passable.now from to potentials.now }
+    ensures { IfOk result (IsShortest network.now passable.now from to) }
+{
     let nearest = potentials[from as usize];
     match nearest {
         Some(length) => {
             let start = Waiting { length, node: from };
-            let segments = follow(alloc, network, passable, &potentials, start, to)?;
-            Ok(Found::Route {
+            let segments = follow(alloc, network, passable, potentials, start, to)?;
+            Ok(Shortest::Route {
                 segments: Numbers::of(segments),
                 length,
-                potential: Potentials::of(potentials),
             })
         }
         None => no_route(alloc, network, passable, from, to),
@@ -133,24 +152,24 @@ fn no_route(
     passable: &[bool],
     from: u32,
     to: u32,
-) -> Result<Found, AllocError>
+) -> Result<Shortest, AllocError>
     requires flags { length passable.now ≡ length network.now.segments }
     requires from { from < length network.now.nodes }
     requires to { to < length network.now.nodes }
     requires none { CanReach network.now.segments (flagged passable.now) from to → ⊥ }
-    ensures { IfOk result (IsFound network.now passable.now from to) }
+    ensures { IfOk result (IsShortest network.now passable.now from to) }
 {
     let open = vec![in alloc; true; network.segments() as usize]?;
     let all = reach(alloc, network, open.as_slice(), from)?;
     if all[to as usize] {
         let marked = reach(alloc, network, passable, from)?;
         let reached = listed(alloc, network, passable, from, marked.as_slice())?;
-        Ok(Found::Cut {
+        Ok(Shortest::Cut {
             reached: Numbers::of(reached),
         })
     } else {
         let reached = listed(alloc, network, open.as_slice(), from, all.as_slice())?;
-        Ok(Found::NoRoad {
+        Ok(Shortest::NoRoad {
             reached: Numbers::of(reached),
         })
     }

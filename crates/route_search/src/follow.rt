@@ -2,7 +2,7 @@
 ghost use Rattle.std.specs.Prelude.{◌≡◌, ◌↔◌, ℕ, ◌+◌, ◌<◌, ◌≤◌, length, IfOk, IfSome, IfNone, IsTrue, slice_get, Some, None};
 ghost use Rattle.road_graph.specs.Roads.{IsRoads};
 ghost use Rattle.route_search.specs.Walks.{IsRoute, flagged};
-ghost use Rattle.route_search.specs.Founds.{ArePotentialsOver};
+ghost use Rattle.route_search.specs.Founds.{AreNearOver};
 ghost use Rattle.route_search.specs.Following.{IsFirstTightOver, IsNoneTightOver, IsTightOver};
 
 use crate::settle::is_known;
@@ -64,7 +64,7 @@ pub(crate) fn follow(
 ) -> Result<Vec<u32>, AllocError>
     requires roads { IsRoads network.now }
     requires flags { length passable.now ≡ length network.now.segments }
-    requires potentials { ArePotentialsOver network.now passable.now to potentials.now }
+    requires potentials { AreNearOver network.now passable.now start.node to potentials.now }
     requires start { slice_get potentials.now start.node ≡ Some (Some start.length) }
     ensures { IfOk result (λ r. IsRoute network.now.segments (flagged passable.now) start.node to r.items) }
 {

@@ -4,7 +4,7 @@ ghost use Rattle.std.specs.Prelude.{◌≡◌};
 ghost use Rattle.route_search.specs.Staying.{is_slack_by};
 
 use road_graph::{Network, Numbers};
-use std::alloc::{AllocError, Global};
+use std::alloc::Global;
 use std::marker::Model;
 
 /// For each node the least length in feet of a passable walk from there to the goal, where there is one.
@@ -22,7 +22,7 @@ impl Model for Potentials {
 }
 
 impl Potentials {
-    ghost use Rattle.std.specs.Prelude.{◌≡◌, ◌<◌, [], length, slice_get, Some, IfOk};
+    ghost use Rattle.std.specs.Prelude.{◌≡◌, ◌<◌, [], length, slice_get, Some};
     ghost use Rattle.route_search.specs.Staying.{is_slack};
 
     /// Those of no node. Takes no memory.
@@ -44,15 +44,6 @@ impl Potentials {
         let list = &self.list;
         let here = network.segment(segment);
         is_slack_by(list[here.from as usize], here.feet, list[here.to as usize])
-    }
-
-    // The same once more.
-    pub(crate) fn try_clone(&self, alloc: Global) -> Result<Potentials, AllocError>
-        ensures { IfOk result (λ p. p ≡ self.now) }
-    {
-        let mut list = Vec::new(alloc);
-        list.extend_from_slice(&self.list)?;
-        Ok(Potentials { list })
     }
 
     pub(crate) fn as_slice(&self) -> &[Option<u64>]

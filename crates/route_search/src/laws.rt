@@ -1,6 +1,6 @@
 // Laws of potentials, findings and reached nodes.
 
-ghost use Rattle.route_search.specs.Laws.{ClosedSetsKeepWalksIn, FindingsAreInRange, GoalIsZero, OneFinding, OneReached, OneRoute, PotentialsCertify, ReachedAreClosed, StartIsReached};
+ghost use Rattle.route_search.specs.Laws.{ClosedSetsKeepWalksIn, FindingsAreInRange, GoalIsZero, OneFinding, OneReached, OneRoute, OneShortest, PotentialsCertify, ReachedAreClosed, ShortestAreInRange, StartIsReached};
 
 /// Potentials certify that no walk is shorter: the goal has 0, and no segment that may be passed leads to less.
 pub fn potentials_certify()
@@ -13,7 +13,9 @@ pub fn findings_are_one()
     ensures route { OneRoute }
     ensures reached { OneReached }
     ensures finding { OneFinding }
+    ensures shortest { OneShortest }
     ensures range { FindingsAreInRange }
+    ensures shortest_range { ShortestAreInRange }
 {}
 
 /// No segment that may be passed leads out of the nodes that are reached, and a set that none leaves keeps walks in.

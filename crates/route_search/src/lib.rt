@@ -12,15 +12,19 @@ mod buckets;
 mod finding;
 mod follow;
 mod found;
+mod heights;
 mod laws;
 mod reach;
 mod settle;
+mod shortest;
 mod waiting;
 mod width;
 
-pub use finding::{potentials, search, search_by};
+pub use finding::{potentials, search, shortest_walk, shortest_walk_by};
 pub use found::{Found, Potentials};
+pub use heights::Heights;
 pub use laws::{cuts_hold, findings_are_one, potentials_certify};
+pub use shortest::Shortest;
 
 #[cfg(test)]
 mod tests;

@@ -1,9 +1,10 @@
 ghost use Rattle.std.specs.Prelude.{◌≡◌, ◌<◌, length};
 ghost use Rattle.route_search.specs.Founds.{IsFound};
+ghost use Rattle.route_search.specs.Heights.{AreHeights};
 
 use crate::{
-    Found, Potentials, cuts_hold, findings_are_one, potentials, potentials_certify, search,
-    search_by,
+    Found, Heights, Potentials, Shortest, cuts_hold, findings_are_one, potentials,
+    potentials_certify, search, shortest_walk, shortest_walk_by,
 };
 use office_io::Name;
 use road_graph::Network;
@@ -128,6 +129,21 @@ fn is_told(
     }
 }
 
+// Whether what is found without the potentials is what a line of a table says.
+fn is_shortest(found: &Shortest, line: &str) -> bool {
+    let (kind, numbers) = (part(line, '/', 2), part(line, '/', 3));
+    match found {
+        Shortest::Route { segments, length } => {
+            kind == "route"
+                && are_numbers(segments.as_slice(), numbers)
+                && part(line, '/', 4).parse() == Ok(*length)
+        }
+        Shortest::Cut { reached } => kind == "cut" && are_numbers(reached.as_slice(), numbers),
+        Shortest::NoRoad { reached } => kind == "no road"
+            && are_numbers(reached.as_slice(), numbers),
+    }
+}
+
 // Searches from one node to another, as a line says.
 fn find(
     rt: &impl Abort,
@@ -160,33 +176,71 @@ fn find_by(
     assert!(rt; passable.len() == network.segments() as usize);
     assert!(rt; from < network.nodes() && to < network.nodes());
     let known = potentials(alloc, network, passable, to)?;
-    let found = search_by(alloc, network, passable, &known, from, to);
+    let found = shortest_walk_by(alloc, network, passable, &known, from, to);
     drop(known);
     let found = found?;
-    let told = is_told(network, passable, from, to, &found, line);
-    assert!(rt; told, "{line}, by potentials: {found:?}");
+    assert!(rt;
+        is_shortest(&found, line),
+        "{line}, by potentials: {found:?}"
+    );
     drop(found);
     Ok(())
 }
 
-// Searches in both ways.
-fn find_both(
+// The same for one start alone, by heights.
+fn find_near(
     rt: &impl Abort,
     alloc: Global,
     network: &Network,
     passable: &[bool],
+    heights: &Heights,
     line: &str,
-) -> Result<(), Fail> {
-    find(rt, alloc, network, passable, line)?;
-    find_by(rt, alloc, network, passable, line)
+) -> Result<(), Fail>
+    requires { AreHeights network.now.segments heights.now }
+{
+    let ends = part(line, '/', 1);
+    let (from, to) = (number(part(ends, ' ', 0)), number(part(ends, ' ', 1)));
+    assert!(rt; passable.len() == network.segments() as usize);
+    assert!(rt; from < network.nodes() && to < network.nodes());
+    let found = shortest_walk(alloc, network, passable, heights, from, to)?;
+    assert!(rt; is_shortest(&found, line), "{line}, by heights: {found:?}");
+    drop(found);
+    Ok(())
 }
 
-// Searches as a line says.
-fn find_as(rt: &impl Abort, alloc: Global, network: &Network, line: &str) -> Result<(), Fail> {
+// Searches in each way.
+fn find_all(
+    rt: &impl Abort,
+    alloc: Global,
+    network: &Network,
+    passable: &[bool],
+    heights: &Heights,
+    line: &str,
+) -> Result<(), Fail>
+    requires { AreHeights network.now.segments heights.now }
+{
+    find(rt, alloc, network, passable, line)?;
+    find_by(rt, alloc, network, passable, line)?;
+    find_near(rt, alloc, network, passable, heights, line)
+}
+
+// Searches as a line says, and makes a column of heights more.
+fn find_as(
+    rt: &impl Abort,
+    alloc: Global,
+    network: &Network,
+    heights: &mut Heights,
+    line: &str,
+) -> Result<(), Fail>
+    requires { AreHeights network.now.segments heights.old }
+    ensures { AreHeights network.now.segments heights.new }
+{
     let passable = flags(alloc, network, part(line, '/', 0))?;
-    let found = find_both(rt, alloc, network, &passable, line);
+    let found = find_all(rt, alloc, network, &passable, heights, line);
     drop(passable);
-    found
+    found?;
+    heights.add(alloc, network)?;
+    Ok(())
 }
 
 // The first line of a group says a network: its nodes, its segments as FROM,TO,FEET, and each walk from the
@@ -244,14 +298,30 @@ network/3/0,1,10000000 1,2,10000000 0,2,1/long segments
 2/0 2/route/0 1/20000000/20000000 10000000 0
 ";
 
-// Searches as the lines of a group say, and counts them.
-fn find_each(rt: &impl Abort, alloc: Global, network: &Network, group: &str) -> Result<u32, Fail> {
+// Searches as the lines of a group say, with one column of heights more each time, and counts them.
+fn find_lines(
+    rt: &impl Abort,
+    alloc: Global,
+    network: &Network,
+    heights: &mut Heights,
+    group: &str,
+) -> Result<u32, Fail>
+    requires { AreHeights network.now.segments heights.old }
+{
     let mut searches = 0u32;
-    for line in group.lines().skip(1) {
-        find_as(rt, alloc, network, line)?;
+    'lines: for line in group.lines().skip(1) {
+        find_as(rt, alloc, network, heights, line)?;
         searches = searches.wrapping_add(1);
     }
     Ok(searches)
+}
+
+// The same from no heights on.
+fn find_each(rt: &impl Abort, alloc: Global, network: &Network, group: &str) -> Result<u32, Fail> {
+    let mut heights = Heights::none(alloc);
+    let searches = find_lines(rt, alloc, network, &mut heights, group);
+    drop(heights);
+    searches
 }
 
 fn find_in_group(rt: &impl Abort, alloc: Global, group: &str) -> Result<u32, Fail> {

@@ -11,11 +11,11 @@ use Rattle.road_graph.specs.declared.segment.Segment.{Segment}
 use Rattle.road_graph.specs.Roads.{IsRoads, no_segment, segment_at}
 use Rattle.road_graph.proofs.Places.{get_within}
 use Rattle.clearance_rules.specs.declared.limit.Limit.{Limit}
-use Rattle.route_search.specs.declared.found.Found.{Found}
-use Rattle.route_search.specs.declared.found.Found.TheVariants as found
+use Rattle.route_search.specs.declared.shortest.Shortest.{Shortest}
+use Rattle.route_search.specs.declared.shortest.Shortest.TheVariants as shortest
 use Rattle.route_search.specs.Walks.{AreReached, IsAmong, IsWalk, every, flagged}
-use Rattle.route_search.specs.Founds.{IsFound}
-use Rattle.route_search.proofs.Cuts.{in_range, reached_closed}
+use Rattle.route_search.specs.Founds.{IsShortest}
+use Rattle.route_search.proofs.Cuts.{reached_closed, shortest_in_range}
 use Rattle.trip_analysis.specs.declared.application.Application.{Application}
 use Rattle.trip_analysis.specs.declared.finding.What.{What}
 use Rattle.trip_analysis.specs.declared.finding.Failing.{Failing}
@@ -100,16 +100,16 @@ pub record IsUsable (base : BaseLists) (state : InForce) (truck : ℕ) (w : What
   pub range : InRange base w
   pub holds : HoldsIn base state truck w
 
-free_usable : (base : BaseLists) (state : InForce) (a : Application) (f : Found) → IsRoads base.roads → Sound base a → IsFound base.roads (flags_of base state a.truck) a.from a.to f → IsUsable base state a.truck (what_of f)
-free_usable base state a (found.Route segments feet potential) ok sound h = record {
-  range = λ k d within. in_range base.roads (flags_of base state a.truck) a.from a.to (found.Route segments feet potential) ok sound.from h k (get_or segments k d) (slice_get-get_or segments k d within);
+free_usable : (base : BaseLists) (state : InForce) (a : Application) (f : Shortest) → IsRoads base.roads → Sound base a → IsShortest base.roads (flags_of base state a.truck) a.from a.to f → IsUsable base state a.truck (what_of f)
+free_usable base state a (shortest.Route segments feet) ok sound h = record {
+  range = λ k d within. shortest_in_range base.roads (flags_of base state a.truck) a.from a.to (shortest.Route segments feet) ok sound.from h k (get_or segments k d) (slice_get-get_or segments k d within);
   holds = walk_meets base state a.truck a.from a.to segments h.route.walk;
 }
-free_usable base state a (found.Cut reached) ok sound h = record {
+free_usable base state a (shortest.Cut reached) ok sound h = record {
   range = record { rising = h.nodes.rising };
   holds = cut_holds base state a.truck a.from (flagged (flags_of base state a.truck)) reached h.nodes (λ s within pass. flag_is base state a.truck s within ∙ pass);
 }
-free_usable base state a (found.NoRoad reached) ok sound h = record {
+free_usable base state a (shortest.NoRoad reached) ok sound h = record {
   range = record { rising = h.nodes.rising };
   holds = cut_holds base state a.truck a.from every reached h.nodes (λ s within pass. refl);
 }

@@ -15,6 +15,7 @@ use Rattle.restriction_log.specs.States.{InForce, AgreeOn, rating_at, state_afte
 use Rattle.restriction_log.proofs.Elsewhere.{agree-after}
 use Rattle.snapshot_store.specs.Stores.{AreKept, IsLater, Stored, state_now, version_of}
 use Rattle.snapshot_store.proofs.Changed.{agree_kept}
+use Rattle.route_search.specs.Heights.{AreHeights}
 use Rattle.clearance_rules.specs.declared.limit.Limit.{Limit}
 use Rattle.clearance_rules.proofs.Agreeing.{limits_agree}
 use Rattle.trip_analysis.specs.declared.analyst.Analyst.{Analyst}
@@ -121,52 +122,9 @@ below_judged base old new n truck known judged within is below = record {
         (ap (λ (l : List Bool). get_or l n false) (is.flags e) ∙ get_or-set_same known.flags.items n flag false (omega (arith, within, many)))
     here i e less there (inr other) = elsewhere i e other ∙ below.before i e (omega (arith, less, other)) there
 
--- what is known in a state is known in one that differs from it on a segment at most, which is judged anew
-pub judged_known : (base : BaseLists) (old new : InForce) (segment truck : ℕ) (known judged : Known) → segment < length base.roads.segments
-    → ((i : ℕ) → i ≢ segment → AgreeOn base.roads i old new) → IsJudged base new segment truck known judged → IsKnown base old truck known → IsKnown base new truck judged
-judged_known base old new segment truck known judged within agree is was = record {
-  study = is.is_of.study;
-  flags = λ e. same (sym is.is_flagged ∙ e) e;
-  settled = is.is_of.settled;
-}
-  where
-    flag : Bool
-    flag = is_passable base new truck segment
-
-    here : (i : ℕ) → known.is_flagged ≡ true → i < length base.roads.segments → (i ≡ segment) ⊎ (i ≡ segment → ⊥) → get_or judged.flags.items i false ≡ is_passable base new truck i
-    here i e there (inl at) =
-        let many = flags_many base old truck known.flags.items (was.flags e) in
-        subst (λ (k : ℕ). get_or judged.flags.items k false ≡ is_passable base new truck k) (sym at)
-        (ap (λ (l : List Bool). get_or l segment false) (is.flags e) ∙ get_or-set_same known.flags.items segment flag false (omega (arith, within, many)))
-    here i e there (inr other) =
-        ap (λ (l : List Bool). get_or l i false) (is.flags e)
-        ∙ (get_or-set_other known.flags.items segment i flag false other
-        ∙ (ap (λ (l : List Bool). get_or l i false) (was.flags e)
-        ∙ (flag_is base old truck i there ∙ passes_alike base old new truck i (agree i other))))
-
-    same : known.is_flagged ≡ true → judged.is_flagged ≡ true → judged.flags.items ≡ flags_of base new truck
-    same e now =
-        let many = is.is_of.many now in
-        let count : length (flags_of base new truck) ≡ length base.roads.segments = length-map-range_with_len (is_passable base new truck) 0 (length base.roads.segments) in
-        ext_get_or false judged.flags.items (flags_of base new truck) (many ∙ sym count) (λ i less.
-        let there : i < length base.roads.segments = omega (arith, less, many) in
-        here i e there (cases_eq i segment) ∙ sym (flag_is base new truck i there))
-
--- the same of each truck
-pub are_judged_known : (base : BaseLists) (old new : InForce) (change : Change) (segment : ℕ) (a b : Analyst) → segment ≡ touched base.roads change → segment < length base.roads.segments
-    → new ≡ state_after old change → AreKnown base old a → AreJudged base new segment a b → AreKnown base new b
-are_judged_known base old new change segment a b named within next are judged = record {
-  many = judged.many;
-  each = λ truck d less. judged_known base old new segment truck _ _ within agree (judged.each truck d less) (are.each truck d less);
-}
-  where
-    agree : (i : ℕ) → i ≢ segment → AgreeOn base.roads i old new
-    agree i apart =
-        let far : i ≢ touched base.roads change = λ e. apart (e ∙ sym named) in
-        subst (AgreeOn base.roads i old) (sym next) (agree-after base.roads i old change far)
-
 -- what is known of each truck while one segment after another is looked at
 pub record AreKnownBelow (base : BaseLists) (old new : InForce) (n : ℕ) (a : Analyst) : Type 0 where
+  pub heights : AreHeights base.roads.segments a.heights
   pub many : length a.known.items ≡ length base.fleet
   pub each : (truck : ℕ) (d : Known) → truck < length base.fleet → IsKnownBelow base old new n truck (get_or a.known.items truck d)
 
@@ -174,14 +132,14 @@ pub are_below_of : (base : BaseLists) (old new : InForce) (n : ℕ) (a : Analyst
 are_below_of base old new n a are = record { many = are.many; each = λ truck d less. (are.each truck d less).is_of }
 
 pub are_below_none : (base : BaseLists) (old new : InForce) (a : Analyst) → AreKnown base old a → AreKnownBelow base old new 0 a
-are_below_none base old new a are = record { many = are.many; each = λ truck d less. below_none base old new truck _ (are.each truck d less) }
+are_below_none base old new a are = record { heights = are.heights; many = are.many; each = λ truck d less. below_none base old new truck _ (are.each truck d less) }
 
 pub are_below_all : (base : BaseLists) (old new : InForce) (n : ℕ) (a : Analyst) → length base.roads.segments ≤ n → AreKnownBelow base old new n a → AreKnown base new a
-are_below_all base old new n a whole are = record { many = are.many; each = λ truck d less. below_all base old new n truck _ whole (are.each truck d less) }
+are_below_all base old new n a whole are = record { heights = are.heights; many = are.many; each = λ truck d less. below_all base old new n truck _ whole (are.each truck d less) }
 
 pub are_below_kept : (base : BaseLists) (old new : InForce) (n m : ℕ) (a : Analyst) → n ≤ m → ((i : ℕ) → n ≤ i → i < m → AgreeOn base.roads i old new)
     → AreKnownBelow base old new n a → AreKnownBelow base old new m a
-are_below_kept base old new n m a up agree are = record { many = are.many; each = λ truck d less. below_kept base old new n m truck _ up agree (are.each truck d less) }
+are_below_kept base old new n m a up agree are = record { heights = are.heights; many = are.many; each = λ truck d less. below_kept base old new n m truck _ up agree (are.each truck d less) }
 
 -- some segments more, which no posting since a version names
 pub are_below_unchanged : (base : BaseLists) (last next : Stored) (after n m : ℕ) (a : Analyst) → next.roads ≡ base.roads → IsLater last next → after ≡ version_of last
@@ -196,6 +154,7 @@ are_below_same base old new n a agree are =
 
 pub are_below_judged : (base : BaseLists) (old new : InForce) (n : ℕ) (a b : Analyst) → n < length base.roads.segments → AreJudged base new n a b → AreKnownBelow base old new n a → AreKnownBelow base old new (n + 1) b
 are_below_judged base old new n a b within judged are = record {
+  heights = subst (AreHeights base.roads.segments) (sym judged.heights) are.heights;
   many = judged.many;
   each = λ truck d less. below_judged base old new n truck _ _ within (judged.each truck d less) (are.each truck d less);
 }

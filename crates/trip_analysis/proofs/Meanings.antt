@@ -8,10 +8,10 @@ use Rattle.restriction_log.specs.States.{InForce}
 use Rattle.road_graph.specs.declared.segment.Segment.{Segment}
 use Rattle.road_graph.proofs.Places.{get_within}
 use Rattle.clearance_rules.specs.declared.limit.Limit.{Limit}
-use Rattle.route_search.specs.declared.found.Found.{Found}
-use Rattle.route_search.specs.declared.found.Found.TheVariants as found
+use Rattle.route_search.specs.declared.shortest.Shortest.{Shortest}
+use Rattle.route_search.specs.declared.shortest.Shortest.TheVariants as shortest
 use Rattle.route_search.specs.Walks.{AreReached, CanReach, IsRoute, IsWalk, every, flagged}
-use Rattle.route_search.specs.Founds.{IsFound}
+use Rattle.route_search.specs.Founds.{IsShortest}
 use Rattle.trip_analysis.specs.declared.application.Application.{Application}
 use Rattle.trip_analysis.specs.declared.finding.Failing.{Failing}
 use Rattle.trip_analysis.specs.declared.finding.What.{What}
@@ -54,23 +54,23 @@ flags_allow base state truck i within may = sym (flag_is base state truck i with
 allow_flags : (base : BaseLists) (state : InForce) (truck : ℕ) → Allows base.roads.segments (is_passable base state truck) (flagged (flags_of base state truck))
 allow_flags base state truck i within may = flag_is base state truck i within ∙ may
 
-free_route : (base : BaseLists) (state : InForce) (truck a b : ℕ) (route : List ℕ) (f : Found) → IsFound base.roads (flags_of base state truck) a b f → what.Route route ≡ what_of f → IsRoute base.roads.segments (is_passable base state truck) a b route
-free_route base state truck a b route (found.Route segments feet potential) h e =
+free_route : (base : BaseLists) (state : InForce) (truck a b : ℕ) (route : List ℕ) (f : Shortest) → IsShortest base.roads (flags_of base state truck) a b f → what.Route route ≡ what_of f → IsRoute base.roads.segments (is_passable base state truck) a b route
+free_route base state truck a b route (shortest.Route segments feet) h e =
     let same : segments ≡ route = cc in
     subst (IsRoute base.roads.segments (is_passable base state truck) a b) same (route_by base.roads.segments (flagged (flags_of base state truck)) (is_passable base state truck) a b segments (flags_allow base state truck) (allow_flags base state truck) h.route)
-free_route base state truck a b route (found.Cut reached) h e = absurd (cc)
-free_route base state truck a b route (found.NoRoad reached) h e = absurd (cc)
+free_route base state truck a b route (shortest.Cut reached) h e = absurd (cc)
+free_route base state truck a b route (shortest.NoRoad reached) h e = absurd (cc)
 
-free_cut : (base : BaseLists) (state : InForce) (truck a b : ℕ) (nodes : List ℕ) (f : Found) → IsFound base.roads (flags_of base state truck) a b f → what.Cut nodes ≡ what_of f → IsCut base state truck a b nodes
-free_cut base state truck a b nodes (found.Route segments feet potential) h e = absurd (cc)
-free_cut base state truck a b nodes (found.Cut reached) h e =
+free_cut : (base : BaseLists) (state : InForce) (truck a b : ℕ) (nodes : List ℕ) (f : Shortest) → IsShortest base.roads (flags_of base state truck) a b f → what.Cut nodes ≡ what_of f → IsCut base state truck a b nodes
+free_cut base state truck a b nodes (shortest.Route segments feet) h e = absurd (cc)
+free_cut base state truck a b nodes (shortest.Cut reached) h e =
     let same : reached ≡ nodes = cc in
     subst (IsCut base state truck a b) same (record {
       none = λ reach. h.none (reach_by base.roads.segments (is_passable base state truck) (flagged (flags_of base state truck)) a b (allow_flags base state truck) reach);
       by_passable = λ any. reached_by base.roads.segments (flagged (flags_of base state truck)) (is_passable base state truck) a reached (flags_allow base state truck) (allow_flags base state truck) h.nodes;
       by_any = λ none. absurd (none h.walk);
     })
-free_cut base state truck a b nodes (found.NoRoad reached) h e =
+free_cut base state truck a b nodes (shortest.NoRoad reached) h e =
     let same : reached ≡ nodes = cc in
     subst (IsCut base state truck a b) same (record {
       none = λ reach. h.none (reach_by base.roads.segments (is_passable base state truck) every a b (λ i within may. refl) reach);

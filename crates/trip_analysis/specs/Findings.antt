@@ -7,9 +7,9 @@ use Rattle.snapshot_store.specs.Stores.{Stored, state_now}
 use Rattle.clearance_rules.specs.declared.limit.Limit.{Limit}
 use Rattle.clearance_rules.specs.Loads.{is_legal}
 use Rattle.clearance_rules.specs.Limits.{limit_of}
-use Rattle.route_search.specs.declared.found.Found.{Found}
-use Rattle.route_search.specs.declared.found.Found.TheVariants as found
-use Rattle.route_search.specs.Founds.{IsFound}
+use Rattle.route_search.specs.declared.shortest.Shortest.{Shortest}
+use Rattle.route_search.specs.declared.shortest.Shortest.TheVariants as shortest
+use Rattle.route_search.specs.Founds.{IsShortest}
 use Rattle.trip_analysis.specs.declared.application.Application.{Application}
 use Rattle.trip_analysis.specs.declared.finding.Failing.{Failing}
 use Rattle.trip_analysis.specs.declared.finding.What.{What}
@@ -72,10 +72,10 @@ abbrev pub flags_of : BaseLists → InForce → ℕ → List Bool
 flags_of base state truck = map (is_passable base state truck) (range_with_len 0 (length base.roads.segments))
 
 -- what a search found, as it is proposed
-abbrev pub what_of : Found → What
-what_of (found.Route segments feet potential) = what.Route segments
-what_of (found.Cut reached) = what.Cut reached
-what_of (found.NoRoad reached) = what.Cut reached
+abbrev pub what_of : Shortest → What
+what_of (shortest.Route segments feet) = what.Route segments
+what_of (shortest.Cut reached) = what.Cut reached
+what_of (shortest.NoRoad reached) = what.Cut reached
 
 -- what is found on an asked route
 abbrev pub asked_finding : Option Failing → List ℕ → What
@@ -84,7 +84,7 @@ asked_finding None route = what.Route route
 
 -- what a search over the flagged segments finds, as it is proposed
 abbrev pub IsSearched : Roads → List Bool → ℕ → ℕ → What → Type 0
-IsSearched roads flags from to w = (f : Found) × IsFound roads flags from to f × (w ≡ what_of f)
+IsSearched roads flags from to w = (f : Shortest) × IsShortest roads flags from to f × (w ≡ what_of f)
 
 -- what is found with an asked route or, without one, by a search over the segments that the truck may pass
 abbrev pub IsFoundBy : BaseLists → InForce → Application → Option (List ℕ) → What → Type 0

@@ -2,6 +2,7 @@
 use Rattle.std.specs.Prelude.{◌≡◌, ◌<◌, ◌≤◌, ℕ, Bool, true, false, List, Option, length, slice_index_or, slice_set}
 use Rattle.road_graph.specs.Roads.{Roads}
 use Rattle.route_search.specs.Founds.{ArePotentialsOver}
+use Rattle.route_search.specs.Heights.{AreHeights}
 use Rattle.restriction_log.specs.States.{InForce}
 use Rattle.trip_analysis.specs.declared.analyst.Known.{Known}
 use Rattle.trip_analysis.specs.declared.analyst.Analyst.{Analyst}
@@ -42,8 +43,9 @@ pub record AreOfFleet (base : BaseLists) (a : Analyst) : Type 0 where
   pub many : length a.known.items ≡ length base.fleet
   pub each : (truck : ℕ) (d : Known) → truck < length base.fleet → IsOfTruck base truck (slice_index_or a.known.items truck d)
 
--- the segment is judged anew for each truck of the fleet
+-- the segment is judged anew for each truck of the fleet, and the heights are as before
 pub record AreJudged (base : BaseLists) (state : InForce) (segment : ℕ) (old new : Analyst) : Type 0 where
+  pub heights : new.heights ≡ old.heights
   pub many : length new.known.items ≡ length base.fleet
   pub each : (truck : ℕ) (d : Known) → truck < length base.fleet → IsJudged base state segment truck (slice_index_or old.known.items truck d) (slice_index_or new.known.items truck d)
 
@@ -53,8 +55,9 @@ pub record IsKnownBelow (base : BaseLists) (old new : InForce) (n truck : ℕ) (
   pub before : (i : ℕ) → known.is_flagged ≡ true → i < n → i < length base.roads.segments → slice_index_or known.flags.items i false ≡ is_passable base new truck i
   pub behind : (i : ℕ) → known.is_flagged ≡ true → n ≤ i → i < length base.roads.segments → slice_index_or known.flags.items i false ≡ is_passable base old truck i
 
--- it is known of each truck of the fleet, in order
+-- it is known of each truck of the fleet, in order, and the heights are those of the roads
 pub record AreKnown (base : BaseLists) (state : InForce) (a : Analyst) : Type 0 where
+  pub heights : AreHeights base.roads.segments a.heights
   pub many : length a.known.items ≡ length base.fleet
   pub each : (truck : ℕ) (d : Known) → truck < length base.fleet → IsKnown base state truck (slice_index_or a.known.items truck d)
 

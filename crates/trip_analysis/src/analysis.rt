@@ -16,7 +16,7 @@ use hs20_truck::Live;
 use office_io::NoMemory;
 use restriction_log::State;
 use road_graph::{Network, Numbers};
-use route_search::{Found, search};
+use route_search::{Heights, Shortest, shortest_walk};
 use snapshot_store::Snapshot;
 use span_rating::SpanStudy;
 use std::alloc::Global;
@@ -164,16 +164,18 @@ fn search_flagged(
     requires to { to < length network.now.nodes }
     ensures { IfOk result (IsSearched network.now passable.now from to) }
 {
-    Ok(proposed(search(alloc, network, passable, from, to)?))
+    let heights = Heights::none(alloc);
+    let found = shortest_walk(alloc, network, passable, &heights, from, to)?;
+    Ok(proposed(found))
 }
 
 // What a search finds, as it is proposed.
-pub(crate) fn proposed(found: Found) -> What
+pub(crate) fn proposed(found: Shortest) -> What
     ensures { result ≡ what_of found }
 {
     match found {
-        Found::Route { segments, .. } => What::Route(segments),
-        Found::Cut { reached } => What::Cut(reached),
-        Found::NoRoad { reached } => What::Cut(reached),
+        Shortest::Route { segments, .. } => What::Route(segments),
+        Shortest::Cut { reached } => What::Cut(reached),
+        Shortest::NoRoad { reached } => What::Cut(reached),
     }
 }

@@ -1,9 +1,10 @@
 // Who finds what applications ask for, and keeps what is known of each truck.
 
 ghost use Rattle.std.specs.Prelude.{◌≡◌, ◌<◌, length, slice_set, true, false, IfOk, OnOk};
+ghost use Rattle.route_search.specs.Founds.{IsShortest};
+ghost use Rattle.route_search.specs.Heights.{AreHeights};
 ghost use Rattle.road_graph.specs.Roads.{IsRoads};
-ghost use Rattle.restriction_log.specs.Changes.{takes};
-ghost use Rattle.restriction_log.specs.States.{AgreeOn, AreOf, InForce, state_after};
+ghost use Rattle.restriction_log.specs.States.{AgreeOn, AreOf, InForce};
 ghost use Rattle.snapshot_store.specs.Stores.{IsLater, state_now};
 ghost use Rattle.trip_analysis.specs.Applications.{Sound};
 ghost use Rattle.trip_analysis.specs.Bases.{train_of};
@@ -18,16 +19,16 @@ use crate::passing::{failing_limit_by, first_on_by, flags, train_of};
 use clearance_rules::Steps;
 use hs20_truck::Kept;
 use office_io::NoMemory;
-use restriction_log::{Change, State, touched};
+use restriction_log::State;
 use road_graph::Network;
-use route_search::{Potentials, potentials, search_by};
+use route_search::{Heights, Potentials, Shortest, potentials, shortest_walk, shortest_walk_by};
 use snapshot_store::Snapshot;
 use std::alloc::Global;
 use std::marker::Brand;
 use std::sync::ledger::{Blank, Ledger};
 
 /// What is known of one truck: its study and, once they were needed, for each segment whether it may pass it, and for each
-/// node how far it is from there to the goal of its last trip.
+/// node how far it is from there to a goal that came twice.
 #[derive(Drop)]
 pub struct Known {
     study: Kept,
@@ -37,12 +38,16 @@ pub struct Known {
     is_settled: bool,
     goal: u32,
     potentials: Potentials,
+    // the goal of its last trip
+    last: Option<u32>,
 }
 
-/// What is known of the trucks of a base, in order, in a state of its roads.
+/// What is known of the trucks of a base, in order, in a state of its roads, and heights of its nodes, which stay whatever
+/// is posted.
 #[derive(Drop)]
 pub struct Analyst {
     known: Vec<Known>,
+    heights: Heights,
 }
 
 impl Analyst {
@@ -55,7 +60,10 @@ impl Analyst {
         'trucks: for truck in 0..count {
             known.push(unknown(alloc, base, truck as u32)?)?;
         }
-        Ok(Analyst { known })
+        Ok(Analyst {
+            known,
+            heights: Heights::none(alloc),
+        })
     }
 
     /// What is found for the application in the state of the base's roads, as `find` says it, by what is known.
@@ -73,7 +81,16 @@ impl Analyst {
         ensures known { AreKnown base.now state.now self.new }
     {
         let known = &mut self.known[application.truck() as usize];
-        find_known::<Brand>(alloc, base, state, application, known, Blank::new(1))
+        let heights = &mut self.heights;
+        find_known::<Brand>(
+            alloc,
+            base,
+            state,
+            application,
+            known,
+            heights,
+            Blank::new(1),
+        )
     }
 
     /// The study of a truck. Takes no memory.
@@ -84,26 +101,6 @@ impl Analyst {
     {
         let _trucks = base.fleet().len();
         &self.known[truck as usize].study
-    }
-
-    /// Goes on from `old`, the state in which the trucks are known, to the one that a change makes of it: of each truck the
-    /// segment that the change names is judged anew. Takes no memory.
-    pub fn turn<L: Ledger>(
-        &mut self,
-        base: &Base,
-        old: &State,
-        new: &State,
-        change: &Change,
-        steps: &mut Steps<L>,
-    )
-        requires known { AreKnown base.now old.now self.old }
-        requires state { AreOf base.now.roads new.now }
-        requires takes { takes base.now.roads change.now ≡ true }
-        requires after { new.now ≡ state_after old.now change.now }
-        ensures { AreKnown base.now new.now self.new }
-    {
-        base.lists_are_in_order();
-        self.judge(base, new, touched(base.network(), change), steps);
     }
 
     // Goes on from the state of a snapshot, in which the trucks are known, to that of a later one: of the segments that
@@ -152,16 +149,19 @@ fn find_known<L: Ledger>(
     state: &State,
     application: &Application,
     known: &mut Known,
+    heights: &mut Heights,
     blank: Blank,
 ) -> Result<What, NoMemory>
     requires name { blank.name ≡ L.name }
     requires parts { blank.parts ≡ L.parts }
     requires some { 0 < blank.parts }
     requires known { IsKnown base.now state.now application.now.truck known.old }
+    requires heights { AreHeights base.now.roads.segments heights.old }
     requires state { AreOf base.now.roads state.now }
     requires sound { Sound base.now application.now }
     ensures found { IfOk result (λ w. IsFinding base.now state.now application.now w) }
     ensures known { IsKnown base.now state.now application.now.truck known.new }
+    ensures heights { AreHeights base.now.roads.segments heights.new }
 {
     let mut steps = Steps::<L>::new(blank);
     let truck = application.truck();
@@ -177,15 +177,8 @@ fn find_known<L: Ledger>(
         }
         None => {
             learn_flags(alloc, base, state, truck, known, &mut steps)?;
-            learn_potentials(alloc, base.network(), application.to(), known)?;
-            let found = search_by(
-                alloc,
-                base.network(),
-                &known.flags,
-                &known.potentials,
-                application.from(),
-                application.to(),
-            )?;
+            let (from, to) = (application.from(), application.to());
+            let found = search_known(alloc, base.network(), known, heights, from, to)?;
             Ok(proposed(found))
         }
     }
@@ -213,6 +206,59 @@ fn learn_flags<L: Ledger>(
     known.is_flagged = true;
     known.is_settled = false;
     Ok(())
+}
+
+// The shortest walk over the flagged segments. Potentials are kept of a goal that comes again; else one search is made that
+// leaves out what leads away.
+fn search_known(
+    alloc: Global,
+    network: &Network,
+    known: &mut Known,
+    heights: &mut Heights,
+    from: u32,
+    to: u32,
+) -> Result<Shortest, NoMemory>
+    requires many { length known.old.flags.items ≡ length network.now.segments }
+    requires from { from < length network.now.nodes }
+    requires to { to < length network.now.nodes }
+    requires settled { AreSettled network.now known.old }
+    requires heights { AreHeights network.now.segments heights.old }
+    ensures found { IfOk result (IsShortest network.now known.old.flags.items from to) }
+    ensures study { known.new.study ≡ known.old.study }
+    ensures flagged { known.new.is_flagged ≡ known.old.is_flagged }
+    ensures flags { known.new.flags.items ≡ known.old.flags.items }
+    ensures settled { AreSettled network.now known.new }
+    ensures heights { AreHeights network.now.segments heights.new }
+{
+    if comes_again(known, to) {
+        learn_potentials(alloc, network, to, known)?;
+        return shortest_walk_by(alloc, network, &known.flags, &known.potentials, from, to);
+    }
+    let others = known.last.is_some();
+    known.last = Some(to);
+    learn_heights(alloc, network, heights, others)?;
+    shortest_walk(alloc, network, &known.flags, heights, from, to)
+}
+
+// Makes one column of heights more, where trips of a truck have several goals.
+fn learn_heights(
+    alloc: Global,
+    network: &Network,
+    heights: &mut Heights,
+    others: bool,
+) -> Result<(), NoMemory>
+    requires { AreHeights network.now.segments heights.old }
+    ensures { AreHeights network.now.segments heights.new }
+{
+    if others {
+        heights.add(alloc, network)?;
+    }
+    Ok(())
+}
+
+// Whether potentials of the goal are kept, or the last trip had it too.
+fn comes_again(known: &Known, goal: u32) -> bool {
+    (known.is_settled && known.goal == goal) || known.last == Some(goal)
 }
 
 // Keeps the potentials of a goal, where those of another one are kept, or none.
@@ -326,5 +372,6 @@ fn unknown(alloc: Global, base: &Base, truck: u32) -> Result<Known, NoMemory>
         is_settled: false,
         goal: 0,
         potentials: Potentials::none(alloc),
+        last: None,
     })
 }

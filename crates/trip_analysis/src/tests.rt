@@ -4,10 +4,9 @@ ghost use Rattle.trip_analysis.specs.Applications.{AreAskedThere, Sound};
 ghost use Rattle.snapshot_store.specs.Stores.{IsLater};
 ghost use Rattle.trip_analysis.specs.Findings.{AreRising};
 ghost use Rattle.trip_analysis.specs.Followers.{GoesOn, followed};
-ghost use Rattle.trip_analysis.specs.Known.{AreKnown};
 
 use crate::{
-    Analyst, Application, ApplicationRefusal, Base, Failing, Follower, Proposal, Truck, What,
+    Application, ApplicationRefusal, Base, Failing, Follower, Proposal, Truck, What,
     asked_findings_are_of_the_route, failing_limit, find, findings_hold, first_meeting_out,
     first_on, free_findings_are_of_walks, next_leaving, routes_break_off_where_walks_do,
 };
@@ -358,136 +357,6 @@ fn posted(text: &str) -> Change {
             permille: value,
         },
     }
-}
-
-// A state, and an analyst who goes on from posting to posting.
-#[derive(Drop)]
-struct Turned {
-    state: State,
-    analyst: Analyst,
-}
-
-// Goes on by the change of a text.
-#[tactic(auto, using(restriction_log::proofs::Standing::stays_of, restriction_log::proofs::Standing::named_of))]
-fn turn_by<L: Ledger>(
-    rt: &impl Abort,
-    alloc: Global,
-    base: &Base,
-    turned: &mut Turned,
-    text: &str,
-    steps: &mut Steps<L>,
-)
-    requires state { AreOf base.now.roads turned.old.state }
-    requires known { AreKnown base.now turned.old.state turned.old.analyst }
-    ensures state { AreOf base.now.roads turned.new.state }
-    ensures known { AreKnown base.now turned.new.state turned.new.analyst }
-{
-    let change = posted(text);
-    assert!(rt; takes(base.network(), &change));
-    let next = turned.state.with(alloc, &change).expect(rt, "memory");
-    let state = &turned.state;
-    turned.analyst.turn(base, state, &next, &change, steps);
-    turned.state = next;
-}
-
-// Goes on by each of the changes of a text.
-fn turn_each<L: Ledger>(
-    rt: &impl Abort,
-    alloc: Global,
-    base: &Base,
-    turned: &mut Turned,
-    text: &str,
-    steps: &mut Steps<L>,
-)
-    requires state { AreOf base.now.roads turned.old.state }
-    requires known { AreKnown base.now turned.old.state turned.old.analyst }
-    ensures state { AreOf base.now.roads turned.new.state }
-    ensures known { AreKnown base.now turned.new.state turned.new.analyst }
-{
-    'postings: for text in text.split_whitespace() {
-        turn_by(rt, alloc, base, turned, text, steps);
-    }
-}
-
-// Goes on by what a line says, and compares what is found then.
-fn turn_line<L: Ledger>(
-    rt: &impl Abort,
-    alloc: Global,
-    base: &Base,
-    turned: &mut Turned,
-    line: &str,
-    steps: &mut Steps<L>,
-) -> Result<(), Fail>
-    requires state { AreOf base.now.roads turned.old.state }
-    requires known { AreKnown base.now turned.old.state turned.old.analyst }
-    ensures state { IfOk result (λ _. AreOf base.now.roads turned.new.state) }
-    ensures known { IfOk result (λ _. AreKnown base.now turned.new.state turned.new.analyst) }
-{
-    let mut parts = line.split('/');
-    turn_each(rt, alloc, base, turned, parts.next().unwrap_or(""), steps);
-    let text = parts.next().unwrap_or("");
-    let application = applied(rt, alloc, base, text)?.expect(rt, "an application");
-    let state = &turned.state;
-    let what = turned.analyst.find(alloc, base, state, &application);
-    drop(application);
-    let what = what?;
-    let checked = check_found(rt, alloc, &what, line);
-    drop(what);
-    checked
-}
-
-// An analyst who knows nothing yet.
-fn unturned(alloc: Global, base: &Base) -> Result<Turned, Fail>
-    ensures state { IfOk result (λ turned. AreOf base.now.roads turned.state) }
-    ensures known { IfOk result (λ turned. AreKnown base.now turned.state turned.analyst) }
-{
-    base.network().lists_are_in_order();
-    Ok(Turned {
-        state: State::base(alloc, base.network())?,
-        analyst: Analyst::new(alloc, base)?,
-    })
-}
-
-// Goes on by each line.
-fn turn_lines<L: Ledger>(
-    rt: &impl Abort,
-    alloc: Global,
-    base: &Base,
-    turned: &mut Turned,
-    steps: &mut Steps<L>,
-) -> Result<(), Fail>
-    requires state { AreOf base.now.roads turned.old.state }
-    requires known { AreKnown base.now turned.old.state turned.old.analyst }
-{
-    'lines: for line in HISTORY.lines() {
-        turn_line(rt, alloc, base, turned, line, steps)?;
-    }
-    Ok(())
-}
-
-// The same with one counter.
-fn turn_counted<L: Ledger>(
-    rt: &impl Abort,
-    alloc: Global,
-    base: &Base,
-    blank: Blank,
-) -> Result<(), Fail>
-    requires name { blank.name ≡ L.name }
-    requires parts { blank.parts ≡ L.parts }
-    requires some { 0 < blank.parts }
-{
-    let mut turned = unturned(alloc, base)?;
-    let done = turn_lines(rt, alloc, base, &mut turned, &mut Steps::<L>::new(blank));
-    drop(turned);
-    done
-}
-
-#[test]
-fn goes_on_from_posting_to_posting(rt: HostRuntime) -> Result<(), Fail> {
-    let base = base(&rt, rt.alloc())?;
-    let done = turn_counted::<Brand>(&rt, rt.alloc(), &base, Blank::new(1));
-    drop(base);
-    done
 }
 
 // Posts each of the changes of a text.

@@ -1,30 +1,15 @@
-use Rattle.std.proofs.Common.{◌≡◌, ◌<◌, ℕ, List, Option, Some, None, length, get_or, refl, arith, ◌∙◌, ap}
-use Rattle.std.specs.Prelude.{slice_get}
-use Rattle.std.proofs.lemmas.Option.{slice_get_read}
-use Rattle.route_search.proofs.Outcomes.{none_found, route_found}
+use Rattle.route_search.specs.Walks.{flagged}
+use Rattle.route_search.proofs.Nearest.{near_of_all}
+use Rattle.route_search.proofs.Outcomes.{route_shown}
 use Rattle.route_search.proofs.finding.find.Goals as goal
 
--- a potential that was read
-read_at : (ps : List (Option ℕ)) (i : ℕ) (x p : Option ℕ) → i < length ps → x ≡ get_or ps i x → x ≡ p → slice_get ps i ≡ Some p
-read_at ps i x p within is e = slice_get_read ps (length ps) i x refl within is ∙ ap (λ (y : Option ℕ). Some y) e
+pub shown-requires-clause-potentials : goal.shown-requires-clause-potentials
+shown-requires-clause-potentials c =
+    let a = c.args in let told = c.in_ok-list.ensures in
+    rw c.deref.ensures.value (near_of_all a.network.now (flagged a.passable.now) a.from a.to c.in_ok-list.list.items told.roads c.requires.to told.least)
 
-pub follow-requires-clause-start : goal.follow-requires-clause-start
-follow-requires-clause-start c =
-    let ps = c.in_ok-potentials.potentials.items in
-    let within : c.args.from < length ps = omega (arith, c.in_ok-potentials.ensures.least.many, c.requires.from) in
-    rw c.deref.ensures.value (read_at ps c.args.from c.index-nearest.result.now (Some c.in-Some.length) within c.index-nearest.ensures c.in-Some.is)
-
-pub no_route-requires-clause-none : goal.no_route-requires-clause-none
-no_route-requires-clause-none c =
-    let ps = c.in_ok-potentials.potentials.items in
-    let least = c.in_ok-potentials.ensures.least in
-    let within : c.args.from < length ps = omega (arith, least.many, c.requires.from) in
-    none_found c.args.network.now c.args.passable.now c.args.from c.args.to ps least (read_at ps c.args.from c.index-nearest.result.now None within c.index-nearest.ensures c.in-None.is)
-
-pub returns-in_ok-segments-in-Some : goal.returns-in_ok-segments-in-Some
-returns-in_ok-segments-in-Some c =
-    let ps = c.in_ok-potentials.potentials.items in
-    let least = c.in_ok-potentials.ensures.least in
-    let within : c.args.from < length ps = omega (arith, least.many, c.requires.from) in
-    let at = read_at ps c.args.from c.index-nearest.result.now (Some c.in-Some.length) within c.index-nearest.ensures c.in-Some.is in
-    rw (c.of.ensures, c.of-in-Some.ensures) (route_found c.args.network.now c.args.passable.now c.args.from c.args.to c.in_ok-segments-in-Some.segments.items c.in-Some.length ps c.in_ok-segments-in-Some.ensures least at)
+pub returns-in-Route : goal.returns-in-Route
+returns-in-Route c =
+    let a = c.args in let told = c.in_ok-list.ensures in
+    let route = rw c.in-Route.is at c.in_ok-segments.ensures in
+    rw c.of.ensures (route_shown a.network.now a.passable.now a.from a.to c.in-Route.segments c.in-Route.length c.in_ok-list.list.items c.requires.from route told.least)

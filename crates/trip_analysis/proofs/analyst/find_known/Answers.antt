@@ -10,21 +10,16 @@ first_on_by-failing-requires-clause-segments g c =
     let a = c.args.application.now in
     rw c.as_slice.ensures (asked_there c.args.base.now.roads a.from a.to a.asked c.in-Some.route.now (sym c.asked.ensures ∙ ap (option_map (λ n. n.now)) c.in-Some.is) c.requires.sound.asked)
 
-pub learn_potentials-requires-clause-many : goal.learn_potentials-requires-clause-many
-learn_potentials-requires-clause-many g c =
+pub search_known-requires-clause-many : goal.search_known-requires-clause-many
+search_known-requires-clause-many g c =
     rw c.network-in-None.ensures (flags_many c.args.base.now c.args.state.now _ c.learn_flags.new.known.flags.items (c.learn_flags.ensures.known.flags c.in_ok-learn_flags-in-None.ensures.flagged))
-
-pub search_by-requires-clause-flags : goal.search_by-requires-clause-flags
-search_by-requires-clause-flags g c =
-    let flags = c.learn_flags.ensures.known.flags c.in_ok-learn_flags-in-None.ensures.flagged in
-    rw (c.deref.ensures.value, c.network-in-None-2.ensures) (flags_many c.args.base.now c.args.state.now c.truck-truck.result c.learn_potentials.new.known.flags.items (c.learn_potentials.ensures.flags ∙ flags))
 
 pub returns-clause-found : goal.returns-clause-found
 returns-clause-found g c =
     let base = c.args.base.now in let state = c.args.state.now in let a = c.args.application.now in
     let kept = c.learn_flags.ensures.known.flags c.in_ok-learn_flags-in-None.ensures.flagged in
-    let flags : c.deref.result.now ≡ flags_of base state a.truck = c.deref.ensures.value ∙ (c.learn_potentials.ensures.flags ∙ (kept ∙ ap (flags_of base state) c.truck-truck.ensures)) in
-    let is = rw (c.network-in-None-2.ensures, flags, c.from.ensures, c.to-in-None.ensures) at c.in_ok-found-in-None.ensures in
+    let flags = kept ∙ ap (flags_of base state) c.truck-truck.ensures in
+    let is = rw (c.network-in-None.ensures, flags, c.from-from.ensures, c.to-to.ensures) at c.in_ok-found-in-None.ensures.found in
     let found : IsSearched base.roads (flags_of base state a.truck) a.from a.to c.proposed.result = (c.in_ok-found-in-None.found, is, c.proposed.ensures) in
     let none : a.asked ≡ None = sym c.asked.ensures ∙ ap (option_map (λ n. n.now)) c.in-None.is in
     record {
