@@ -42,12 +42,12 @@ pub record IsNoBetter (axles : List Axle) (best : Candidate) (value weight k fir
   pub most : IsAtMost value weight best
   pub order : value * best.run.sums.weight ≡ best.value * weight → IsFirstTo axles best k first last
 
--- the widest run with the centre of the one candidate comes before that of the other in the order of first and last, or is the same
-pub record IsEarlier (axles : List Axle) (one other : Candidate) : Type 0 where
+-- the widest run with the one centre comes before that with the other in the order of first and last, or is the same
+pub record IsEarlier (axles : List Axle) (one other : Sums) : Type 0 where
   pub wide : Run
   pub wide' : Run
-  pub is_widest : IsWidest axles one.run.sums wide
-  pub is_widest' : IsWidest axles other.run.sums wide'
+  pub is_widest : IsWidest axles one wide
+  pub is_widest' : IsWidest axles other wide'
   pub by_first : wide.first ≤ wide'.first
   pub by_last : wide.first ≡ wide'.first → wide.last ≤ wide'.last
 

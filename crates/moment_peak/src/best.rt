@@ -1,6 +1,6 @@
 // The axle and the run with the greatest moment.
 
-ghost use Rattle.std.specs.Prelude.{◌≡◌, ℕ, ◌+◌, ◌-◌, ◌*◌, ◌<◌, ◌≤◌, ◌^◌, ◌⊎◌};
+ghost use Rattle.std.specs.Prelude.{◌≡◌, ℕ, ◌+◌, ◌-◌, ◌*◌, ◌<◌, ◌≤◌, ◌^◌, ◌⊎◌, IsTrue, false};
 ghost use Rattle.axle_train.specs.Bounds.{IsTrain};
 ghost use Rattle.moment_peak.specs.Candidates.{IsAttained, IsBest, value_by_sums};
 ghost use Rattle.moment_peak.specs.Centres.{IsEarlier, IsFirstBest, IsNoBetter};
@@ -57,27 +57,28 @@ fn better(train: &Train, best: Candidate, next: Candidate) -> Candidate
     }
     if left == right {
         if best.axle == next.axle {
-            return earlier(train, best, next);
+            if comes_first(train, next.run, best.run) {
+                return next;
+            }
         }
     }
     best
 }
 
-/// The one of two candidates whose widest run with the same centre of weight comes first, in the order of first and last.
+/// Whether the widest run with the centre of weight of the one run comes before that of the other, in the order of first
+/// and last.
 #[inline(never)]
-fn earlier(train: &Train, best: Candidate, next: Candidate) -> Candidate
-    requires runs { IsSummed train.now best.run × IsSummed train.now next.run }
-    ensures { ((result ≡ best) × IsEarlier train.now best next) ⊎ ((result ≡ next) × IsEarlier train.now next best) }
+fn comes_first(train: &Train, one: Run, other: Run) -> bool
+    requires runs { IsSummed train.now one × IsSummed train.now other }
+    ensures before { IsTrue result → IsEarlier train.now one.sums other.sums }
+    ensures behind { result ≡ false → IsEarlier train.now other.sums one.sums }
 {
-    let old = widest(train, best.run);
-    let new = widest(train, next.run);
-    if old.first < new.first {
-        return best;
+    let one = widest(train, one);
+    let other = widest(train, other);
+    if one.first != other.first {
+        return one.first < other.first;
     }
-    if new.first < old.first {
-        return next;
-    }
-    if old.last <= new.last { best } else { next }
+    one.last < other.last
 }
 
 /// The value of a run at one of its axles, by its sums, those of its axles before that one, and that one's place. At its

@@ -1,4 +1,4 @@
-use Rattle.std.proofs.Common.{◌≡◌, ◌*◌, ◌<◌, inl, inr}
+use Rattle.std.proofs.Common.{◌≡◌, ◌*◌, ◌<◌, refl}
 use Rattle.moment_peak.proofs.OneCentre.{summed_loaded}
 use Rattle.moment_peak.proofs.Ties.{kept_by_more, kept_by_earlier, met_by_itself, met_by_earlier}
 use Rattle.moment_peak.proofs.best.better.Goals as goal
@@ -13,26 +13,21 @@ returns-then-left-right-clause-kept c = λ v w k first last some n.
 pub returns-then-left-right-clause-met : goal.returns-then-left-right-clause-met
 returns-then-left-right-clause-met c = met_by_itself c.args.train.now c.args.next c.len-len.ensures.bounds c.requires.runs.1
 
-pub returns-then-best-next-clause-kept : goal.returns-then-best-next-clause-kept
-returns-then-best-next-clause-kept c = λ v w k first last some n.
+pub returns-then-comes_first-clause-kept : goal.returns-then-comes_first-clause-kept
+returns-then-comes_first-clause-kept c = λ v w k first last some n.
     let axles = c.args.train.now in
     let train = c.len-len.ensures.bounds in
     let best = c.args.best in
     let next = c.args.next in
     let same : next.value * best.run.sums.weight ≡ best.value * next.run.sums.weight = rw (c.from.ensures, c.from-2.ensures) at c.if-left-right-2.true in
-    elim c.earlier.ensures [
-      | inl old ↦ rw old.0 n
-      | inr new ↦ rw new.0 (kept_by_earlier axles best next v w k first last (summed_loaded axles best.run train c.requires.runs.0) (summed_loaded axles next.run train c.requires.runs.1) c.if-best-next.true same new.1 n)
-    ]
+    kept_by_earlier axles best next v w k first last (summed_loaded axles best.run train c.requires.runs.0) (summed_loaded axles next.run train c.requires.runs.1) c.if-best-next.true same (c.if-comes_first.ensures.before refl) n
 
-pub returns-then-best-next-clause-met : goal.returns-then-best-next-clause-met
-returns-then-best-next-clause-met c =
-    let axles = c.args.train.now in
-    let train = c.len-len.ensures.bounds in
+pub returns-then-comes_first-clause-met : goal.returns-then-comes_first-clause-met
+returns-then-comes_first-clause-met c = met_by_itself c.args.train.now c.args.next c.len-len.ensures.bounds c.requires.runs.1
+
+pub returns-else-comes_first-clause-met : goal.returns-else-comes_first-clause-met
+returns-else-comes_first-clause-met c =
     let best = c.args.best in
     let next = c.args.next in
     let same : next.value * best.run.sums.weight ≡ best.value * next.run.sums.weight = rw (c.from.ensures, c.from-2.ensures) at c.if-left-right-2.true in
-    elim c.earlier.ensures [
-      | inl old ↦ rw old.0 (met_by_earlier axles best next train c.requires.runs.1 c.if-best-next.true same old.1)
-      | inr new ↦ rw new.0 (met_by_itself axles next train c.requires.runs.1)
-    ]
+    met_by_earlier c.args.train.now best next c.len-len.ensures.bounds c.requires.runs.1 c.if-best-next.true same (c.if-comes_first.ensures.behind refl)
