@@ -1,4 +1,5 @@
 """Ways to break a file. What comes of one may still be good; that is for the model to say."""
+from model.files import CHECK_KINDS, DAY_KINDS
 
 BAD_NUMBERS = ("", "-1", "+1", " 1", "1 ", "1.0", "1e3", "0x10", "1,000", "1234567890", "0000000001", "000000001", "\u0661",
                "one")
@@ -9,7 +10,6 @@ BAD_DAYS = ("", "2026-3-2", "2026-03-2", "2026/03/02", "02.03.2026", "2026-03-02
             "2028-02-29", "1900-02-29", "2000-02-29", "2100-02-29", "0000-01-01", "0001-01-01", "9999-12-31", "2026-00-10",
             "2026-13-01", "2026-04-31", "2026-12-00", "2026-12-32", "10000-01-01", "2026-03-0\u0662")
 BAD_WORDS = ("", "Height", "rating", "closed ", "weight", "height", "allowance", "axle")
-NUMBERS = (0, 1, 2, 64, 999, 1000, 6000, 6001, 9999, 10000, 100000, 100001, 2000000, 2000001, 10000000, 10000001, 999999999)
 TRAINS = (
     [(0, 8000)], [(i, 1) for i in range(33)], [(1, 8000), (2, 8000)], [(0, 1), (0, 1)], [(0, 1), (5, 1), (4, 1)],
     [(0, 0), (1, 1)], [(0, 200001), (1, 1)], [(0, 200000), (1, 200000)], [(40 * i, 200000) for i in range(11)],
@@ -31,7 +31,10 @@ def place(rng, records, kinds=None):
     """The place of a record that has fields behind its kind, or of one of these kinds; or None."""
     fit = [at for at, record in enumerate(records)
            if len(record) == 8 and FORMS.get(record[0]) and (not kinds or record[0] in kinds)]
-    return rng.choice(fit) if fit else None
+    if not fit:
+        return None
+    kind = rng.choice(sorted({records[at][0] for at in fit}))
+    return rng.choice([at for at in fit if records[at][0] == kind])
 
 
 def fields(rng, records):
@@ -39,7 +42,7 @@ def fields(rng, records):
     record = rng.choice(records)
     how = rng.randrange(3)
     if how == 0:
-        record.pop()
+        del record[-1:]
     elif how == 1:
         record.append("")
     elif record:
@@ -78,12 +81,23 @@ def field(rng, records):
 
 
 def range_(rng, records):
-    """A number at a limit or beside it."""
-    at = place(rng, records)
+    """A number at a limit of its range or beside it."""
+    at = place(rng, records, [kind for kind, forms in FORMS.items() if "#" in forms])
     if at is not None:
-        columns = [i for i, form in enumerate(FORMS[records[at][0]]) if form == "#"]
-        if columns:
-            records[at][rng.choice(columns) + 1] = str(rng.choice(NUMBERS))
+        record = records[at]
+        kinds = DAY_KINDS if record[0] in DAY_KINDS else CHECK_KINDS
+        column = rng.choice([i for i, form in enumerate(FORMS[record[0]]) if form == "#"])
+        least, most = kinds[record[0]][column].range(record[1:])
+        numbers = (least - 1, least, most, most + 1) if least is not None else (0, 1, 999999999)
+        record[column + 1] = str(max(0, rng.choice(numbers)))
+
+
+def date(rng, records):
+    """A day that is there or is not."""
+    at = place(rng, records, ("day", "setday", "apply"))
+    if at is not None:
+        column = rng.choice([i for i, form in enumerate(FORMS[records[at][0]]) if form == "d"])
+        records[at][column + 1] = rng.choice(BAD_DAYS)
 
 
 def same(rng, records):
@@ -112,24 +126,25 @@ def train(rng, records):
 
 def trip(rng, records):
     """An application from a node to itself, on a route that is no walk, or with its days exchanged."""
-    at = place(rng, records, ("apply",))
-    if at is None:
+    trips = [record for record in records if len(record) == 8 and record[0] == "apply"]
+    if not trips:
         return
-    record = records[at]
-    how = rng.randrange(4)
+    record, how = rng.choice([record for record in trips if record[5]] or trips), rng.randrange(5)
+    known = {kind: [other[1] for other in records if len(other) == 8 and other[0] == kind] for kind in ("segment", "node")}
     if how == 0:
         record[4] = record[3]
     elif how == 1:
         record[6], record[7] = record[7], record[6]
-    else:
-        known = [other[1] for other in records if len(other) == 8 and other[0] == "segment"]
-        route = str(record[5]).split() + [rng.choice(known)] if known else []
+    elif how == 2 and known["node"]:
+        record[rng.choice((3, 4))] = rng.choice(known["node"])
+    elif known["segment"]:
+        route = str(record[5]).split() + [rng.choice(known["segment"])]
         if how == 3:
             rng.shuffle(route)
         record[5] = " ".join(route)
 
 
-WAYS = (fields, kind, order, extra, field, field, field, range_, range_, same, unknown, train, trip)
+WAYS = (fields, kind, order, extra, field, field, field, range_, range_, date, same, unknown, train, train, trip, trip)
 
 
 def broken(rng, records):

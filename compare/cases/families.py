@@ -39,7 +39,7 @@ def broken_check(rng):
 
 
 def broken_day(rng):
-    return Case(["day"], dressed(rng, broken(rng, day_file(rng))))
+    return Case(["day"], dressed(rng, broken(rng, day_file(rng, 1, rng.choice((3, 3, 10))))))
 
 
 def scratched_file(rng):

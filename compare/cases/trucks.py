@@ -81,6 +81,13 @@ def light(rng):
     return [(place, max(1, weight - -(-excess // len(pairs)))) for place, weight in lightest]
 
 
+def eighty(rng):
+    """A gross weight of 80,000 lb or a pound beside it, on axles that are light enough for it."""
+    count, gross = rng.randint(5, 8), rng.choice((79999, 80000, 80000, 80001))
+    weights = [gross // count + (i < gross % count) for i in range(count)]
+    return placed([rng.randint(100, 250) for _ in range(count - 1)], weights)
+
+
 def long(rng):
     """Up to 32 axles, up to 3,000 in."""
     count = rng.choice((31, 32, 32, rng.randint(10, 32)))
@@ -94,7 +101,7 @@ def heavy(rng):
     return placed([rng.choice((1, 40, 300))] * 9, [200000] * 10)
 
 
-WAYS = (ordinary, ordinary, regular, mirrored, near_limits, near_limits, two_tandems, scaled_design, light, light, long,
+WAYS = (ordinary, ordinary, regular, mirrored, near_limits, near_limits, two_tandems, scaled_design, light, eighty, long,
         heavy)
 
 

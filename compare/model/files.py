@@ -34,11 +34,15 @@ class Column:
         """The names that the field holds."""
         return value if isinstance(value, list) else [value]
 
+    def range(self, record):
+        """The least and the greatest value of this field, in this record; None where there is no limit."""
+        return self.least(record) if callable(self.least) else (self.least, self.most)
+
     def fits(self, value, record):
         """Whether the value is in its range, or is a day of the calendar."""
         if self.form is forms.day:
             return forms.is_day(value)
-        least, most = (self.least(record) if callable(self.least) else (self.least, self.most))
+        least, most = self.range(record)
         return (least is None or least <= value) and (most is None or value <= most)
 
 
@@ -56,7 +60,7 @@ def number(least=None, most=None):
 
 def value(what):
     """A value whose range is that of the limit in column `what` of the record."""
-    return Column(forms.number, least=lambda record: forms.RANGES[record[what]])
+    return Column(forms.number, least=lambda record: forms.RANGES.get(record[what], (None, None)))
 
 
 DAY = Column(forms.day)
