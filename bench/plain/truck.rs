@@ -160,31 +160,48 @@ impl Train {
         (self.weights[axle] - self.weights[first]) * self.axles[axle].0 - (self.turns[axle] - self.turns[first])
     }
 
-    /// The greatest value, over the weight of its run. Only what is about as great in floating point is compared exactly.
+    /// The greatest value, over the weight of its run. The heaviest run comes first, so that most others are too light for the
+    /// peak; and only what is about as great in floating point is compared exactly.
     fn peak(&self, span: u64) -> (i128, i128) {
+        let mut runs = self.runs(span);
+        let heaviest = (0..runs.len()).max_by_key(|at| self.run(runs[*at]).0).expect("a run");
+        runs.swap(0, heaviest);
         let (mut most, mut over, mut about) = (-1, 1, 0.0_f64);
-        for run in self.runs(span) {
+        for run in runs {
             let (weight, turn) = self.run(run);
-            let (heavy, inverse, far) = (weight as f64, 1.0 / weight as f64, 4.0 * span as f64);
-            let (reach, front) = ((weight * span) as f64 - turn as f64, self.fronts[run.0]);
-            let guess = |axle: &Front| {
-                let arm = reach + heavy * axle.place;
-                arm * arm * inverse - far * ((axle.weight - front.weight) * axle.place - (axle.turn - front.turn))
-            };
-            let axles = &self.fronts[run.0..=run.1];
-            let greatest = axles.iter().map(guess).fold(0.0, f64::max);
+            // no moment is above the weight times a quarter of the span
+            if (weight * span * span) as f64 <= about {
+                continue;
+            }
+            let guesses = self.guesses(run, span);
+            let mut greatest = 0.0;
+            for guess in guesses.clone() {
+                greatest = if guess > greatest { guess } else { greatest };
+            }
             if greatest < about {
                 continue;
             }
-            for axle in (run.0..=run.1).filter(|axle| guess(&self.fronts[*axle]) >= about) {
-                let value = self.value(run, axle, span);
+            about = if greatest * (1.0 - 1e-9) > about { greatest * (1.0 - 1e-9) } else { about };
+            for (axle, _) in (run.0..).zip(guesses).filter(|(_, guess)| *guess >= about) {
+                let arm = i128::from(self.arm(weight, turn, axle, span));
+                let value = arm * arm - 4 * i128::from(weight * span) * i128::from(self.before(run.0, axle));
                 if value * over > most * i128::from(weight) {
                     (most, over) = (value, i128::from(weight));
                 }
             }
-            about = about.max(greatest * (1.0 - 1e-9));
         }
         (most, over)
+    }
+
+    /// For each axle of a run its value over the run's weight, about.
+    fn guesses(&self, run: (usize, usize), span: u64) -> impl Iterator<Item = f64> + Clone + '_ {
+        let (weight, turn) = self.run(run);
+        let (heavy, inverse, far) = (weight as f64, 1.0 / weight as f64, 4.0 * span as f64);
+        let (reach, front) = ((weight * span) as f64 - turn as f64, self.fronts[run.0]);
+        self.fronts[run.0..=run.1].iter().map(move |axle| {
+            let arm = reach + heavy * axle.place;
+            arm * arm * inverse - far * ((axle.weight - front.weight) * axle.place - (axle.turn - front.turn))
+        })
     }
 
     pub fn moment(&self, span: u64) -> Frac {
