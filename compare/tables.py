@@ -1,10 +1,11 @@
 """Published tables, compared with the program and with the model. Their values are as printed, and come from neither.
 
 - The federal bridge formula table: "Bridge Formula Weights", Federal Highway Administration, table B, for 23 CFR 658.17(e). A
-  row is a spread in feet; its columns are 2 to 9 axles, in thousands of pounds. The line 'more than 8' stands at 97 inches.
+  row is a spread in feet; its columns are 2 to 9 axles, in thousands of pounds. The line 'more than 8' stands at 97 inches. The
+  cells were typed by hand and agreed as they were typed; they were not read a second time against the printed page.
 - AASHTO Standard Specifications for Highway Bridges, Appendix A, HS20-44 on simple spans, one lane: the span in feet, the
-  greatest moment in foot-kips and the greatest end shear in kips, where the truck and not the lane load gives them. The printed
-  values were worked in part by hand: 1,524.0 stands for an exact 1,523.92. So they are compared to less than a tenth.
+  greatest moment in foot-kips and the greatest end shear in kips, where the truck and not the lane load gives them: the spans
+  that the tests of `hs20_truck` have. 1,524.0 stands for an exact 1,523.92, so they are compared to less than a tenth.
 
 Two more things are tried on the model: that no second spacing of HS20-44 from 14 to 30 ft exceeds 14 ft, and that no place of
 some trucks, at whole and at half inches, exceeds the peaks.
@@ -72,32 +73,11 @@ FORMULA = """
 """
 
 AASHTO = """
-1   8.0    32.0
-5   40.0   32.0
-10  80.0   32.0
-14  112.0  32.0
-15  120.0  34.1
-16  128.0  36.0
-18  144.0  39.1
 20  160.0  41.6
-22  176.0  43.6
-24  192.7  45.3
-25  207.4  46.1
-26  222.2  46.8
-28  252.0  48.0
 30  282.1  49.6
-32  312.5  51.0
-34  343.5  52.2
-36  378.9  53.3
 40  449.8  55.2
-50  627.9  58.5
 60  806.5  60.8
-70  985.6  62.4
-80  1164.9 63.6
-90  1344.4 64.5
 100 1524.0 65.3
-110 1703.6 65.9
-120 1883.3 66.4
 """
 
 
