@@ -42,6 +42,14 @@ pub record IsNoBetter (axles : List Axle) (best : Candidate) (value weight k fir
   pub most : IsAtMost value weight best
   pub order : value * best.run.sums.weight ≡ best.value * weight → IsFirstTo axles best k first last
 
+-- the next candidate is no better than the result
+abbrev pub IsNoWorse : List Axle → Candidate → Candidate → Type 0
+IsNoWorse axles result next = IsNoBetter axles result next.value next.run.sums.weight next.axle next.run.first next.run.last
+
+-- what is no better than the one candidate is no better than the other
+abbrev pub KeepsAll : List Axle → Candidate → Candidate → Type 0
+KeepsAll axles best result = (v w k first last : ℕ) → 0 < w → IsNoBetter axles best v w k first last → IsNoBetter axles result v w k first last
+
 -- the widest run with the one centre comes before that with the other in the order of first and last, or is the same
 pub record IsEarlier (axles : List Axle) (one other : Sums) : Type 0 where
   pub wide : Run

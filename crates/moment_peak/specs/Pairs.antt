@@ -49,6 +49,10 @@ pub record IsThere (pair : Pair) (k first last : ℕ) : Type 0 where
 abbrev pub IsUpTo : Pair → ℕ → ℕ → ℕ → Type 0
 IsUpTo pair k first last = (first + last < pair.run.first + pair.run.last) ⊎ ((k ≤ pair.axle) × (first ≡ pair.run.first) × (last ≡ pair.run.last))
 
+-- the one pair comes after the other in the sweep: the places of its three axles in the train have a greater sum
+abbrev pub IsAfter : Pair → Pair → Type 0
+IsAfter pair next = pair.run.first + pair.run.last + pair.axle < next.run.first + next.run.last + next.axle
+
 -- the pair is the first of the tight ones, if it is one
 abbrev pub IsFirstPair : ℕ → List Axle → Pair → Type 0
 IsFirstPair span axles pair = (k first last : ℕ) → IsTight span axles k first last → IsUpTo pair k first last → IsThere pair k first last

@@ -1,5 +1,5 @@
 -- Runs that can be the axles on the span, and their sums.
-use Rattle.std.specs.Prelude.{◌≡◌, ℕ, ◌+◌, ◌-◌, ◌<◌, ◌≤◌, List, length, take, drop}
+use Rattle.std.specs.Prelude.{◌≡◌, ℕ, ◌+◌, ◌-◌, ◌*◌, ◌<◌, ◌≤◌, List, length, take, drop}
 use Rattle.axle_train.specs.declared.axle.Axle.{Axle}
 use Rattle.axle_train.specs.Trains.{spread}
 use Rattle.moment_peak.specs.declared.run.Sums.{Sums}
@@ -12,6 +12,11 @@ pub record AreSums (axles : List Axle) (first end : ℕ) (sums : Sums) : Type 0 
   pub moment : sums.moment ≡ moment_in (take (end - first) (drop first axles))
   pub light : sums.weight ≤ 2000000
   pub near : sums.moment ≤ 6000000000
+
+-- sums with one axle more
+pub record IsMore (less more : Sums) (axle : Axle) : Type 0 where
+  pub weight : more.weight ≡ less.weight + axle.weight
+  pub moment : more.moment ≡ less.moment + axle.weight * axle.place
 
 -- a run of a train's axles, and its sums
 pub record IsSummed (axles : List Axle) (run : Run) : Type 0 where

@@ -1,9 +1,9 @@
 // The axle and the run with the greatest moment.
 
-ghost use Rattle.std.specs.Prelude.{◌≡◌, ℕ, ◌+◌, ◌-◌, ◌*◌, ◌<◌, ◌≤◌, ◌^◌, ◌⊎◌, IsTrue, false};
+ghost use Rattle.std.specs.Prelude.{◌≡◌, ◌+◌, ◌-◌, ◌*◌, ◌<◌, ◌≤◌, ◌^◌, ◌⊎◌, IsTrue, false};
 ghost use Rattle.axle_train.specs.Bounds.{IsTrain};
 ghost use Rattle.moment_peak.specs.Candidates.{IsAttained, IsBest, value_by_sums};
-ghost use Rattle.moment_peak.specs.Centres.{IsEarlier, IsFirstBest, IsNoBetter};
+ghost use Rattle.moment_peak.specs.Centres.{IsEarlier, IsFirstBest, IsNoWorse, KeepsAll};
 ghost use Rattle.moment_peak.specs.Sweeps.{IsSummed};
 
 use crate::pair::Pair;
@@ -45,8 +45,8 @@ fn better(train: &Train, best: Candidate, next: Candidate) -> Candidate
     requires runs { IsSummed train.now best.run × IsSummed train.now next.run }
     requires small { (best.value < 2 ^ 72) × (next.value < 2 ^ 72) }
     requires order { best.axle ≤ next.axle }
-    ensures kept { (v w k first last : ℕ) → 0 < w → IsNoBetter train.now best v w k first last → IsNoBetter train.now result v w k first last }
-    ensures met { IsNoBetter train.now result next.value next.run.sums.weight next.axle next.run.first next.run.last }
+    ensures kept { KeepsAll train.now best result }
+    ensures met { IsNoWorse train.now result next }
     ensures either { (result ≡ best) ⊎ (result ≡ next) }
 {
     let _len = train.len();

@@ -4,7 +4,7 @@ ghost use Rattle.std.specs.Prelude.{◌≡◌, ◌+◌, ◌*◌, ◌<◌, ◌≤
 ghost use Rattle.axle_train.specs.Bounds.{IsTrain};
 ghost use Rattle.axle_train.specs.Trains.{axle_at, spread};
 ghost use Rattle.moment_peak.specs.Candidates.{IsValueOf};
-ghost use Rattle.moment_peak.specs.Pairs.{IsFirstPair, IsLastOfRun, IsLastPair, IsNextPair, IsPair, IsRunEnd};
+ghost use Rattle.moment_peak.specs.Pairs.{IsAfter, IsFirstPair, IsLastOfRun, IsLastPair, IsNextPair, IsPair, IsRunEnd};
 ghost use Rattle.moment_peak.specs.Sweeps.{IsFull};
 
 use crate::best::{Candidate, vertex_value};
@@ -44,7 +44,7 @@ impl Pair {
         requires long { span ≤ 6000 }
         requires pair { IsPair span train.now self }
         ensures pair { IfSome result (λ next. IsPair span train.now next) }
-        ensures later { IfSome result (λ next. self.run.first + self.run.last + self.axle < next.run.first + next.run.last + next.axle) }
+        ensures later { IfSome result (λ next. IsAfter self next) }
         ensures axle { IfSome result (λ next. self.axle ≤ next.axle) }
         ensures next { IfSome result (λ next. IsNextPair span train.now self next) }
         ensures last { IfNone result (IsLastPair span train.now self) }
@@ -66,7 +66,7 @@ impl Pair {
         requires more { self.run.last + 1 < length train.now }
         requires fits { spread train.now self.run.first (self.run.last + 1) ≤ span }
         ensures pair { IsPair span train.now result }
-        ensures later { self.run.first + self.run.last + self.axle < result.run.first + result.run.last + result.axle }
+        ensures later { IsAfter self result }
         ensures axle { self.axle ≤ result.axle }
         ensures next { IsNextPair span train.now self result }
     {
@@ -85,7 +85,7 @@ impl Pair {
         requires pair { IsPair span train.now self }
         requires full { IsFull span train.now self.run }
         ensures pair { IfSome result (λ next. IsPair span train.now next) }
-        ensures later { IfSome result (λ next. self.run.first + self.run.last + self.axle < next.run.first + next.run.last + next.axle) }
+        ensures later { IfSome result (λ next. IsAfter self next) }
         ensures axle { IfSome result (λ next. self.axle ≤ next.axle) }
         ensures next { IfSome result (λ next. IsNextPair span train.now self next) }
         ensures last { IfNone result (IsLastPair span train.now self) }
@@ -142,7 +142,7 @@ impl Pair {
         requires more { self.run.last + 1 < length train.now }
         requires fits { spread train.now self.run.first (self.run.last + 1) ≤ span }
         ensures pair { IsPair span train.now result }
-        ensures later { self.run.first + self.run.last + self.axle < result.run.first + result.run.last + result.axle }
+        ensures later { IsAfter self result }
         ensures axle { self.axle ≤ result.axle }
         ensures next { IsNextPair span train.now self result }
     {
@@ -162,7 +162,7 @@ impl Pair {
         requires full { IsFull span train.now self.run }
         requires one { self.run.first ≡ self.run.last }
         ensures pair { IsPair span train.now result }
-        ensures later { self.run.first + self.run.last + self.axle < result.run.first + result.run.last + result.axle }
+        ensures later { IsAfter self result }
         ensures axle { self.axle ≤ result.axle }
         ensures next { IsNextPair span train.now self result }
     {
@@ -182,7 +182,7 @@ impl Pair {
         requires full { IsFull span train.now self.run }
         requires longer { self.run.first < self.run.last }
         ensures pair { IsPair span train.now result }
-        ensures later { self.run.first + self.run.last + self.axle < result.run.first + result.run.last + result.axle }
+        ensures later { IsAfter self result }
         ensures axle { self.axle ≤ result.axle }
         ensures next { IsNextPair span train.now self result }
     {

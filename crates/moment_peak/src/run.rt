@@ -3,7 +3,7 @@
 ghost use Rattle.std.specs.Prelude.{◌≡◌, ◌+◌, ◌*◌, ◌<◌, ◌≤◌, length};
 ghost use Rattle.axle_train.specs.Bounds.{IsTrain};
 ghost use Rattle.axle_train.specs.Trains.{axle_at};
-ghost use Rattle.moment_peak.specs.Sweeps.{IsSummed};
+ghost use Rattle.moment_peak.specs.Sweeps.{IsMore, IsSummed};
 
 use axle_train::{Axle, Train};
 
@@ -75,7 +75,6 @@ impl Run {
         ensures summed { IsSummed train.now result }
         ensures first { result.first ≡ 0 }
         ensures half { 2 * (axle_at train.now result.last).place < span }
-        ensures full { result.last + 1 < length train.now → span ≤ 2 * (axle_at train.now (result.last + 1)).place }
         ensures bounds { IsTrain train.now }
     {
         let len = train.len();
@@ -125,8 +124,7 @@ impl Run {
         ensures summed { IsSummed train.now result }
         ensures first { result.first ≡ self.first }
         ensures last { result.last ≡ self.last + 1 }
-        ensures weight { result.sums.weight ≡ self.sums.weight + (axle_at train.now (self.last + 1)).weight }
-        ensures moment { result.sums.moment ≡ self.sums.moment + (axle_at train.now (self.last + 1)).weight * (axle_at train.now (self.last + 1)).place }
+        ensures more { IsMore self.sums result.sums (axle_at train.now (self.last + 1)) }
     {
         let len = train.len();
         let last = self.last + 1;
@@ -145,8 +143,7 @@ impl Run {
         ensures summed { IsSummed train.now result }
         ensures first { result.first ≡ self.first + 1 }
         ensures last { result.last ≡ self.last }
-        ensures weight { result.sums.weight + (axle_at train.now self.first).weight ≡ self.sums.weight }
-        ensures moment { result.sums.moment + (axle_at train.now self.first).weight * (axle_at train.now self.first).place ≡ self.sums.moment }
+        ensures less { IsMore result.sums self.sums (axle_at train.now self.first) }
     {
         let _len = train.len();
         Run {

@@ -1,4 +1,4 @@
-use Rattle.std.proofs.Common.{◌<◌, arith, refl}
+use Rattle.std.proofs.Common.{◌<◌, arith, refl, sym}
 use Rattle.moment_peak.specs.declared.pair.Pair.{Pair}
 use Rattle.moment_peak.proofs.Order.{run_next}
 use Rattle.moment_peak.proofs.Pointer.{shorter_on, shorter_pair, shorter_fresh, fresh_pair, front_part, before_without}
@@ -39,7 +39,7 @@ returns-clause-pair c =
     let run = c.without_first-run.ensures in
     let behind : self.run.first < self.axle = omega (arith, p.from, c.if-self.false) in
     let before = before_without axles self.run.first self.axle self.before c.without.result c.axle.result train behind (omega (arith, p.to, p.on.can_be.within)) p.before c.axle.ensures.value c.without.ensures.weight c.without.ensures.moment in
-    (shorter_pair c.args.span axles self (record { run = c.without_first-run.result; axle = self.axle; before = c.without.result }) train p behind c.requires.full run.summed run.first run.last refl before (rw c.axle.ensures.value at c.without.ensures.weight) run.weight run.moment).1
+    (shorter_pair c.args.span axles self (record { run = c.without_first-run.result; axle = self.axle; before = c.without.result }) train p behind c.requires.full run.summed run.first run.last refl before (rw c.axle.ensures.value at c.without.ensures.weight) (sym run.less.weight) (sym run.less.moment)).1
 
 pub returns-clause-next : goal.returns-clause-next
 returns-clause-next c =
@@ -51,7 +51,7 @@ returns-clause-next c =
     let behind : self.run.first < self.axle = omega (arith, p.from, c.if-self.false) in
     let before = before_without axles self.run.first self.axle self.before c.without.result c.axle.result train behind (omega (arith, p.to, p.on.can_be.within)) p.before c.axle.ensures.value c.without.ensures.weight c.without.ensures.moment in
     let next : Pair = record { run = c.without_first-run.result; axle = self.axle; before = c.without.result } in
-    let pair = shorter_pair c.args.span axles self next train p behind c.requires.full run.summed run.first run.last refl before (rw c.axle.ensures.value at c.without.ensures.weight) run.weight run.moment in
+    let pair = shorter_pair c.args.span axles self next train p behind c.requires.full run.summed run.first run.last refl before (rw c.axle.ensures.value at c.without.ensures.weight) (sym run.less.weight) (sym run.less.moment) in
     run_next c.args.span axles self next train p c.requires.last
     (λ first last can later. omega (arith, later, run.first, run.last))
     (shorter_fresh c.args.span axles self next pair.1 run.first pair.0)

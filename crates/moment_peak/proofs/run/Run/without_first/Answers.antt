@@ -1,4 +1,4 @@
-use Rattle.std.proofs.Common.{refl}
+use Rattle.std.proofs.Common.{refl, sym}
 use Rattle.moment_peak.proofs.RunSums.{first_part, summed_without_first}
 use Rattle.moment_peak.proofs.run.Run.without_first.Goals as goal
 
@@ -11,3 +11,9 @@ without-requires-clause-part_moment c = (first_part c.args.train.now c.args.self
 pub returns-clause-summed : goal.returns-clause-summed
 returns-clause-summed c =
     summed_without_first c.args.train.now c.args.self _ c.axle.result c.len-len.ensures.bounds c.requires.summed c.requires.longer c.axle.ensures.value refl refl c.without.ensures.weight c.without.ensures.moment
+
+pub returns-clause-less : goal.returns-clause-less
+returns-clause-less c = record {
+  weight = rw (← c.axle.ensures.value) (sym c.without.ensures.weight);
+  moment = rw (← c.axle.ensures.value) (sym c.without.ensures.moment);
+}
