@@ -6,6 +6,10 @@
 //! that a route that it answers is a passable walk of least length, and the first of these in dictionary order; that the
 //! potentials beside it are the least lengths from every node, which anyone can check against each segment; and that where
 //! it answers no route there is none, with the nodes that are reached.
+//!
+//! `shortest_walk` answers the same route without the potentials. It leaves out nodes by which no walk from the start can be
+//! as short as one that is known, as heights of the nodes show (Goldberg and Harrelson, "Computing the shortest path: A*
+//! search meets graph theory", 2005). How much is left out is speed alone.
 #![tactic(auto)]
 
 mod buckets;

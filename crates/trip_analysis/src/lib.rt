@@ -8,8 +8,8 @@
 //!
 //! To the crate above it promises that an application is refused exactly for its cause; that what is found is the finding
 //! of the definition, of which there is one; that it holds in the state in which it was found; and that the definition means
-//! what it says of walks. An analyst keeps what is known of the trucks from posting to posting, and a follower from snapshot
-//! to snapshot; both find the same.
+//! what it says of walks. An analyst keeps what is known of the trucks, and a follower goes on with it from snapshot to
+//! snapshot; both find the same.
 #![tactic(auto)]
 
 mod analysis;
