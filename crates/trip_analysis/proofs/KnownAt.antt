@@ -9,10 +9,7 @@ use Rattle.std.proofs.Math.Bool.{beq}
 use Rattle.road_graph.specs.declared.values.Values.{Values}
 use Rattle.road_graph.specs.Roads.{AreSpansOf, Roads}
 use Rattle.road_graph.proofs.Places.{get_within}
-use Rattle.restriction_log.specs.declared.change.Change.{Change}
-use Rattle.restriction_log.specs.Changes.{touched}
-use Rattle.restriction_log.specs.States.{InForce, AgreeOn, rating_at, state_after, values_at}
-use Rattle.restriction_log.proofs.Elsewhere.{agree-after}
+use Rattle.restriction_log.specs.States.{InForce, AgreeOn, rating_at, values_at}
 use Rattle.snapshot_store.specs.Stores.{AreKept, IsLater, Stored, state_now, version_of}
 use Rattle.snapshot_store.proofs.Changed.{agree_kept}
 use Rattle.route_search.specs.Heights.{AreHeights}
