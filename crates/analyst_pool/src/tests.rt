@@ -1,4 +1,5 @@
 ghost use Rattle.std.specs.Prelude.{◌≡◌, ◌≤◌, All, false, IfOk, vec_len};
+ghost use Rattle.std.specs.Arc.{arc_value};
 ghost use Rattle.trip_analysis.specs.Applications.{Sound};
 ghost use Rattle.office_core.specs.Replies.{is_full};
 ghost use Rattle.office_core.specs.Seats.{calls_of};
@@ -473,6 +474,100 @@ fn worker<'a>(
     Worker::new(OneSeat::new(office, 0), actor, script)
 }
 
+// Two workers carry out their scripts at once, and end with this outcome.
+fn run_both<R: Threads + Abort + Sync, C: OfficeCalls + Send + Drop, G: Gate + Sync>(
+    rt: &R,
+    alloc: Global,
+    base: &Base,
+    pair: (Worker<C>, Worker<C>),
+    gate: &G,
+    wanted: Outcome,
+) -> Result<(), Fail>
+    requires first { IsReady base.now C.view pair.0 }
+    requires second { IsReady base.now C.view pair.1 }
+{
+    let (first, second) = pair;
+    let mut workers = Vec::new(alloc);
+    workers.push(first)?;
+    workers.push(second)?;
+    run_actors(rt, alloc, base, &mut workers, gate);
+    for worker in &workers {
+        assert_eq!(rt; worker.outcome(), wanted);
+    }
+    Ok(())
+}
+
+// Two actors carry out scripts of these kinds at once, each for an office that nobody else calls.
+fn run_at<R: Threads + Abort + Sync, G: Gate + Sync>(
+    rt: &R,
+    alloc: Global,
+    base: &Base,
+    offices: (&mut Office, &mut Office),
+    gate: &G,
+    scripted: &Scripted,
+) -> Result<(), Fail>
+    requires one { offices.0.now.base ≡ base.now }
+    requires two { offices.1.now.base ≡ base.now }
+{
+    let &(_, kinds, wanted, _) = scripted;
+    let (one, two) = offices;
+    let (first, second) = (
+        script(rt, alloc, base, kinds)?,
+        script(rt, alloc, base, kinds)?,
+    );
+    let pair = (worker(base, one, 0, first), worker(base, two, 1, second));
+    run_both(rt, alloc, base, pair, gate, wanted)
+}
+
+// An office with room for so many entries.
+fn office(
+    rt: &impl Abort,
+    alloc: Global,
+    base: &Arc<Base, Global>,
+    most: u32,
+) -> Result<Office, Fail>
+    ensures { IfOk result (λ office. office.base ≡ arc_value base.now) }
+{
+    if most == 0 || most > 100 {
+        rt.abort();
+    }
+    Ok(Office::start(alloc, Arc::try_clone(base)?, day(rt, b"2026-03-02"), most)?)
+}
+
+// Two offices about the same, with room for so many entries.
+fn two_offices(
+    rt: &impl Abort,
+    alloc: Global,
+    base: &Arc<Base, Global>,
+    most: u32,
+) -> Result<Vec<Office>, Fail>
+    ensures { IfOk result (λ offices. All (λ o. o.base ≡ arc_value base.now) offices.items) }
+{
+    let mut offices = Vec::new(alloc);
+    let one = office(rt, alloc, base, most)?;
+    offices.push(one)?;
+    let two = office(rt, alloc, base, most)?;
+    offices.push(two)?;
+    Ok(offices)
+}
+
+// Two actors carry out scripts of these kinds, each for one of two offices.
+fn run_each<R: Threads + Abort + Sync, G: Gate + Sync>(
+    rt: &R,
+    alloc: Global,
+    base: &Base,
+    offices: &mut [Office],
+    gate: &G,
+    scripted: &Scripted,
+) -> Result<(), Fail>
+    requires { All (λ o. o.base ≡ base.now) offices.old }
+{
+    match offices {
+        [one, two] => run_at(rt, alloc, base, (one, two), gate, scripted),
+        _ => rt.abort(),
+    }
+}
+
 // Two actors carry out the same script, each for an office of its own.
 fn carries_out_twice<R: Threads + Abort + Sync, G: Gate + Sync>(
     rt: &R,
@@ -480,28 +575,13 @@ fn carries_out_twice<R: Threads + Abort + Sync, G: Gate + Sync>(
     gate: &G,
     scripted: &Scripted,
 ) -> Result<(), Fail> {
-    let &(most, kinds, wanted, entries) = scripted;
-    if most == 0 || most > 100 {
-        rt.abort();
-    }
+    let &(most, _, _, entries) = scripted;
     let base = Arc::new(alloc, base(rt, alloc, ALONE, 168)?)?;
-    let mut one = Office::start(alloc, base.clone()?, day(rt, b"2026-03-02"), most)?;
-    let mut two = Office::start(alloc, base.clone()?, day(rt, b"2026-03-02"), most)?;
-    let about: &Base = &base;
-    let first = script(rt, alloc, about, kinds)?;
-    let second = script(rt, alloc, about, kinds)?;
-    let mut workers = Vec::new(alloc);
-    workers.push(worker(about, &mut one, 0, first))?;
-    workers.push(worker(about, &mut two, 1, second))?;
-    run_actors(rt, alloc, about, &mut workers, gate);
-    for worker in &workers {
-        assert_eq!(rt; worker.outcome(), wanted);
+    let mut offices = two_offices(rt, alloc, &base, most)?;
+    run_each(rt, alloc, &base, &mut offices, gate, scripted)?;
+    for office in &offices {
+        assert_eq!(rt; office.history().len(), entries);
     }
-    drop(workers);
-    assert_eq!(rt;
-        (one.history().len(), two.history().len()),
-        (entries, entries)
-    );
     Ok(())
 }
 

@@ -7,7 +7,9 @@ ghost use Rattle.day_text.specs.Laws.{IsDayFile};
 ghost use Rattle.day_trial.specs.Serial.{IsSerial};
 ghost use Rattle.day_trial.specs.Serving.{FollowsOffice, HasCarriedOut, HasServed, WasCarriedOut};
 
-use analyst_pool::{Docket, OpenGate, carry_out, most_entries, scripts_are_short, unfoldings_are_short};
+use analyst_pool::{
+    Docket, OpenGate, carry_out, most_entries, scripts_are_short, unfoldings_are_short,
+};
 use day_text::{DayFile, Order};
 use office_core::{Office, OneSeat, Reply};
 use office_io::NoMemory;
