@@ -18,10 +18,12 @@ from time_journal import built
 MAIN = """// Holds a snapshot of each of 4,096 versions, where one is asked for, and says how many it holds.
 #![tactic(auto)]
 
+ghost use Rattle.std.specs.Prelude.{◌≡◌};
+
 use office_io::Name;
 use restriction_log::Change;
 use road_graph::Network;
-use snapshot_store::Store;
+use snapshot_store::{Snapshot, Store};
 use std::alloc::Global;
 use std::io;
 use std::io::Read;
@@ -65,7 +67,7 @@ fn greatest(alloc: Global) -> Option<Network> {
 // A posting of the segment of a number, or of a span.
 fn change(number: u32) -> Change {
     if number % 2 == 0 {
-        Change::Height { segment: number * 4 % 16384, inches: 168 }
+        Change::Height { segment: number % 4096 * 4, inches: 168 }
     } else {
         Change::Rating { span: number % 2048, permille: 900 }
     }
@@ -76,19 +78,27 @@ fn held(alloc: Global, text: &[u8]) -> Option<usize> {
     let network = greatest(alloc)?;
     let mut store = Store::start(alloc, &network).ok()?;
     let mut snapshots = Vec::new(alloc);
+    post_each(&network, &mut store, &mut snapshots, !text.is_empty())?;
+    Some(snapshots.len())
+}
+
+// Posts 4,096 changes, and keeps a snapshot of each version where that is asked for.
+fn post_each(network: &Network, store: &mut Store, snapshots: &mut Vec<Snapshot>, keep: bool) -> Option<()>
+    requires { network.now ≡ store.old.roads }
+{
     'versions: for number in 0..4096u32 {
-        store.post(&network, change(number)).ok()?;
-        if !text.is_empty() {
+        store.post(network, change(number)).ok()?;
+        if keep {
             snapshots.push(store.snapshot().ok()?).ok()?;
         }
     }
-    Some(snapshots.len())
+    Some(())
 }
 """
 
 # The store stays one of the network that each posting is handed.
 INVARIANTS = """use Rattle.std.proofs.Common.{◌≡◌}
-use Rattle.hold_snapshots.proofs.held.Given as goal
+use Rattle.hold_snapshots.proofs.post_each.Given as goal
 
 abbrev pub invariant-versions : goal.invariant-versions
 invariant-versions l = l.network ≡ l.store.roads
@@ -110,7 +120,7 @@ open(sys.argv[2], "w").write(str(resource.getrusage(resource.RUSAGE_CHILDREN).ru
 if len(sys.argv) != 1:
     sys.exit(__doc__)
 with tempfile.TemporaryDirectory() as folder:
-    PROGRAM = built(folder, "hold_snapshots", "snapshot_store", MAIN, {"held/Invariants.antt": INVARIANTS})
+    PROGRAM = built(folder, "hold_snapshots", "snapshot_store", MAIN, {"post_each/Invariants.antt": INVARIANTS})
     for TEXT in (b"", b"keep"):
         count, megabytes = most_memory(PROGRAM, TEXT)
         print("%s snapshots held: %.1f MB at most" % (count, megabytes))
