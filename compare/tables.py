@@ -1,8 +1,8 @@
-"""Published tables, compared with the program and with the model. Their values are as printed, and come from neither.
+"""Published tables, compared with the program and with the model. Their values are meant as printed, and come from neither.
 
 - The federal bridge formula table: "Bridge Formula Weights", Federal Highway Administration, table B, for 23 CFR 658.17(e). A
   row is a spread in feet; its columns are 2 to 9 axles, in thousands of pounds. The line 'more than 8' stands at 97 inches. The
-  cells were typed by hand and agreed as they were typed; they were not read a second time against the printed page.
+  cells were written down from memory, whole, and agreed so; they were not held against the printed page.
 - AASHTO Standard Specifications for Highway Bridges, Appendix A, HS20-44 on simple spans, one lane: the span in feet, the
   greatest moment in foot-kips and the greatest end shear in kips, where the truck and not the lane load gives them: the spans
   that the tests of `hs20_truck` have. 1,524.0 stands for an exact 1,523.92, so they are compared to less than a tenth.
