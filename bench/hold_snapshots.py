@@ -13,7 +13,7 @@ import subprocess
 import sys
 import tempfile
 
-from time_journal import built
+from programs import built
 
 MAIN = """// Holds a snapshot of each of 4,096 versions, where one is asked for, and says how many it holds.
 #![tactic(auto)]
@@ -117,10 +117,12 @@ subprocess.run([sys.argv[1]])
 open(sys.argv[2], "w").write(str(resource.getrusage(resource.RUSAGE_CHILDREN).ru_maxrss))
 """
 
+FILES = {"src/main.rt": MAIN, "proofs/post_each/Invariants.antt": INVARIANTS}
+
 if len(sys.argv) != 1:
     sys.exit(__doc__)
 with tempfile.TemporaryDirectory() as folder:
-    PROGRAM = built(folder, "hold_snapshots", "snapshot_store", MAIN, {"post_each/Invariants.antt": INVARIANTS})
+    PROGRAM = built(folder, "hold_snapshots", "snapshot_store", FILES)
     for TEXT in (b"", b"keep"):
         count, megabytes = most_memory(PROGRAM, TEXT)
         print("%s snapshots held: %.1f MB at most" % (count, megabytes))

@@ -9,12 +9,11 @@ run five times. This prints the best of each in megabytes a second, once it has 
 kit proves the program before it builds it, and first each crate below it that is not kept as proved. What it measures rests on
 how busy the machine is.
 """
-import os
-import re
-import shutil
 import subprocess
 import sys
 import tempfile
+
+from programs import built
 
 MAIN = """// Reads a journal and prints it again, seven times, and says how many nanoseconds each took.
 #![tactic(auto)]
@@ -59,38 +58,6 @@ def repeated(journal, size):
     return b"\n".join([lines[0], *(entries * times), last, b""])
 
 
-def built(folder, name, top, main, proofs):
-    """Builds a program of this name over a crate of the repository and all that are below it, and gives its path."""
-    home = os.path.dirname(os.path.dirname(os.path.realpath(__file__)))
-    with open(home + "/crates.txt") as file:
-        crates = file.read()
-    uses = {crate: line.split() for crate, line in re.findall(r"^(\w+)[^:#\n]*:(.*)", crates, re.M)}
-    below = {top}
-    while not below >= {used for crate in below for used in uses.get(crate, [])}:
-        below |= {used for crate in below for used in uses.get(crate, [])}
-    with open(folder + "/crates.txt", "w") as file:
-        for crate in below & set(uses):
-            file.write("%s: %s\n" % (crate, " ".join(uses[crate])))
-        file.write("%s: %s\n" % (name, " ".join(below)))
-    for crate in below & set(uses):
-        for part in ("src", "specs", "proofs", "out/rlib"):
-            of = "/crates/%s/%s" % (crate, part)
-            if os.path.isdir(home + of):
-                shutil.copytree(home + of, folder + of)
-    crate = folder + "/crates/" + name
-    for path, text in [("src/main.rt", main)] + [("proofs/" + path, text) for path, text in proofs.items()]:
-        os.makedirs(os.path.dirname(crate + "/" + path), exist_ok=True)
-        with open(crate + "/" + path, "w") as file:
-            file.write(text)
-    ran = subprocess.run(
-        ["rt", "run"], cwd=crate, stdin=subprocess.DEVNULL, stdout=subprocess.PIPE, stderr=subprocess.STDOUT
-    )
-    program = crate + "/out/" + name
-    if not os.path.isfile(program):
-        sys.exit(ran.stdout.decode() + "the program is not built")
-    return program
-
-
 def best(program, text):
     fastest = [float("inf"), float("inf")]
     for _ in range(5):
@@ -109,7 +76,7 @@ def main():
     with open(sys.argv[1], "rb") as file:
         text = repeated(file.read(), int(sys.argv[2] if len(sys.argv) > 2 else 10) * 1000000)
     with tempfile.TemporaryDirectory() as folder:
-        reading, printing = best(built(folder, "time_journal", "journal_reader", MAIN, {}), text)
+        reading, printing = best(built(folder, "time_journal", "journal_reader", {"src/main.rt": MAIN}), text)
     print("%d bytes in %d lines" % (len(text), text.count(b"\n")))
     print("printing: %.0f MB/s" % (len(text) * 1000 / printing))
     print("reading: %.0f MB/s" % (len(text) * 1000 / reading))

@@ -1,5 +1,6 @@
 """Ways to break a file. What comes of one may still be good; that is for the model to say."""
 from model.files import CHECK_KINDS, DAY_KINDS
+from model.forms import LIMITS, POSTED
 
 BAD_NUMBERS = ("", "-1", "+1", " 1", "1 ", "1.0", "1e3", "0x10", "1,000", "1234567890", "0000000001", "000000001", "\u0661",
                "one")
@@ -145,6 +146,31 @@ def trip(rng, records):
 
 
 WAYS = (fields, kind, order, extra, field, field, field, range_, range_, date, same, unknown, train, train, trip, trip)
+
+
+def ends(check):
+    """Each number that has a range, as its kind of record, its column, what it limits, if that is said in the record, and a value:
+    the ends of the range, and what lies just beyond them."""
+    for kind, columns in (CHECK_KINDS if check else DAY_KINDS).items():
+        for at, column in enumerate(columns):
+            for what in {"limit": LIMITS, "post": POSTED}.get(kind, (None,)) if FORMS[kind][at] == "#" else ():
+                # What is limited stands in the field before the number.
+                least, most = column.range([None] * (at - 1) + [what] if what else [])
+                if least is not None:
+                    yield from ((kind, at + 1, what, number) for number in (least, most, most + 1, *([least - 1] * (least > 0))))
+
+
+def set_number(rng, records, end):
+    """Sets a number in a record of a kind, if there is one, and what it limits there."""
+    kind, at, what, number = end
+    fit = [record for record in records if record[0] == kind]
+    # A rating is that of a span, and all else is a segment's.
+    fit = [record for record in fit if kind != "post" or (record[3] == "rating") == (what == "rating")] or fit
+    if fit:
+        record = rng.choice(fit)
+        record[at] = str(number)
+        if what:
+            record[at - 1] = what
 
 
 def broken(rng, records):

@@ -3,7 +3,7 @@ import random
 
 from model.records import MOST_BYTES
 
-from .breaking import broken, scratched
+from .breaking import broken, ends, scratched, set_number
 from .files import check_file, day_file
 from .texts import dressed, full, plain
 
@@ -135,15 +135,33 @@ def worded(rng):
     return Case([word for option in options for word in option])
 
 
+ENDS = [(check, end) for check in (True, False) for end in ends(check)]
+
+
+def at_an_end(rng, number):
+    """A good file in which one number is set to an end of its range or just beyond it."""
+    check, end = ENDS[number % len(ENDS)]
+    records = check_file(rng, 2) if check else day_file(rng, 1, 30)
+    if end[0] == "probe":
+        records[-1:-1] = [full(["probe", 240, 900])]
+    set_number(rng, records, end)
+    return Case(["check" if check else "day"], plain(records))
+
+
 FAMILIES = (
     good_check, good_day, broken_check, broken_day, scratched_file, crowded_day, good_check, good_day, broken_day, dressed_file,
-    grid_day, scratched_file, good_day, made, tried, worded, broken_day, crowded_day, far_day, many,
+    grid_day, scratched_file, good_day, made, tried, worded, broken_day, crowded_day, far_day, many, at_an_end, at_an_end,
 )
 
 
 def case(seed):
-    """The input of a seed. Any twenty seeds that follow one another have one of each family."""
-    return FAMILIES[seed % len(FAMILIES)](random.Random(seed))
+    """The input of a seed. As many seeds in a row as there are families have one of each, and a thousand have each end of a
+    range that there is."""
+    turn, at = divmod(seed, len(FAMILIES))
+    family = FAMILIES[at]
+    if family is at_an_end:
+        return at_an_end(random.Random(seed), turn * FAMILIES.count(family) + FAMILIES[:at].count(family))
+    return family(random.Random(seed))
 
 
 def family(seed):
