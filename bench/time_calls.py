@@ -101,7 +101,7 @@ fn each_value(trains: &[Train], span: u32) -> u128
     let mut mixed = 0u128;
     'rounds: for _ in 0..ROUNDS {
         'trains: for train in trains {
-            mixed ^= moment_peak::value(train, span).num();
+            mixed = mixed.wrapping_add(moment_peak::value(train, span).num());
         }
     }
     mixed
@@ -115,7 +115,7 @@ fn each_place(trains: &[Train], span: u32) -> u128
     'rounds: for _ in 0..ROUNDS {
         'trains: for train in trains {
             let found = moment_peak::peak(train, span);
-            mixed ^= found.value.num() ^ u128::from(found.place.section);
+            mixed = mixed.wrapping_add(found.value.num() ^ u128::from(found.place.section));
         }
     }
     mixed
@@ -128,7 +128,7 @@ fn each_shear(trains: &[Train], span: u32) -> u128
     let mut mixed = 0u128;
     'rounds: for _ in 0..ROUNDS {
         'trains: for train in trains {
-            mixed ^= shear_peak::peak(train, span).value.num();
+            mixed = mixed.wrapping_add(shear_peak::peak(train, span).value.num());
         }
     }
     mixed
@@ -137,7 +137,7 @@ fn each_shear(trains: &[Train], span: u32) -> u128
 
 GRID = """// Searches on a grid of 41 by 41 nodes.
 
-ghost use Rattle.std.specs.Prelude.{◌≡◌, ◌<◌, length};
+ghost use Rattle.std.specs.Prelude.{◌≡◌, ◌<◌, length, IfSome};
 
 use office_io::Name;
 use road_graph::Network;
@@ -158,10 +158,10 @@ pub fn time_each(rt: &HostRuntime) -> io::Result<()> {
     if network.nodes() < SIDE * SIDE {
         return println!(rt; "no grid");
     }
-    let Some(open) = all_open(alloc, &network) else {
+    let Some(passable) = all_passable(alloc, &network) else {
         return println!(rt; "no memory");
     };
-    time_both(rt, &network, &open)
+    time_both(rt, &network, &passable)
 }
 
 // The next of a row of numbers that look like chance.
@@ -207,22 +207,22 @@ fn both_ways(network: &mut Network, a: u32, b: u32, state: &mut u32) -> Option<(
     Some(())
 }
 
-fn all_open(alloc: Global, network: &Network) -> Option<Vec<bool>>
-    ensures { IfSome result (λ open. length open.items ≡ length network.now.segments) }
+fn all_passable(alloc: Global, network: &Network) -> Option<Vec<bool>>
+    ensures { IfSome result (λ passable. length passable.items ≡ length network.now.segments) }
 {
-    let mut open = Vec::new(alloc);
-    open.resize(network.segments() as usize, true).ok()?;
-    Some(open)
+    let mut passable = Vec::new(alloc);
+    passable.resize(network.segments() as usize, true).ok()?;
+    Some(passable)
 }
 
-fn time_both(rt: &HostRuntime, network: &Network, open: &[bool]) -> io::Result<()>
+fn time_both(rt: &HostRuntime, network: &Network, passable: &[bool]) -> io::Result<()>
     requires nodes { 1680 < length network.now.nodes }
-    requires open { length open.now ≡ length network.now.segments }
+    requires passable { length passable.now ≡ length network.now.segments }
 {
     let began = Instant::now(rt)?;
-    let searched = search_each(rt.alloc(), network, open);
+    let searched = search_each(rt.alloc(), network, passable);
     let middle = Instant::now(rt)?;
-    let walked = walk_each(rt.alloc(), network, open);
+    let walked = walk_each(rt.alloc(), network, passable);
     let ended = Instant::now(rt)?;
     let search = middle.duration_since(began).as_nanos();
     let walk = ended.duration_since(middle).as_nanos();
@@ -230,27 +230,27 @@ fn time_both(rt: &HostRuntime, network: &Network, open: &[bool]) -> io::Result<(
 }
 
 // How many searches were answered.
-fn search_each(alloc: Global, network: &Network, open: &[bool]) -> u32
+fn search_each(alloc: Global, network: &Network, passable: &[bool]) -> u32
     requires nodes { 1680 < length network.now.nodes }
-    requires open { length open.now ≡ length network.now.segments }
+    requires passable { length passable.now ≡ length network.now.segments }
 {
     let mut answered = 0u32;
     'rounds: for _ in 0..ROUNDS {
-        if search(alloc, network, open, 0, 1680).is_ok() {
+        if search(alloc, network, passable, 0, 1680).is_ok() {
             answered = answered.wrapping_add(1);
         }
     }
     answered
 }
 
-fn walk_each(alloc: Global, network: &Network, open: &[bool]) -> u32
+fn walk_each(alloc: Global, network: &Network, passable: &[bool]) -> u32
     requires nodes { 1680 < length network.now.nodes }
-    requires open { length open.now ≡ length network.now.segments }
+    requires passable { length passable.now ≡ length network.now.segments }
 {
     let heights = Heights::none(alloc);
     let mut answered = 0u32;
     'rounds: for _ in 0..ROUNDS {
-        if shortest_walk(alloc, network, open, &heights, 0, 1680).is_ok() {
+        if shortest_walk(alloc, network, passable, &heights, 0, 1680).is_ok() {
             answered = answered.wrapping_add(1);
         }
     }
