@@ -10,7 +10,7 @@ use Rattle.road_graph.proofs.Places.{get-push_cases, get-set_other, get-set_same
 use Rattle.road_graph.specs.declared.segment.Arrival.{Arrival}
 use Rattle.route_search.specs.declared.waiting.Waiting.{Waiting}
 use Rattle.route_search.specs.Walks.{AreNear, ArePotentials, IsPotential, IsWalk, every, feet_at, feet_of, flagged}
-use Rattle.route_search.specs.Settling.{AreAsked, IsBelow, IsIn, IsKept, IsMet, IsOut, IsPushed, IsRelaxing, IsSearching, IsSettled, IsShortened, IsTried, all_weight, beyond, known, one_if_known, weight_of}
+use Rattle.route_search.specs.Settling.{AreAskedFrom, IsBelow, IsIn, IsKept, IsMet, IsOut, IsPushed, IsRelaxing, IsSearching, IsSettled, IsShortened, IsTried, all_weight, beyond, known, one_if_known, weight_of}
 use Rattle.route_search.proofs.Joined.{feet_join, feet_on, walk_join, walk_on}
 use Rattle.route_search.proofs.Outcomes.{to_every}
 use Rattle.route_search.proofs.Weights.{all_weight-set, known-least, known-set}
@@ -355,6 +355,6 @@ searching_first roads may start goal ps queue there e w =
       waits = λ v d at. inl (rw ((only v d at).0, (only v d at).1) w.one);
     }
 
-pub asked_found : (roads : Roads) (passable : List Bool) (start : Option ℕ) (goal : ℕ) (ok : IsRoads roads) (ps : List (Option ℕ)) → IsSearching roads (flagged passable) start goal ps [] → AreAsked roads passable start goal ps
+pub asked_found : (roads : Roads) (passable : List Bool) (start : Option ℕ) (goal : ℕ) (ok : IsRoads roads) (ps : List (Option ℕ)) → IsSearching roads (flagged passable) start goal ps [] → AreAskedFrom roads passable start goal ps
 asked_found roads passable None goal ok ps h = settled_all roads (flagged passable) goal ok ps h
 asked_found roads passable (Some a) goal ok ps h = settled_near roads (flagged passable) a goal ok ps h

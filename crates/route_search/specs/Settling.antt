@@ -3,6 +3,7 @@ use Rattle.std.specs.Prelude.{◌≡◌, ◌⊎◌, ℕ, ◌+◌, ◌*◌, ◌<�
 use Rattle.road_graph.specs.declared.segment.Segment.{Segment}
 use Rattle.road_graph.specs.Roads.{Roads}
 use Rattle.road_graph.specs.declared.segment.Arrival.{Arrival}
+use Rattle.route_search.specs.declared.query.Query.{Query}
 use Rattle.route_search.specs.declared.waiting.Waiting.{Waiting}
 use Rattle.route_search.specs.Founds.{AreNearOver, ArePotentialsOver}
 use Rattle.route_search.specs.Walks.{IsWalk, every, feet_of, flagged}
@@ -81,13 +82,17 @@ pub record IsRelaxing (roads : Roads) (may : ℕ → Bool) (start : Option ℕ) 
   pub settled : (j : ℕ) (a : Arrival) → slice_get tried j ≡ Some a → may a.segment ≡ true → IsMet roads.segments start potentials a.from (d + a.feet)
   pub waits : (u e : ℕ) → slice_get potentials u ≡ Some (Some e) → (u ≡ v) ⊎ (IsIn (record { length = e; node = u }) queue ⊎ IsSettled roads.segments may start potentials u e)
 
--- the search over the flagged segments goes on with these potentials and this queue
-abbrev pub IsSearchingOver : Roads → List Bool → Option ℕ → ℕ → List (Option ℕ) → List Waiting → Type 0
-IsSearchingOver roads passable start goal potentials queue = IsSearching roads (flagged passable) start goal potentials queue
+-- the search for what is asked goes on with these potentials and this queue
+abbrev pub IsSearchingFor : Query → List (Option ℕ) → List Waiting → Type 0
+IsSearchingFor query potentials queue = IsSearching query.network.now (flagged query.passable.now) query.start query.goal potentials queue
 
 -- the same but for a node that was taken from the queue, no arrival of which is settled yet
-abbrev pub IsRelaxingOver : Roads → List Bool → Option ℕ → ℕ → List (Option ℕ) → List Waiting → Waiting → Type 0
-IsRelaxingOver roads passable start goal potentials queue near = IsRelaxing roads (flagged passable) start goal potentials queue near.node near.length []
+abbrev pub IsRelaxingFor : Query → List (Option ℕ) → List Waiting → Waiting → Type 0
+IsRelaxingFor query potentials queue near = IsRelaxing query.network.now (flagged query.passable.now) query.start query.goal potentials queue near.node near.length []
+
+-- no walk by u that goes on for so many feet is asked for
+abbrev pub IsLeftOut : Query → List (Option ℕ) → ℕ → ℕ → Type 0
+IsLeftOut query potentials u feet = IsOut query.network.now.segments query.start potentials u feet
 
 -- no more is left to do with these potentials and this queue than with those before
 abbrev pub IsNoMoreWork : List (Option ℕ) → List Waiting → List (Option ℕ) → List Waiting → Type 0
@@ -115,12 +120,14 @@ pub record IsLeft (roads : Roads) (start : Option ℕ) (potentials : List (Optio
 abbrev pub IsTried : Roads → Option ℕ → List (Option ℕ) → List Waiting → List (Option ℕ) → List Waiting → ℕ → ℕ → Type 0
 IsTried roads start potentials queue now waiting u d = IsShortened potentials queue now waiting u d ⊎ IsLeft roads start potentials queue now waiting u d
 
--- the start that is asked for alone, if one is, is there
-abbrev pub IsThere : Option ℕ → ℕ → Type 0
-IsThere None nodes = Unit {0}
-IsThere (Some start) nodes = start < nodes
+-- the same for what is asked
+abbrev pub IsTriedFor : Query → List (Option ℕ) → List Waiting → List (Option ℕ) → List Waiting → ℕ → ℕ → Type 0
+IsTriedFor query potentials queue now waiting u d = IsTried query.network.now query.start potentials queue now waiting u d
 
 -- what a search tells: all potentials, or those that are asked for one start alone
-abbrev pub AreAsked : Roads → List Bool → Option ℕ → ℕ → List (Option ℕ) → Type 0
-AreAsked roads passable None goal potentials = ArePotentialsOver roads passable goal potentials
-AreAsked roads passable (Some start) goal potentials = AreNearOver roads passable start goal potentials
+abbrev pub AreAskedFrom : Roads → List Bool → Option ℕ → ℕ → List (Option ℕ) → Type 0
+AreAskedFrom roads passable None goal potentials = ArePotentialsOver roads passable goal potentials
+AreAskedFrom roads passable (Some start) goal potentials = AreNearOver roads passable start goal potentials
+
+abbrev pub AreAsked : Query → List (Option ℕ) → Type 0
+AreAsked query potentials = AreAskedFrom query.network.now query.passable.now query.start query.goal potentials

@@ -9,8 +9,9 @@ ghost use Rattle.route_search.specs.Heights.{AreHeights};
 use crate::follow::follow;
 use crate::found::{Found, Potentials};
 use crate::heights::Heights;
+use crate::query::Query;
 use crate::reach::{listed, reach};
-use crate::settle::settle;
+use crate::settle::{settle, settle_all};
 use crate::shortest::Shortest;
 use crate::waiting::Waiting;
 use office_io::NoMemory;
@@ -47,7 +48,7 @@ pub fn potentials(
     requires to { to < length network.now.nodes }
     ensures { IfOk result (ArePotentialsOver network.now passable.now to) }
 {
-    let list = settle(alloc, network, passable, to, None, &Heights::none(alloc))?;
+    let list = settle_all(alloc, network, passable, to)?;
     Ok(Potentials::of(list))
 }
 
@@ -67,7 +68,14 @@ pub fn shortest_walk(
     requires to { to < length network.now.nodes }
     ensures { IfOk result (IsShortest network.now passable.now from to) }
 {
-    let list = settle(alloc, network, passable, to, Some(from), heights)?;
+    let query = Query {
+        network,
+        passable,
+        start: Some(from),
+        goal: to,
+        heights,
+    };
+    let list = settle(alloc, &query)?;
     Ok(shown(alloc, network, passable, &list, from, to)?)
 }
 
@@ -103,7 +111,7 @@ fn find(
     requires to { to < length network.now.nodes }
     ensures { IfOk result (IsFound network.now passable.now from to) }
 {
-    let list = settle(alloc, network, passable, to, None, &Heights::none(alloc))?;
+    let list = settle_all(alloc, network, passable, to)?;
     match shown(alloc, network, passable, &list, from, to)? {
         Shortest::Route { segments, length } => Ok(Found::Route {
             segments,

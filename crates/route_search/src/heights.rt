@@ -3,7 +3,7 @@
 ghost use Rattle.std.specs.Prelude.{◌≡◌, ◌<◌, ◌≤◌, length, IfOk};
 ghost use Rattle.route_search.specs.Heights.{AreLengths, AreLevel, AreZeros, IsColumn, IsLeastFall, IsRaised, height_of};
 
-use crate::settle::settle;
+use crate::settle::settle_all;
 use office_io::NoMemory;
 use road_graph::Network;
 use std::alloc::{AllocError, Global};
@@ -159,7 +159,7 @@ fn lengths(alloc: Global, network: &Network, node: u32) -> Result<Vec<Option<u64
     ensures { IfOk result (λ r. AreLengths network.now node r.items) }
 {
     let open = vec![in alloc; true; network.segments() as usize]?;
-    let lengths = settle(alloc, network, &open, node, None, &Heights::none(alloc))?;
+    let lengths = settle_all(alloc, network, &open, node)?;
     Ok(lengths)
 }
 

@@ -18,6 +18,7 @@ mod follow;
 mod found;
 mod heights;
 mod laws;
+mod query;
 mod reach;
 mod settle;
 mod shortest;

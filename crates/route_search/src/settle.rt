@@ -1,10 +1,11 @@
 // The least lengths to a goal.
-ghost use Rattle.std.specs.Prelude.{◌≡◌, ◌↔◌, ℕ, ◌+◌, ◌*◌, ◌<◌, ◌≤◌, List, [], length, IfOk, IfNone, OnOk, IsTrue, true, slice_get, replicate, Some, None};
+ghost use Rattle.std.specs.Prelude.{◌≡◌, ◌↔◌, ◌<◌, length, IfOk, IfNone, OnOk, IsTrue, true, replicate, Some, None};
 ghost use Rattle.road_graph.specs.Roads.{IsRoads};
-ghost use Rattle.route_search.specs.Heights.{AreHeights};
-ghost use Rattle.route_search.specs.Settling.{AreAsked, IsMore, IsNoMoreWork, IsOut, IsRelaxingOver, IsSearchingOver, IsThere, IsTried, beyond, weight_of};
+ghost use Rattle.route_search.specs.Founds.{ArePotentialsOver};
+ghost use Rattle.route_search.specs.Settling.{AreAsked, IsLeftOut, IsMore, IsNoMoreWork, IsRelaxingFor, IsSearchingFor, IsTriedFor, beyond, weight_of};
 
 use crate::heights::Heights;
+use crate::query::Query;
 use crate::waiting::{Queue, Waiting};
 use crate::width::shift;
 use road_graph::Network;
@@ -43,24 +44,16 @@ fn none_known(alloc: Global, nodes: usize) -> Result<Vec<Option<u64>>, AllocErro
 }
 
 // How long a walk from the start by a node is at least, that goes on for so many feet; none where a shorter one is known.
-// Where no start is asked for, how many feet it goes on.
-fn through(
-    network: &Network,
-    start: Option<u32>,
-    heights: &Heights,
-    potentials: &[Option<u64>],
-    node: u32,
-    feet: u64,
-) -> Option<u64>
-    requires start { IsThere start (length potentials.now) }
-    requires heights { AreHeights network.now.segments heights.now }
+// Where no start is named, how many feet it goes on.
+fn through(query: &Query, potentials: &[Option<u64>], node: u32, feet: u64) -> Option<u64>
+    requires many { length potentials.now ≡ length query.now.network.now.nodes }
     requires near { feet < beyond }
-    ensures { IfNone result (IsOut network.now.segments start potentials.now node feet) }
+    ensures { IfNone result (IsLeftOut query.now potentials.now node feet) }
 {
-    let Some(start) = start else {
+    let Some(start) = query.start else {
         return Some(feet);
     };
-    let least = feet + u64::from(heights.fall(network, start, node));
+    let least = feet + u64::from(query.heights.fall(query.network, start, node));
     if is_longer(least, potentials[start as usize]) {
         None
     } else {
@@ -70,23 +63,20 @@ fn through(
 
 // Notes the length of a way from a node, where none so short is known and a walk from the start by it may be the shortest.
 fn improve(
-    network: &Network,
-    start: Option<u32>,
-    heights: &Heights,
+    query: &Query,
     potentials: &mut Vec<Option<u64>>,
     queue: &mut Queue,
     node: u32,
     feet: u64,
 ) -> Result<(), AllocError>
-    requires start { IsThere start (length potentials.old.items) }
-    requires heights { AreHeights network.now.segments heights.now }
+    requires many { length potentials.old.items ≡ length query.now.network.now.nodes }
     requires within { node < length potentials.old.items }
     requires near { feet < beyond }
     ensures { OnOk result
-        (IsTried network.now start potentials.old.items queue.old potentials.new.items queue.new node feet) }
+        (IsTriedFor query.now potentials.old.items queue.old potentials.new.items queue.new node feet) }
 {
     if is_shorter(potentials[node as usize], feet) {
-        if let Some(place) = through(network, start, heights, potentials, node, feet) {
+        if let Some(place) = through(query, potentials, node, feet) {
             potentials[node as usize] = Some(feet);
             queue.push(Waiting { length: feet, node }, place)?;
         }
@@ -95,84 +85,52 @@ fn improve(
 }
 
 // Whether no walk from the start by a node is the shortest that goes on as this one.
-fn is_out(
-    network: &Network,
-    start: Option<u32>,
-    heights: &Heights,
-    potentials: &[Option<u64>],
-    near: Waiting,
-) -> bool
-    requires start { IsThere start (length potentials.now) }
-    requires heights { AreHeights network.now.segments heights.now }
+fn is_out(query: &Query, potentials: &[Option<u64>], near: Waiting) -> bool
+    requires many { length potentials.now ≡ length query.now.network.now.nodes }
     requires near { near.length < beyond }
-    ensures { result ≡ true → IsOut network.now.segments start potentials.now near.node near.length }
+    ensures { result ≡ true → IsLeftOut query.now potentials.now near.node near.length }
 {
-    through(network, start, heights, potentials, near.node, near.length).is_none()
+    through(query, potentials, near.node, near.length).is_none()
 }
 
 // Tries the segments into a node for shorter ways, where a walk from the start by it may be the shortest.
 fn relax(
-    network: &Network,
-    passable: &[bool],
-    start: Option<u32>,
-    heights: &Heights,
-    goal: u32,
+    query: &Query,
     potentials: &mut Vec<Option<u64>>,
     queue: &mut Queue,
     near: Waiting,
 ) -> Result<(), AllocError>
-    requires roads { IsRoads network.now }
-    requires start { IsThere start (length network.now.nodes) }
-    requires heights { AreHeights network.now.segments heights.now }
-    requires flags { length passable.now ≡ length network.now.segments }
-    requires there { near.node < length network.now.nodes }
-    requires before { IsRelaxingOver network.now passable.now start goal potentials.old.items queue.old near }
-    ensures after { OnOk result
-        (IsSearchingOver network.now passable.now start goal potentials.new.items queue.new) }
+    requires roads { IsRoads query.now.network.now }
+    requires there { near.node < length query.now.network.now.nodes }
+    requires before { IsRelaxingFor query.now potentials.old.items queue.old near }
+    ensures after { OnOk result (IsSearchingFor query.now potentials.new.items queue.new) }
     ensures less { OnOk result
         (IsNoMoreWork potentials.old.items queue.old potentials.new.items queue.new) }
 {
-    if is_out(network, start, heights, potentials, near) {
+    if is_out(query, potentials, near) {
         return Ok(());
     }
-    let arrivals = network.incoming(near.node);
+    let passable = query.passable;
+    let arrivals = query.network.incoming(near.node);
     for arrival in arrivals {
         if passable[arrival.segment as usize] {
-            improve(
-                network,
-                start,
-                heights,
-                potentials,
-                queue,
-                arrival.from,
-                near.length + u64::from(arrival.feet),
-            )?;
+            let feet = near.length + u64::from(arrival.feet);
+            improve(query, potentials, queue, arrival.from, feet)?;
         }
     }
     Ok(())
 }
 
-// The least length to the goal from each node or, where a start is asked for alone, from it and on walks of least length
-// from it.
-pub(crate) fn settle(
-    alloc: Global,
-    network: &Network,
-    passable: &[bool],
-    goal: u32,
-    start: Option<u32>,
-    heights: &Heights,
-) -> Result<Vec<Option<u64>>, AllocError>
-    requires flags { length passable.now ≡ length network.now.segments }
-    requires there { goal < length network.now.nodes }
-    requires start { IsThere start (length network.now.nodes) }
-    requires heights { AreHeights network.now.segments heights.now }
-    ensures roads { OnOk result (IsRoads network.now) }
-    ensures least { IfOk result (λ r. AreAsked network.now passable.now start goal r.items) }
+// The least lengths that are asked for.
+pub(crate) fn settle(alloc: Global, query: &Query) -> Result<Vec<Option<u64>>, AllocError>
+    ensures roads { OnOk result (IsRoads query.now.network.now) }
+    ensures least { IfOk result (λ r. AreAsked query.now r.items) }
 {
-    let nodes = network.nodes() as usize;
+    let goal = query.goal;
+    let nodes = query.network.nodes() as usize;
     let mut potentials = none_known(alloc, nodes)?;
     potentials[goal as usize] = Some(0);
-    let mut queue = Queue::new(alloc, shift(network))?;
+    let mut queue = Queue::new(alloc, shift(query.network))?;
     queue.push(
         Waiting {
             length: 0,
@@ -182,17 +140,31 @@ pub(crate) fn settle(
     )?;
     'nearest: while let Some(near) = queue.pop() {
         if is_known(potentials[near.node as usize], near.length) {
-            relax(
-                network,
-                passable,
-                start,
-                heights,
-                goal,
-                &mut potentials,
-                &mut queue,
-                near,
-            )?;
+            relax(query, &mut potentials, &mut queue, near)?;
         }
     }
     Ok(potentials)
+}
+
+// The least length to a goal from each node.
+pub(crate) fn settle_all(
+    alloc: Global,
+    network: &Network,
+    passable: &[bool],
+    goal: u32,
+) -> Result<Vec<Option<u64>>, AllocError>
+    requires flags { length passable.now ≡ length network.now.segments }
+    requires there { goal < length network.now.nodes }
+    ensures roads { OnOk result (IsRoads network.now) }
+    ensures least { IfOk result (λ r. ArePotentialsOver network.now passable.now goal r.items) }
+{
+    let none = Heights::none(alloc);
+    let query = Query {
+        network,
+        passable,
+        start: None,
+        goal,
+        heights: &none,
+    };
+    settle(alloc, &query)
 }
