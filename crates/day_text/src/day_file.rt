@@ -90,7 +90,7 @@ fn finish(alloc: Global, progress: DayProgress, row: u64) -> Result<DayFile, Fil
     ensures { Tells result (ended_day (row, progress)) }
 {
     match progress {
-        DayProgress::Ended(draft) => close(alloc, draft),
+        DayProgress::Ended(growing) => close(alloc, growing.into_draft()),
         unended => {
             drop(unended);
             Err(RecordRefusal::bad(RecordCause::End).at(row))

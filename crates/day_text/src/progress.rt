@@ -8,7 +8,7 @@ ghost use Rattle.record_text.specs.Causes.{Judges};
 ghost use Rattle.day_text.specs.Days.{going_on, judge_day, judge_kind, judge_later, judge_opening, opening_of, with_actor, with_command, with_road, with_truck};
 
 use crate::commands::parse_order;
-use crate::draft::Draft;
+use crate::draft::{Draft, Growing};
 use crate::fleet::Fleet;
 use crate::kind::{CommandKind, RecordKind, RoadKind, parse_kind};
 use crate::members::{add_actor, add_truck};
@@ -25,8 +25,8 @@ use std::alloc::Global;
 #[derive(Drop)]
 pub(crate) enum DayProgress {
     Start,
-    Open(Draft),
-    Ended(Draft),
+    Open(Growing),
+    Ended(Growing),
 }
 
 impl Progress for DayProgress {
@@ -54,9 +54,9 @@ fn take_kind(
 {
     match progress {
         DayProgress::Start => take_opening(alloc, kind, row),
-        DayProgress::Open(draft) => take_later(alloc, draft, kind, row),
-        DayProgress::Ended(draft) => {
-            drop(draft);
+        DayProgress::Open(growing) => take_later(alloc, growing, kind, row),
+        DayProgress::Ended(growing) => {
+            drop(growing);
             Err(RecordRefusal::bad(RecordCause::Order))
         }
     }
@@ -73,13 +73,14 @@ fn take_opening(
     match kind {
         RecordKind::Day => {
             let day = parse_opening(row)?;
-            Ok(DayProgress::Open(Draft {
+            let draft = Draft {
                 network: Network::new(alloc),
                 day,
                 fleet: Fleet::new(alloc),
                 actors: Names::new(alloc),
                 orders: Orders::new(alloc),
-            }))
+            };
+            Ok(DayProgress::Open(Growing::new(alloc, draft)?))
         }
         _ => Err(RecordRefusal::bad(RecordCause::Order)),
     }
@@ -105,62 +106,62 @@ fn parse_opening(row: &StringRecord) -> Result<Day, RecordRefusal>
 // Where a record behind the day leads.
 fn take_later(
     alloc: Global,
-    draft: Draft,
+    growing: Growing,
     kind: RecordKind,
     row: &StringRecord,
 ) -> Result<DayProgress, RecordRefusal>
-    ensures { Judges result (judge_later draft kind (fields_of row.now)) }
+    ensures { Judges result (judge_later growing kind (fields_of row.now)) }
 {
     match kind {
         RecordKind::Day => {
-            drop(draft);
+            drop(growing);
             Err(RecordRefusal::bad(RecordCause::Order))
         }
-        RecordKind::Road(kind) => take_road(draft, kind, row),
-        RecordKind::Truck => take_truck(alloc, draft, row),
-        RecordKind::Actor => take_actor(draft, row),
-        RecordKind::Command(kind) => take_command(alloc, draft, kind, row),
-        RecordKind::End => take_end(draft, row),
+        RecordKind::Road(kind) => take_road(growing, kind, row),
+        RecordKind::Truck => take_truck(alloc, growing, row),
+        RecordKind::Actor => take_actor(growing, row),
+        RecordKind::Command(kind) => take_command(alloc, growing, kind, row),
+        RecordKind::End => take_end(growing, row),
     }
 }
 
 // Where a record of the road network leads.
-fn take_road(draft: Draft, kind: RoadKind, row: &StringRecord) -> Result<DayProgress, RecordRefusal>
-    ensures { Judges result (going_on (with_road draft kind (fields_of row.now))) }
+fn take_road(growing: Growing, kind: RoadKind, row: &StringRecord) -> Result<DayProgress, RecordRefusal>
+    ensures { Judges result (going_on (with_road growing kind (fields_of row.now))) }
 {
-    let mut draft = draft;
-    match add_road(&mut draft.network, kind, row) {
-        Ok(()) => Ok(DayProgress::Open(draft)),
+    let mut growing = growing;
+    match add_road(&mut growing.draft.network, kind, row) {
+        Ok(()) => Ok(DayProgress::Open(growing)),
         Err(refusal) => {
-            drop(draft);
+            drop(growing);
             Err(refusal)
         }
     }
 }
 
 // Where the record of a truck leads.
-fn take_truck(alloc: Global, draft: Draft, row: &StringRecord) -> Result<DayProgress, RecordRefusal>
-    ensures { Judges result (going_on (with_truck draft (fields_of row.now))) }
+fn take_truck(alloc: Global, growing: Growing, row: &StringRecord) -> Result<DayProgress, RecordRefusal>
+    ensures { Judges result (going_on (with_truck growing (fields_of row.now))) }
 {
-    let mut draft = draft;
-    match add_truck(alloc, &mut draft.fleet, row) {
-        Ok(()) => Ok(DayProgress::Open(draft)),
+    let mut growing = growing;
+    match add_truck(alloc, &mut growing.draft.fleet, row) {
+        Ok(()) => Ok(DayProgress::Open(growing)),
         Err(refusal) => {
-            drop(draft);
+            drop(growing);
             Err(refusal)
         }
     }
 }
 
 // Where the record of an actor leads.
-fn take_actor(draft: Draft, row: &StringRecord) -> Result<DayProgress, RecordRefusal>
-    ensures { Judges result (going_on (with_actor draft (fields_of row.now))) }
+fn take_actor(growing: Growing, row: &StringRecord) -> Result<DayProgress, RecordRefusal>
+    ensures { Judges result (going_on (with_actor growing (fields_of row.now))) }
 {
-    let mut draft = draft;
-    match add_actor(&mut draft.actors, row) {
-        Ok(()) => Ok(DayProgress::Open(draft)),
+    let mut growing = growing;
+    match add_actor(&mut growing.draft.actors, row) {
+        Ok(()) => Ok(DayProgress::Open(growing)),
         Err(refusal) => {
-            drop(draft);
+            drop(growing);
             Err(refusal)
         }
     }
@@ -169,34 +170,34 @@ fn take_actor(draft: Draft, row: &StringRecord) -> Result<DayProgress, RecordRef
 // Where the record of a command leads.
 fn take_command(
     alloc: Global,
-    draft: Draft,
+    growing: Growing,
     kind: CommandKind,
     row: &StringRecord,
 ) -> Result<DayProgress, RecordRefusal>
-    ensures { Judges result (going_on (with_command draft kind (fields_of row.now))) }
+    ensures { Judges result (going_on (with_command growing kind (fields_of row.now))) }
 {
-    let mut draft = draft;
-    let added = match parse_order(alloc, &draft, kind, row) {
-        Ok(order) => draft.orders.push(order),
+    let mut growing = growing;
+    let added = match parse_order(alloc, &growing.draft, kind, row) {
+        Ok(order) => growing.draft.orders.push(order),
         Err(refusal) => Err(refusal),
     };
     match added {
-        Ok(()) => Ok(DayProgress::Open(draft)),
+        Ok(()) => Ok(DayProgress::Open(growing)),
         Err(refusal) => {
-            drop(draft);
+            drop(growing);
             Err(refusal)
         }
     }
 }
 
 // Where the end leads.
-fn take_end(draft: Draft, row: &StringRecord) -> Result<DayProgress, RecordRefusal>
-    ensures { Judges result (judge_later draft RecordKind.End (fields_of row.now)) }
+fn take_end(growing: Growing, row: &StringRecord) -> Result<DayProgress, RecordRefusal>
+    ensures { Judges result (judge_later growing RecordKind.End (fields_of row.now)) }
 {
     if is_blank_from(row, 1) {
-        Ok(DayProgress::Ended(draft))
+        Ok(DayProgress::Ended(growing))
     } else {
-        drop(draft);
+        drop(growing);
         Err(RecordRefusal::bad(RecordCause::Extra))
     }
 }
