@@ -31,6 +31,7 @@ module _ {V E T : Type 0} (caller : E → ℕ) (story : V → List E) (terms : V
       let is_root = f.root root in let after : Moment E T = admitted_moment r.moment in
       let place : length vs ≡ v.admitted + 1 = length-set s.views id w ∙ (r.numbers.places ∙ ap (λ (k : ℕ). k + 1) (sym is_root.2)) in record {
         moment = after;
+        bells = r.bells;
         words = r.words;
         slots = r.slots;
         terms_are = r.terms_are;

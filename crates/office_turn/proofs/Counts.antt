@@ -32,6 +32,7 @@ module _ {V E T : Type 0} (caller : E → ℕ) (story : V → List E) (terms : V
   marks : (s : Whole) (r : Rule s) (me : ℕ) (v : Known) → get_elem? s.views me ≡ some v → v.is_spent ≡ false → r.moment.next ≡ r.moment.most → Rule record { words = s.words; homes = s.homes; views = set s.views me (with_worn v) }
   marks s r me v at live full = let w : Known = with_worn v in let near = within s.views me v at in let f = r.fits me v at live in record {
     moment = r.moment;
+    bells = r.bells;
     words = r.words;
     slots = r.slots;
     terms_are = r.terms_are;

@@ -1,5 +1,5 @@
 -- A draw keeps the rule.
-use Rattle.std.proofs.Common.{◌≡◌, ℕ, ◌+◌, ◌<◌, ◌≤◌, eqb, Bool, true, false, List, [], ◌∷◌, Option, Some, None, set, sym, refl, ap, ◌∙◌, subst, arith, eq-eqb, ne_eqb}
+use Rattle.std.proofs.Common.{◌≡◌, ℕ, ◌+◌, ◌<◌, ◌≤◌, eqb, Bool, true, false, List, ◌∷◌, Option, Some, None, set, sym, refl, ap, ◌∙◌, subst, arith, eq-eqb, ne_eqb}
 use mathlib.Core.Option.{none, some, some-injective, some-ne-none}
 use mathlib.Core.Logic.{dite}
 use native.Mathlib.Decide.{ℕ_discrete}
@@ -36,10 +36,11 @@ module _ {V E T : Type 0} (caller : E → ℕ) (story : V → List E) (terms : V
   no_more n worn full less e = absurd (omega (arith, full e))
 
   draws_next : (s : Whole) (r : Rule s) (me : ℕ) (v : Known) → get_elem? s.views me ≡ some v → v.is_spent ≡ false → v.is_root ≡ false → v.ticket ≡ None → r.moment.next < most
-      → Rule record { words = (r.moment.next + 1) ∷ r.moment.serving ∷ []; homes = s.homes; views = set s.views me (with_ticket v r.moment.next) }
+      → Rule record { words = (r.moment.next + 1) ∷ r.moment.serving ∷ r.bells; homes = s.homes; views = set s.views me (with_ticket v r.moment.next) }
   draws_next s r me v at live pass none_yet room = let n : ℕ = r.moment.next in let w : Known = with_ticket v n in let near = within s.views me v at in let f = r.fits me v at live in
       let low : r.moment.serving ≤ n = r.tickets.ordered in record {
         moment = drawn_moment r.moment;
+        bells = r.bells;
         words = refl;
         slots = r.slots;
         terms_are = r.terms_are;
@@ -87,7 +88,7 @@ module _ {V E T : Type 0} (caller : E → ℕ) (story : V → List E) (terms : V
         keeps,
         tt,
         subst (λ b. Rule (stepped s 0 (either b new x) id m.1 w keeps)) (sym (eq-eqb x old hit))
-            (let ws : set s.words 0 new ≡ (r.moment.next + 1) ∷ r.moment.serving ∷ [] = ap (λ l. set l 0 new) r.words ∙ ap (λ (k : ℕ). k ∷ r.moment.serving ∷ []) (omega (arith, now, hit, up)) in
+            (let ws : set s.words 0 new ≡ (r.moment.next + 1) ∷ r.moment.serving ∷ r.bells = ap (λ l. set l 0 new) r.words ∙ ap (λ (k : ℕ). k ∷ r.moment.serving ∷ r.bells) (omega (arith, now, hit, up)) in
             subst (λ (y : List ℕ × ℕ). Rule record { words = y.0; homes = s.homes; views = set s.views id (with_ticket m.0 y.1) }) (λ i. (sym ws i, sym now i))
             (draws_next s r id m.0 at live pass none_yet (omega (arith, now, hit, f.most, r.most_is)))),
         ((λ _. refl), λ miss. absurd (miss hit)),

@@ -7,6 +7,7 @@ pub mod Unmoved
 pub mod Counts
 pub mod Draws
 pub mod Looks
+pub mod Rings
 pub mod Passes
 pub mod Admits
 pub mod Receives

@@ -44,6 +44,7 @@ module _ {V E T : Type 0} (caller : E → ℕ) (story : V → List E) (terms : V
       → Rule record { words = s.words; homes = set s.homes 0 none; views = set s.views me (with_story v (story x)) }
   takes_home s r me v at live mine unlooked x tells home = let w : Known = with_story v (story x) in let near = within s.views me v at in let f = r.fits me v at live in record {
     moment = away_moment r.moment;
+    bells = r.bells;
     words = r.words;
     slots = length-set s.homes 0 none ∙ r.slots;
     terms_are = r.terms_are;

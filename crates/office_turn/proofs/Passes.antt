@@ -37,13 +37,14 @@ module _ {V E T : Type 0} (caller : E → ℕ) (story : V → List E) (terms : V
 
   gives_back : (s : Whole) (r : Rule s) (me : ℕ) (v : Known) (x : V) (e : E) → get_elem? s.views me ≡ some v → v.is_spent ≡ false → v.is_root ≡ false → v.looked ≡ true
       → story x ≡ v.seen ++ e ∷ [] → caller e ≡ v.number → terms x ≡ first
-      → Rule record { words = r.moment.next ∷ (r.moment.serving + 1) ∷ []; homes = set s.homes 0 (some (Some x)); views = set s.views me (after_passing v (v.seen ++ e ∷ [])) }
+      → Rule record { words = r.moment.next ∷ (r.moment.serving + 1) ∷ r.bells; homes = set s.homes 0 (some (Some x)); views = set s.views me (after_passing v (v.seen ++ e ∷ [])) }
   gives_back s r me v x e at live pass has_looked tells its same_terms = let near = within s.views me v at in let f = r.fits me v at live in
       let now = f.looked has_looked in let mine = now.0 in let all = now.1 in let n : ℕ = r.moment.serving in let range = r.tickets.drawn me v n at mine in let history : List E = r.moment.history in
       let after : Moment E T = passed_moment r.moment e in
       let w : Known = after_passing v (v.seen ++ e ∷ []) in let own_more : v.own ++ drop (length v.seen) (v.seen ++ e ∷ []) ≡ v.own ++ e ∷ [] = ap (λ l. v.own ++ l) (drop-append_seam v.seen (e ∷ [])) in let longer : history ++ e ∷ [] ≡ v.seen ++ e ∷ [] = ap (λ l. l ++ e ∷ []) (sym all) in
       let others : (j : ℕ) (u : Known) → j ≢ me → get_elem? s.views j ≡ some u → u.ticket ≡ Some n → ⊥ = λ j u other there b. other (r.tickets.once j me u v n there at b mine) in record {
         moment = after;
+        bells = r.bells;
         words = refl;
         slots = length-set s.homes 0 (some (Some x)) ∙ r.slots;
         terms_are = r.terms_are;
@@ -99,7 +100,7 @@ module _ {V E T : Type 0} (caller : E → ℕ) (story : V → List E) (terms : V
   passes slots id v more x e small live pass has_looked tells its same s r _ at _ = let f = r.fits id v at live in let now = serving_is caller story terms first most s r in let mine = (f.looked has_looked).0 in
       let range = r.tickets.drawn id v r.moment.serving at mine in let same_terms : terms x ≡ first = some_same (terms x) r.moment.terms (same ∙ f.terms) ∙ r.terms_are in
       let up : ((serving caller story terms first most s) + 1) % 2 ^ 64 ≡ r.moment.serving + 1 = ap (λ (n : ℕ). (n + 1) % 2 ^ 64) now ∙ mod-eq_of_lt (omega (arith, range.1, r.bounded, small, f.most, r.most_is)) in
-      let ws : set s.words 1 (((serving caller story terms first most s) + 1) % 2 ^ 64) ≡ r.moment.next ∷ (r.moment.serving + 1) ∷ [] = ap (λ l. set l 1 (((serving caller story terms first most s) + 1) % 2 ^ 64)) r.words ∙ ap (λ (k : ℕ). r.moment.next ∷ k ∷ []) up in
+      let ws : set s.words 1 (((serving caller story terms first most s) + 1) % 2 ^ 64) ≡ r.moment.next ∷ (r.moment.serving + 1) ∷ r.bells = ap (λ l. set l 1 (((serving caller story terms first most s) + 1) % 2 ^ 64)) r.words ∙ ap (λ (k : ℕ). r.moment.next ∷ k ∷ r.bells) up in
       let own_now : entries_of caller v.number (story x) ≡ v.own ++ drop (length v.seen) (story x) = ap (entries_of caller v.number) tells
       ∙ (entries_more caller v.number v.seen e its ∙ (ap (λ l. l ++ e ∷ []) (ap (entries_of caller v.number) (f.looked has_looked).1 ∙ sym (f.own pass)) ∙ sym (ap (λ l. v.own ++ l) (ap (drop (length v.seen)) tells ∙ drop-append_seam v.seen (e ∷ []))))) in (
         after_passing v (story x),

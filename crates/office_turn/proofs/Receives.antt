@@ -41,6 +41,7 @@ module _ {V E T : Type 0} (caller : E → ℕ) (story : V → List E) (terms : V
       let two : (P : ℕ → Known → Type 0) → P id w → P other b → ((j : ℕ) (d : Known) → j ≢ id → j ≢ other → get_elem? s.views j ≡ some d → P j d) → (j : ℕ) (d : Known) → get_elem? (set vs other b) j ≡ some d → P j d =
       λ P mine theirs others. seats_stay P vs other b theirs (λ j d far e. seats_stay (λ j d. j ≢ other → P j d) s.views id w (λ _. mine) (λ j d near e far. others j d near far e) j d e far) in record {
         moment = after;
+        bells = r.bells;
         words = r.words;
         slots = r.slots;
         terms_are = r.terms_are;

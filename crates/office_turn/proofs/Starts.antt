@@ -21,9 +21,10 @@ module _ {V E T : Type 0} (caller : E → ℕ) (story : V → List E) (terms : V
   abbrev Rule : Whole → Type 0
   Rule = Turned caller story terms first most
 
-  pub starts : (words : List ℕ) (x : V) → words ≡ 0 ∷ 0 ∷ [] → terms x ≡ first → story x ≡ [] → Rule (opening words (Some x ∷ []) (opening_view first most))
-  starts words x zeros same empty = let v : Known = opening_view first most in record {
+  pub starts : (words bells : List ℕ) (x : V) → words ≡ 0 ∷ 0 ∷ bells → terms x ≡ first → story x ≡ [] → Rule (opening words (Some x ∷ []) (opening_view first most))
+  starts words bells x zeros same empty = let v : Known = opening_view first most in record {
     moment = record { next = 0; serving = 0; history = []; admitted = 0; receipts = []; home = true; terms = first; most = most };
+    bells = bells;
     words = zeros;
     slots = refl;
     terms_are = refl;

@@ -74,7 +74,9 @@ pub record Numbers {E T : Type 0} (admitted : ℕ) (receipts : List (Receipt E))
 -- the rule: the table is as it is at some moment
 pub record Turned {V E T : Type 0} (caller : E → ℕ) (story : V → List E) (terms : V → T) (first : T) (most : ℕ) (s : State (Option V) (View E T)) : Type 0 where
   pub moment : Moment E T
-  pub words : s.words ≡ moment.next ∷ moment.serving ∷ []
+  -- the words behind the first two, of which nothing is said
+  pub bells : List ℕ
+  pub words : s.words ≡ moment.next ∷ moment.serving ∷ bells
   pub slots : length s.homes ≡ 1
   pub terms_are : moment.terms ≡ first
   pub most_is : moment.most ≡ most

@@ -46,6 +46,10 @@ module _ {E T : Type 0} where
   abbrev pub drew : {S : Type 0} → Step S → Me S (View E T) → ℕ → Me S (View E T) → Type 0
   drew st m found n = (found ≡ st.first → n ≡ (with_ticket m.0 found, m.1)) × (found ≢ st.first → n ≡ m)
 
+  -- the seat stays as it was
+  abbrev pub stayed : {S : Type 0} → Step S → Me S (View E T) → ℕ → Me S (View E T) → Type 0
+  stayed st m found n = n ≡ m
+
   -- there are no more receipts than passes admitted, and the shorter list is the front of the longer
   abbrev pub tallied : {S : Type 0} → Step S → Me S (View E T) → ℕ → Me S (View E T) → Type 0
   tallied st m found n = (n ≡ m) × (length m.0.receipts ≤ m.0.admitted) × (length m.0.passed_over ≤ length m.0.seen → StartsWith m.0.seen m.0.passed_over)

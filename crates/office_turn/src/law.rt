@@ -1,11 +1,15 @@
-//! The rule of the table. Word 0 is the next ticket and word 1 the ticket now served. The one slot has the value, or
-//! nothing while a turn is held.
+//! The rule of the table. Word 0 is the next ticket and word 1 the ticket now served. Each word behind them is a bell, on
+//! which those sleep whose tickets have it; the rule says nothing of bells. The one slot has the value, or nothing while a
+//! turn is held.
 ghost use Rattle.office_turn.specs.Rule.{Turned, opening_view};
 
 use crate::story::Storied;
 use crate::view::View;
 use atomic_table::TableRule;
 use std::snapshot::Snapshot;
+
+// The next ticket, the ticket now served, and the bells.
+pub const WORDS: usize = 18;
 
 // What the table is told when it is made: the value at the start, which takes no bytes, and the most turns.
 #[derive(Drop)]

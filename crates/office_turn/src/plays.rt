@@ -1,5 +1,5 @@
 //! What each kind of step on the table tells the seat that makes it.
-ghost use Rattle.office_turn.specs.Steps.{drew, counted, looked, passed, tallied, after_admitting, newcomer, after_receiving, spent};
+ghost use Rattle.office_turn.specs.Steps.{drew, counted, looked, passed, stayed, tallied, after_admitting, newcomer, after_receiving, spent};
 
 use crate::story::Storied;
 use crate::view::View;
@@ -31,6 +31,13 @@ pub struct PassOn;
 
 impl<V: Storied> Play<Option<V>, View<V::Entry, V::Terms>> for PassOn {
     ghost then = { passed V.caller V.story };
+}
+
+// A bell is rung.
+pub struct Ring;
+
+impl<S, E, T> Play<S, View<E, T>> for Ring {
+    ghost then = { stayed };
 }
 
 // The root's seat is cut in two: the root, and a pass with the next number.

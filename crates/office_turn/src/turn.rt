@@ -4,7 +4,7 @@ ghost use Rattle.office_turn.specs.Story.{HasOneMore, StartsWith, StartsWithBoth
 ghost use Rattle.office_turn.specs.Told.{HasReceipt, IsToldWorn, Lock, lock_of, opening_root, after_admit, admitted_by, after_hold, after_pass_on, after_join};
 
 use crate::held::Held;
-use crate::law::{Law, Opening};
+use crate::law::{Law, Opening, WORDS};
 use crate::pass::{Pass, Root};
 use crate::plays::Admit;
 use crate::steps;
@@ -31,7 +31,7 @@ impl<V: Storied> Model for Turn<V> {
 
     ghost view = { λ t. lock_of t.table.shared.table_id (V.terms t.table.shared.key.value.value) t.most };
 
-    ghost invariant = { λ t. (t.table.shared.table_id.words ≡ 2) × (t.table.shared.table_id.slots ≡ 1)
+    ghost invariant = { λ t. (t.table.shared.table_id.words ≡ 18) × (t.table.shared.table_id.slots ≡ 1)
         × (t.most ≡ t.table.shared.key.most) × (t.most ≤ 1000000) };
 }
 
@@ -66,7 +66,7 @@ impl<V: Storied + Drop> Turn<V> {
             most,
         };
         slots.push_reserved(Some(value));
-        match Table::new(alloc, &[0, 0], slots, &about) {
+        match Table::new(alloc, &[0; WORDS], slots, &about) {
             Ok((table, seat)) => Ok((
                 Turn { table, most },
                 Root {

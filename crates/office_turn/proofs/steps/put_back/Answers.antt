@@ -1,5 +1,6 @@
-use Rattle.std.proofs.Common.{rules, ◌∙◌}
+use Rattle.std.proofs.Common.{rules, ◌∙◌, arith}
 use Rattle.office_turn.proofs.Passes.{passes_at}
+use Rattle.office_turn.proofs.Rings.{rings}
 use Rattle.office_turn.proofs.steps.put_back.Goals as goal
 
 pub fetch_add-served-requires : goal.fetch_add-served-requires
@@ -7,4 +8,11 @@ fetch_add-served-requires g c = let v = c.requires.view in let t = c.requires.st
   c.exchange-left.ensures.0 ∙ c.requires.lock.0,
   search rules,
   passes_at _ _ _ _ _ _ _ _ _ _ c.args.value t.0 c.exchange-left.ensures.3 c.requires.lock.2 v.1 v.2 v.0 t.1 t.2 c.requires.terms,
+)
+
+pub fetch_add-requires : goal.fetch_add-requires
+fetch_add-requires g c = let bell = c.bell_of-bell.ensures in (
+  c.fetch_add-served.ensures.0 ∙ (c.exchange-left.ensures.0 ∙ c.requires.lock.0),
+  omega (arith, bell.within, c.requires.lock.1),
+  rings _ _ _ _ _ _ _ _ _ bell.behind,
 )
