@@ -1,1 +1,2 @@
 pub mod OneValue
+pub mod Least

@@ -1,12 +1,15 @@
 -- Whether one effect is within a rating of another does not depend on the fractions that they are written with.
-use Rattle.std.proofs.Common.{◌≡◌, ℕ, ◌*◌, ◌≤◌, ◌<◌, List, arith, ap}
+use Rattle.std.proofs.Common.{◌≡◌, ℕ, ◌*◌, ◌≤◌, ◌<◌, ◌↔◌, List, arith, ap}
 use Rattle.std.proofs.Math.Nat.{mul-le-mul_left, le_of_mul-le-mul_right, mul-pos}
 use Rattle.std.proofs.lemmas.Bool.Decides.{nat_tests}
+use Rattle.axle_train.specs.declared.axle.Axle.{Axle}
 use Rattle.influence_line.specs.Placed.{Load}
+use Rattle.influence_line.specs.Peaks.{IsTrainPlaced, IsHs20Placed}
 use Rattle.influence_line.proofs.Unique.{moment_same, shear_same}
 use Rattle.span_rating.specs.Loading.{AreEffects}
-use Rattle.span_rating.specs.Judgement.{IsWithin, fit_of}
+use Rattle.span_rating.specs.Judgement.{IsWithin, AreWithin, IsLeastRating, fit_of}
 use Rattle.span_rating.specs.Laws.{MomentFits, ShearFits, SaysOfPeaks}
+use Rattle.span_rating.specs.Carrying.{Carries, CarriesFrom}
 use Rattle.span_rating.specs.declared.loading.Effects.{Effects}
 use Rattle.span_rating.specs.declared.judgement.Fit.TheVariants.{Fits, Moment, Shear}
 
@@ -51,3 +54,20 @@ says_of_peaks Truck Design span rating truck design some t d = record {
   moment = λ e fit. moment_says rating truck design e (moment_within Truck Design span rating truck design some t d fit);
   shear = λ e. let h = shear_says rating truck design e in (moment_fits Truck Design span rating truck design t d h.0, λ fit. h.1 (shear_within Truck Design span rating truck design some t d fit));
 }
+
+-- a span carries a truck exactly where its effects are within the rating of the design truck's
+pub carries_where_within : (axles : List Axle) (span rating : ℕ) (truck design : Effects) → 1 ≤ span → AreEffects (IsTrainPlaced axles) span truck → AreEffects IsHs20Placed span design → Carries axles span rating ↔ AreWithin rating truck design
+carries_where_within axles span rating truck design some t d = (
+  λ is. (moment_within (IsTrainPlaced axles) IsHs20Placed span rating truck design some t d is.moment, shear_within (IsTrainPlaced axles) IsHs20Placed span rating truck design some t d is.shear),
+  λ h. record {
+    moment = moment_fits (IsTrainPlaced axles) IsHs20Placed span rating truck design t d h.0;
+    shear = shear_fits (IsTrainPlaced axles) IsHs20Placed span rating truck design t d h.1;
+  },
+)
+
+-- the least rating that a truck's effects are within is the least with which the span carries the truck
+pub carries_from_least : (axles : List Axle) (span least : ℕ) (truck design : Effects) → 1 ≤ span → AreEffects (IsTrainPlaced axles) span truck → AreEffects IsHs20Placed span design → IsLeastRating truck design least → CarriesFrom axles span least
+carries_from_least axles span least truck design some t d is rating long =
+    let same = carries_where_within axles span rating truck design some t d in
+    let from = is rating long in
+    (λ carries. from.0 (same.0 carries), λ h. same.1 (from.1 h))

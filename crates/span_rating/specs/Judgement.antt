@@ -1,5 +1,5 @@
 -- When a span with a rating carries a truck.
-use Rattle.std.specs.Prelude.{ℕ, ◌*◌, ◌≤◌, nat_le, if◌then◌else◌}
+use Rattle.std.specs.Prelude.{ℕ, ◌*◌, ◌≤◌, ◌↔◌, nat_le, if◌then◌else◌}
 use Rattle.influence_line.specs.Fractions.{Ratio}
 use Rattle.span_rating.specs.declared.loading.Effects.{Effects}
 use Rattle.span_rating.specs.declared.judgement.Fit.{Fit}
@@ -12,6 +12,14 @@ IsWithin rating effect design = 1000 * effect.num * design.den ≤ rating * desi
 -- both effects are within the rating
 abbrev pub AreWithin : ℕ → Effects → Effects → Type 0
 AreWithin rating truck design = IsWithin rating truck.moment design.moment × IsWithin rating truck.shear design.shear
+
+-- the least rating that an effect is within: of the ratings that a span may have, it is within exactly those from this one on
+abbrev pub IsLeastWithin : Ratio → Ratio → ℕ → Type 0
+IsLeastWithin effect design least = (rating : ℕ) → rating ≤ 100000 → IsWithin rating effect design ↔ least ≤ rating
+
+-- the least rating that both effects are within
+abbrev pub IsLeastRating : Effects → Effects → ℕ → Type 0
+IsLeastRating truck design least = (rating : ℕ) → rating ≤ 100000 → AreWithin rating truck design ↔ least ≤ rating
 
 -- the moment is over the rating
 abbrev pub IsMomentOver : ℕ → Effects → Effects → Type 0

@@ -4,3 +4,4 @@ pub use Rattle.influence_line.specs.Peaks
 pub mod Loading
 pub mod Judgement
 pub mod Laws
+pub mod Carrying

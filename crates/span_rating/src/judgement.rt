@@ -3,7 +3,7 @@
 ghost use Rattle.std.specs.Prelude.{◌≡◌, ◌≤◌, ◌↔◌, IsTrue};
 ghost use Rattle.influence_line.specs.Fractions.{IsSmall};
 ghost use Rattle.span_rating.specs.Loading.{AreSmall};
-ghost use Rattle.span_rating.specs.Judgement.{AreWithin, IsMomentOver, IsShearAloneOver, IsWithin, fit_of};
+ghost use Rattle.span_rating.specs.Judgement.{AreWithin, IsLeastRating, IsLeastWithin, IsMomentOver, IsShearAloneOver, IsWithin, fit_of};
 ghost use Rattle.span_rating.specs.Laws.{FitIsOfThePeaks};
 
 use crate::loading::Effects;
@@ -35,6 +35,39 @@ pub fn fits(truck: &Effects, design: &Effects, rating: u32) -> Fit
         return Fit::Shear;
     }
     Fit::Fits
+}
+
+/// The least rating, in thousandths of the design truck's effects, with which a span carries a truck, or
+/// 100,001 where no rating up to 100,000 is enough.
+pub fn least_rating(truck: &Effects, design: &Effects) -> u32
+    requires truck { AreSmall truck.now }
+    requires design { AreSmall design.now }
+    ensures bound { result ≤ 100001 }
+    ensures least { IsLeastRating truck.now design.now result }
+{
+    let moment = least_within(&truck.moment, &design.moment);
+    let shear = least_within(&truck.shear, &design.shear);
+    if moment < shear { shear } else { moment }
+}
+
+/// The least rating that an effect is within, or 100,001 where it is within none up to 100,000. It is a
+/// quotient that is rounded up. The products stay below 2^121.
+fn least_within(effect: &Frac, design: &Frac) -> u32
+    requires effect { IsSmall effect.now }
+    requires design { IsSmall design.now }
+    ensures bound { result ≤ 100001 }
+    ensures least { IsLeastWithin effect.now design.now result }
+{
+    let has = 1000 * effect.num() * design.den();
+    let unit = design.num() * effect.den();
+    if 100000 * unit < has {
+        return 100001;
+    }
+    // A design truck that did nothing, within whose effects is only what does nothing either.
+    if unit == 0 {
+        return 0;
+    }
+    has.div_ceil(unit) as u32
 }
 
 /// Whether an effect is at most `rating` thousandths of the design truck's. The products stay below
@@ -124,5 +157,27 @@ mod tests {
             assert_eq!(rt; found, wanted, "{truck:?} on {design:?} at {rating}");
         }
         fit_is_of_the_peaks(&Hs20Placements, &Hs20Placements);
+    }
+
+    #[test]
+    fn finds_the_least_rating(rt: HostRuntime) {
+        // A truck's effects, those of the design truck, and the least rating.
+        let cases = [
+            (SHORT, SHORT, 1000),
+            (HEAVY, LONG, 21324),
+            // The shear is 3/2 of the design's, and the moment the same.
+            (((1, 1), (3, 1)), ((1, 1), (2, 1)), 1500),
+            // 5/7 against 3/4: 952.38 thousandths.
+            (((5, 7), (5, 7)), ((3, 4), (3, 4)), 953),
+            (((0, 1), (0, 1)), ((3, 4), (3, 4)), 0),
+            (((100, 1), (100, 1)), ((1, 1), (1, 1)), 100000),
+            // No rating is enough.
+            (((101, 1), (1, 1)), ((1, 1), (1, 1)), 100001),
+            (GREATEST, LEAST, 100001),
+        ];
+        for (truck, design, wanted) in cases {
+            let found = least_rating(&effects(&rt, truck), &effects(&rt, design));
+            assert_eq!(rt; found, wanted, "{truck:?} on {design:?}");
+        }
     }
 }

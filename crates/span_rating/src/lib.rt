@@ -14,6 +14,6 @@ mod judgement;
 mod loading;
 mod span_study;
 
-pub use judgement::{Fit, fit_is_of_the_peaks, fits};
+pub use judgement::{Fit, fit_is_of_the_peaks, fits, least_rating};
 pub use loading::{Effects, Study};
 pub use span_study::SpanStudy;
