@@ -1,76 +1,72 @@
-// A study that keeps the effects that it has once computed.
+// A study that keeps what is asked of it most.
 
-ghost use Rattle.std.specs.Prelude.{◌≡◌, ◌≤◌};
+ghost use Rattle.std.specs.Prelude.{◌≡◌, ◌≤◌, List, IfOk, IfSome};
+ghost use Rattle.axle_train.specs.declared.axle.Axle.{Axle};
+ghost use Rattle.span_rating.specs.Carrying.{CarriesFrom};
+ghost use Rattle.hs20_truck.specs.Kept.{IsNumberFor, IsTable};
 
-use crate::live::study_of;
+use crate::live::{is_carried, study_of};
 use axle_train::Train;
-use span_rating::{SpanStudy, Study};
+use span_rating::{SpanStudy, Study, least_rating};
 use std::alloc::{AllocError, Global};
 use std::marker::Model;
 
-/// The study of one train that keeps the effects on spans of the lengths that it was told to keep, and computes those on
-/// any other. What it answers does not depend on what it keeps, and contracts see the axles of its train alone.
+/// The study of one train that keeps, for spans of the lengths that it was told to keep, the least rating with which they
+/// carry the train, and computes the rest. What it answers does not depend on what it keeps, and contracts see the axles of
+/// its train alone.
 #[derive(Drop)]
 pub struct Kept {
     train: Train,
-    // For each length in inches, where its effects may stand among those kept. A length that is not kept has 0, the number
-    // of another one, so this is a hint, and the length that stands there decides.
-    numbers: Vec<u16>,
-    studies: Vec<LengthStudy>,
-}
-
-// The effects on spans of one length.
-#[derive(Clone, Copy, Debug, Drop)]
-struct LengthStudy {
-    inches: u32,
-    study: Study,
+    // For each length in inches, 0 where it is not kept, and else one more than the least rating. As long as nothing is kept
+    // there is no table.
+    numbers: Option<Vec<u32>>,
 }
 
 impl Model for Kept {
-    ghost use Rattle.std.specs.Prelude.{List, All};
+    ghost use Rattle.std.specs.Prelude.{List, IfSome};
     ghost use Rattle.axle_train.specs.declared.axle.Axle.{Axle};
 
     ghost Value = { List Axle };
 
-    ghost use Rattle.hs20_truck.specs.Kept.{IsStudyOf};
-
     ghost view = { λ k. k.train };
 
-    ghost invariant = { λ k. All (λ s. IsStudyOf k.train s.inches s.study) k.studies.items };
+    ghost use Rattle.hs20_truck.specs.Kept.{IsTable};
+
+    ghost invariant = { λ k. IfSome k.numbers (λ numbers. IsTable k.train numbers.items) };
 }
 
 impl Kept {
     /// A study of this train that keeps nothing yet. Takes no memory.
-    pub fn new(alloc: Global, train: Train) -> Kept
+    pub fn new(train: Train) -> Kept
         ensures { result ≡ train }
     {
         Kept {
             train,
-            numbers: Vec::new(alloc),
-            studies: Vec::new(alloc),
+            numbers: None,
         }
     }
 
-    /// Keeps the effects on spans of `inches` from now on, which it computes unless it keeps them already. Where no memory
-    /// is found it keeps what it kept.
-    pub fn keep(&mut self, inches: u32) -> Result<(), AllocError>
+    /// The train.
+    pub fn train(&self) -> &Train
+        ensures { result.now ≡ self.now }
+    {
+        &self.train
+    }
+
+    /// Keeps the least rating with which spans of `inches` carry the train, unless it does so already. The first length takes
+    /// the memory for all. Where none is found it keeps what it kept.
+    pub fn keep(&mut self, alloc: Global, inches: u32) -> Result<(), AllocError>
         requires some { 1 ≤ inches }
         requires long { inches ≤ 6000 }
         ensures { self.new ≡ self.old }
     {
-        let number = number_of(&self.numbers, inches);
-        if number < self.studies.len() && self.studies[number].inches == inches {
+        if number_of(&self.numbers, inches) != 0 {
             return Ok(());
         }
-        // Each of the 6,000 lengths is kept once, so there is always room for one more.
-        let next = self.studies.len();
-        if next > 6000 {
-            return Ok(());
-        }
-        let study = study_of(&self.train, inches);
-        self.numbers.resize(6001, 0)?;
-        self.studies.push(LengthStudy { inches, study })?;
-        self.numbers[inches as usize] = next as u16;
+        let least = least_for(&self.train, inches);
+        let mut numbers = table_of(alloc, self.numbers.take())?;
+        numbers[inches as usize] = least + 1;
+        self.numbers = Some(numbers);
         Ok(())
     }
 }
@@ -79,19 +75,48 @@ impl SpanStudy for Kept {
     ghost axles = { λ k. k };
 
     fn of(&self, inches: u32) -> Study {
-        let number = number_of(&self.numbers, inches);
-        let studies = &self.studies;
-        if number < studies.len() && studies[number].inches == inches {
-            return studies[number].study;
-        }
         study_of(&self.train, inches)
+    }
+
+    fn carries(&self, inches: u32, rating: u32) -> bool {
+        let number = number_of(&self.numbers, inches);
+        if number == 0 {
+            return is_carried(&self.train, inches, rating);
+        }
+        number - 1 <= rating
     }
 }
 
-// The number of the study on spans of this length, if it is kept.
-fn number_of(numbers: &[u16], inches: u32) -> usize {
-    match numbers.get(inches as usize) {
-        Some(number) => *number as usize,
+// What is kept for spans of this length, whose train ever it is.
+fn number_of(numbers: &Option<Vec<u32>>, inches: u32) -> u32
+    ensures { (axles : List Axle) → IfSome numbers.now (λ t. IsTable axles t.items) → IsNumberFor axles inches result }
+{
+    match numbers {
+        Some(numbers) => match numbers.get(inches as usize) {
+            Some(number) => *number,
+            None => 0,
+        },
         None => 0,
     }
+}
+
+// The table of what is kept, or one of nothing.
+fn table_of(alloc: Global, numbers: Option<Vec<u32>>) -> Result<Vec<u32>, AllocError>
+    ensures { IfOk result (λ table. (axles : List Axle) → IfSome numbers (λ t. IsTable axles t.items) → IsTable axles table.items) }
+{
+    match numbers {
+        Some(numbers) => Ok(numbers),
+        None => vec![in alloc; 0; 6001],
+    }
+}
+
+// The least rating with which spans of this length carry the train.
+fn least_for(train: &Train, inches: u32) -> u32
+    requires some { 1 ≤ inches }
+    requires long { inches ≤ 6000 }
+    ensures bound { result ≤ 100001 }
+    ensures least { CarriesFrom train.now inches result }
+{
+    let study = study_of(train, inches);
+    least_rating(&study.truck, &study.design)
 }

@@ -6,7 +6,7 @@
 //! fractions of an inch among them, although only the truck with its smallest spacing is looked at;
 //! that the effects of a train, and those of the design truck, are functions of the train and the span,
 //! with no other effects that are these peaks; and that `Live`, which computes, and `Kept`, which keeps
-//! what it computed, answer for their own train and for the design truck.
+//! the least ratings that it found, answer for their own train and for the design truck.
 #![tactic(auto)]
 
 ghost use Rattle.std.specs.Prelude.{◌≡◌, ◌≤◌};
@@ -88,6 +88,7 @@ pub fn effects_are_the_peaks()
 mod tests {
     use super::*;
     use span_rating::{Fit, SpanStudy, fits};
+    use std::alloc::Global;
     use std::fmt::Debug;
     use std::process::Abort;
     use std::test::Fail;
@@ -159,19 +160,34 @@ mod tests {
         (terms(&found.truck), terms(&found.design))
     }
 
-    // Each length is asked before it is kept, when its number is still that of another one, and again once it is
-    // kept; then it is kept a second time.
+    // That spans of this length carry the truck of a study with this rating, and with none below it.
+    fn needs(rt: &impl Abort, study: &impl SpanStudy, inches: u32, rating: u32) {
+        assert!(rt; 1 <= inches && inches <= 6000);
+        assert!(rt; 1 <= rating && rating <= 100000);
+        same(rt, inches, &study.carries(inches, rating), &true);
+        same(rt, inches, &study.carries(inches, rating - 1), &false);
+    }
+
+    // A study of the design truck has the effects of the table, and the truck is as much as a rating of 1,000 carries.
+    fn ask(rt: &impl Abort, study: &Kept, row: (u32, u128, u128)) {
+        let (inches, moment, shear) = row;
+        let wanted = ((moment, 1), (shear, 1));
+        same(rt, inches, &told(rt, study, inches), &(wanted, wanted));
+        needs(rt, study, inches, 1000);
+    }
+
+    // Each length is asked before it is kept, and again once it is kept; then it is kept a second time.
     fn keep_each(
         rt: &impl Abort,
+        alloc: Global,
         study: &mut Kept,
         spans: &[(u32, u128, u128)],
     ) -> Result<(), Fail> {
-        for &(inches, moment, shear) in spans {
-            assert!(rt; 1 <= inches && inches <= 6000);
-            let wanted = ((moment, 1), (shear, 1));
+        for &row in spans {
+            assert!(rt; 1 <= row.0 && row.0 <= 6000);
             for _ in 0..2 {
-                same(rt, inches, &told(rt, study, inches), &(wanted, wanted));
-                study.keep(inches)?;
+                ask(rt, study, row);
+                study.keep(alloc, row.0)?;
             }
         }
         Ok(())
@@ -179,16 +195,15 @@ mod tests {
 
     // What was kept first is still there, and a length that was never kept is computed.
     fn ask_each(rt: &impl Abort, study: &Kept, spans: &[(u32, u128, u128)]) {
-        for &(inches, moment, shear) in spans {
-            let wanted = ((moment, 1), (shear, 1));
-            same(rt, inches, &told(rt, study, inches), &(wanted, wanted));
+        for &row in spans {
+            ask(rt, study, row);
         }
     }
 
     #[test]
     fn a_kept_study_answers_as_the_tables_do(rt: HostRuntime) -> Result<(), Fail> {
-        let mut study = Kept::new(rt.alloc(), truck());
-        let kept = keep_each(&rt, &mut study, &SPANS[..4]);
+        let mut study = Kept::new(truck());
+        let kept = keep_each(&rt, rt.alloc(), &mut study, &SPANS[..4]);
         ask_each(&rt, &study, &SPANS);
         drop(study);
         kept
@@ -217,10 +232,12 @@ mod tests {
         let (truck, design) = (found.truck, found.design);
         same(rt, 6000, &fits(&truck, &design, 21323), &Fit::Moment);
         same(rt, 6000, &fits(&truck, &design, 21324), &Fit::Fits);
+        needs(rt, study, 6000, 21324);
     }
 
-    fn judge_kept(rt: &impl Abort, mut study: Kept) -> Result<(), Fail> {
-        study.keep(6000)?;
+    fn judge_kept(rt: &impl Abort, alloc: Global, mut study: Kept) -> Result<(), Fail> {
+        study.keep(alloc, 6000)?;
+        same(rt, 6000, &study.train().len(), &32);
         judge(rt, &study);
         Ok(())
     }
@@ -229,6 +246,6 @@ mod tests {
     fn a_study_has_the_truck_and_the_design(rt: HostRuntime) -> Result<(), Fail> {
         let train = heavy(&rt);
         judge(&rt, &Live { train: &train });
-        judge_kept(&rt, Kept::new(rt.alloc(), train.clone()?))
+        judge_kept(&rt, rt.alloc(), Kept::new(train.clone()?))
     }
 }
