@@ -1,6 +1,6 @@
 -- No limit fails exactly where the segment meets the load.
-use Rattle.std.proofs.Common.{◌≡◌, ℕ, zero, suc, ◌*◌, ◌≤◌, List, [], ◌∷◌, Bool, true, false, cond, not, ltb, refl, sym, ap, ◌∙◌, Option, Some, None, inl, inr}
-use Rattle.std.specs.Prelude.{slice_get}
+use Rattle.std.proofs.Common.{◌≡◌, ℕ, zero, suc, ◌+◌, ◌*◌, ◌≤◌, ◌<◌, ◌↔◌, List, [], ◌∷◌, Bool, true, false, cond, not, ◌&&◌, ltb, refl, sym, ap, ◌∙◌, Option, Some, None, inl, inr, length, get_or, drop}
+use Rattle.std.specs.Prelude.{slice_get, is_some, is_none}
 use Rattle.std.specs.List.{list_all, list_any}
 use Rattle.std.specs.Option.{option_or}
 use Rattle.std.proofs.lemmas.Bool.{ltb-false, le-ltb, not-false, true≢false, cases_Bool}
@@ -15,6 +15,7 @@ use Rattle.span_rating.specs.declared.loading.Effects.{Effects}
 use Rattle.span_rating.specs.declared.judgement.Fit.{Fit}
 use Rattle.span_rating.specs.declared.judgement.Fit.TheVariants.{Fits, Moment, Shear}
 use Rattle.span_rating.specs.Judgement.{fit_of}
+use Rattle.span_rating.specs.Carrying.{Carries}
 use Rattle.span_rating.proofs.OneValue.{says_of_peaks}
 use Rattle.hs20_truck.proofs.OneEffects.{effects_are_the_peaks, design_is_the_peaks}
 use Rattle.influence_line.specs.Peaks.{IsTrainPlaced, IsHs20Placed}
@@ -25,10 +26,11 @@ use Rattle.road_graph.specs.Roads.{Roads, IsRoads, no_span, span_at, spans_of}
 use Rattle.road_graph.proofs.Filters.{spans_are}
 use Rattle.restriction_log.specs.States.{InForce, values_at, rating_at}
 use Rattle.clearance_rules.specs.Loads.{LoadParts}
-use Rattle.clearance_rules.specs.Limits.{IsWithinPosted, Carries, Meets, posted_limit, group_limit, span_limit, limit_of_span, first_of_spans, limit_of, limit_of_fit}
+use Rattle.clearance_rules.specs.Limits.{IsWithinPosted, Meets, posted_limit, group_limit, span_limit, limit_of_span, first_of_spans, spans_limit, limit_of, limit_of_fit, meets}
 use Rattle.clearance_rules.specs.declared.limit.Limit.{Limit}
 use Rattle.clearance_rules.specs.declared.limit.Limit.TheVariants as limit
 use Rattle.axle_limits.proofs.Allowance.{any_is_not_all}
+use Rattle.clearance_rules.proofs.Naming.{next_span}
 use Rattle.axle_limits.proofs.Groups.{all_groups, each_group}
 
 -- a choice that gives nothing did not take its first part
@@ -42,6 +44,14 @@ taken_next b x o h k = rw h k
 or_none : (o p : Option Limit) → option_or o p ≡ None → (o ≡ None) × (p ≡ None)
 or_none None p h = (refl, h)
 or_none (Some x) p h = absurd (none-some x (sym h))
+
+some_or : (o p : Option Limit) → is_none o ≡ false → is_none (option_or o p) ≡ false
+some_or None p h = absurd (true≢false h)
+some_or (Some x) p h = refl
+
+is_none_only : (o : Option Limit) → is_none o ≡ true → o ≡ None
+is_none_only None h = refl
+is_none_only (Some x) h = absurd (true≢false (sym h))
 
 none_or : (o p : Option Limit) → o ≡ None → p ≡ None → option_or o p ≡ None
 none_or o p h k = rw h k
@@ -121,7 +131,7 @@ span_only axles inches rating s i train some long h =
     let fits = says.fits both in
     record { moment = fits.0; shear = fits.1 }
 
-span_none : (axles : List Axle) (inches rating s i : ℕ) → IsTrain axles → 1 ≤ inches → inches ≤ 6000
+pub span_none : (axles : List Axle) (inches rating s i : ℕ) → IsTrain axles → 1 ≤ inches → inches ≤ 6000
     → Carries axles inches rating → span_limit axles inches rating s i ≡ None
 unfolding span_limit
 span_none axles inches rating s i train some long is =
@@ -189,3 +199,51 @@ meets_none roads state load s is train meets =
     let (t, there, on) = (spans_are roads.spans s).sound k i at in
     let here : span_at roads.spans i ≡ t = get_or_from_slice_get roads.spans i t no_span there in
     rw here (meets.spans i t there on))))
+
+-- a segment passes the test exactly where it meets the load
+pub met_means : (roads : Roads) (state : InForce) (load : LoadParts) (s : ℕ) (met : Bool) → IsRoads roads → IsTrain load.train → met ≡ meets roads state load s
+    → (met ≡ true) ↔ Meets roads state load s
+met_means roads state load s met is train e = (
+  λ h. none_meets roads state load s is train (is_none_only (limit_of roads state load s) (sym e ∙ h)),
+  λ m. e ∙ ap is_none (meets_none roads state load s is train m),
+)
+
+-- whether the segment meets the load, from its parts
+pub meets_in_parts : (roads : Roads) (state : InForce) (load : LoadParts) (s : ℕ) (values : Values) (posted group spans : Bool)
+    → values ≡ values_at state.values s → posted ≡ is_some (posted_limit values load s) → group ≡ is_some (group_limit values.allowance load s)
+    → spans ≡ is_none (spans_limit roads state load.train s) → (not posted && (not group && spans)) ≡ meets roads state load s
+unfolding limit_of
+meets_in_parts roads state load s values posted group spans ev ep eg es = rw (ep, eg, es, ← ev) (by (posted_limit values load s) (group_limit values.allowance load s))
+  where
+    by : (p g : Option Limit) → (not (is_some p) && (not (is_some g) && is_none (spans_limit roads state load.train s))) ≡ is_none (option_or p (option_or g (spans_limit roads state load.train s)))
+    by None None = refl
+    by None (Some x) = refl
+    by (Some x) g = refl
+
+-- a span carries the truck exactly where no limit of it fails
+pub span_judged : (roads : Roads) (state : InForce) (axles : List Axle) (s i inches rating : ℕ) (carries : Bool) → IsTrain axles → 1 ≤ inches → inches ≤ 6000
+    → inches ≡ (span_at roads.spans i).inches → rating ≡ rating_at state.ratings i → (carries ≡ true) ↔ Carries axles inches rating
+    → is_none (limit_of_span roads state axles s i) ≡ carries
+span_judged roads state axles s i inches rating carries train some long at rated is = rw (← at, ← rated) (by carries is)
+  where
+    by : (b : Bool) → (b ≡ true) ↔ Carries axles inches rating → is_none (span_limit axles inches rating s i) ≡ b
+    by true is = rw (span_none axles inches rating s i train some long (is.0 refl)) refl
+    by false is = none (span_limit axles inches rating s i) refl
+      where
+        none : (o : Option Limit) → span_limit axles inches rating s i ≡ o → is_none (span_limit axles inches rating s i) ≡ false
+        none None e = absurd (true≢false (sym (is.1 (span_only axles inches rating s i train some long e))))
+        none (Some x) e = rw e refl
+
+-- past a span that carries the truck the next ones decide, and one that does not decides alone
+pub span_passed : (roads : Roads) (state : InForce) (axles : List Axle) (s : ℕ) (list : List ℕ) (k : ℕ) → k < length list
+    → is_none (limit_of_span roads state axles s (get_or list k 0)) ≡ true
+    → first_of_spans roads state axles s (drop k list) ≡ first_of_spans roads state axles s (drop (k + 1) list)
+span_passed roads state axles s list k inside none =
+    next_span roads state axles axles s list k None inside refl (sym (is_none_only (limit_of_span roads state axles s (get_or list k 0)) none))
+
+pub span_stops : (roads : Roads) (state : InForce) (axles : List Axle) (s : ℕ) (list : List ℕ) (k : ℕ) → k < length list
+    → is_none (limit_of_span roads state axles s (get_or list k 0)) ≡ false
+    → is_none (first_of_spans roads state axles s (drop k list)) ≡ false
+span_stops roads state axles s list k inside some =
+    let limit = limit_of_span roads state axles s (get_or list k 0) in
+    rw (next_span roads state axles axles s list k limit inside refl refl) (some_or limit (first_of_spans roads state axles s (drop (k + 1) list)) some)

@@ -3,6 +3,7 @@ pub use Rattle.axle_limits.specs.Groups
 pub use Rattle.axle_limits.specs.Findings
 pub use Rattle.axle_limits.specs.Worst
 pub use Rattle.influence_line.specs.Peaks
+pub use Rattle.span_rating.specs.Carrying
 pub use Rattle.hs20_truck.specs.Effects
 pub use Rattle.road_graph.specs.Roads
 pub use Rattle.restriction_log.specs.States

@@ -5,12 +5,11 @@ use Rattle.std.specs.Option.{option_or}
 use Rattle.axle_train.specs.declared.axle.Axle.{Axle}
 use Rattle.axle_limits.specs.Groups.{gross_of, groups_of}
 use Rattle.axle_limits.specs.Worst.{AllPass, is_over, worst_of}
-use Rattle.influence_line.specs.Peaks.{IsTrainPlaced, IsHs20Placed}
 use Rattle.span_rating.specs.declared.loading.Effects.{Effects}
 use Rattle.span_rating.specs.declared.judgement.Fit.{Fit}
 use Rattle.span_rating.specs.declared.judgement.Fit.TheVariants as fit
 use Rattle.span_rating.specs.Judgement.{fit_of}
-use Rattle.span_rating.specs.Laws.{MomentFits, ShearFits}
+use Rattle.span_rating.specs.Carrying.{Carries}
 use Rattle.hs20_truck.specs.Effects.{effects_of, design_of}
 use Rattle.road_graph.specs.declared.values.Values.{Values}
 use Rattle.road_graph.specs.declared.segment.Span.{Span}
@@ -77,12 +76,6 @@ limit_of roads state load segment =
 -- whether the segment meets the load: no limit fails
 abbrev pub meets : Roads → InForce → LoadParts → ℕ → Bool
 meets roads state load segment = is_none (limit_of roads state load segment)
-
--- a span of so many inches with this rating carries the truck: its peak moment and its peak end shear, over all places of
--- its axles, are at most so many thousandths of those of the HS20-44 truck
-pub record Carries (axles : List Axle) (inches rating : ℕ) : Type 0 where
-  pub moment : MomentFits (IsTrainPlaced axles) IsHs20Placed inches rating
-  pub shear : ShearFits (IsTrainPlaced axles) IsHs20Placed inches rating
 
 -- the load is within the posted values of an open segment
 pub record IsWithinPosted (values : Values) (load : LoadParts) : Type 0 where

@@ -17,8 +17,9 @@ use std::sync::ledger::Ledger;
 /// The first limit of the segment that fails the load in this state, or none where the segment meets it.
 ///
 /// The order is that of [`Limit`], and then that of the span numbers, moment before shear. The worst group alone is
-/// tested, since some group is over the allowance exactly where the worst one is. The study is asked once for each span
-/// that is tested. Takes a step and no memory.
+/// tested, since some group is over the allowance exactly where the worst one is. The study is asked whether
+/// each span that is tested carries the truck, and for the effects on the one that does not. Takes a step and
+/// no memory.
 pub fn first_failing<E: SpanStudy, L: Ledger>(
     network: &Network,
     state: &State,
@@ -65,7 +66,7 @@ fn first_limit<E: SpanStudy>(
 
 /// That a network and the axles of a load are within their bounds, which no value of them shows by itself. A fact for the
 /// proof, and no code.
-fn bounds(network: &Network, load: &Load)
+pub(crate) fn bounds(network: &Network, load: &Load)
     ensures roads { IsRoads network.now }
     ensures train { IsTrain load.now.train }
 {
@@ -74,7 +75,7 @@ fn bounds(network: &Network, load: &Load)
 
 /// The first of the posted values that fails the load.
 #[tactic(auto, unfolding(crate::specs::Limits::posted_limit))]
-fn posted_limit(values: &Values, load: &Load, segment: u32) -> Option<Limit>
+pub(crate) fn posted_limit(values: &Values, load: &Load, segment: u32) -> Option<Limit>
     ensures { result ≡ posted_limit values.now load.now segment }
 {
     if values.closed {
@@ -113,7 +114,7 @@ fn posted_limit(values: &Values, load: &Load, segment: u32) -> Option<Limit>
 }
 
 /// The limit on groups of axles, where the worst one is over the allowance.
-fn group_limit(load: &Load, segment: u32, allowance: u32) -> Option<Limit>
+pub(crate) fn group_limit(load: &Load, segment: u32, allowance: u32) -> Option<Limit>
     ensures { result ≡ group_limit allowance load.now segment }
 {
     let worst = load.worst();
@@ -169,6 +170,9 @@ fn span_limit<E: SpanStudy>(
 {
     let inches = network.span(span).inches;
     let rating = state.rating(span);
+    if study.carries(inches, rating) {
+        return None;
+    }
     let effects = study.of(inches);
     let fit = fits(&effects.truck, &effects.design, rating);
     limit_of_fit(fit, &effects.truck, &effects.design, rating, segment, span)

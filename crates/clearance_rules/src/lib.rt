@@ -1,4 +1,4 @@
-//! Which limit of a road segment a load fails first.
+//! Which limit of a road segment a load fails first, and whether it fails any.
 //!
 //! A load is a truck as the road sees it: its height, width and length, and its axles. A segment is tested in this order:
 //! it is closed; the load is higher, wider, longer or heavier than is posted; a group of axles weighs more than the
@@ -11,12 +11,14 @@ mod first_limit;
 mod laws;
 mod limit;
 mod load;
+mod met_limits;
 mod steps;
 
 pub use first_limit::first_failing;
 pub use laws::{limits_are_of_their_segment, named_limit_fails};
 pub use limit::Limit;
 pub use load::{Load, Range, is_cross_section, is_length};
+pub use met_limits::meets;
 pub use steps::Steps;
 
 #[cfg(test)]

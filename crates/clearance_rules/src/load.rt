@@ -1,6 +1,6 @@
 // A load: a truck as the road sees it.
 
-ghost use Rattle.std.specs.Prelude.{◌≡◌, ◌&&◌, IfOk, OnOk, OnErr, IsTrue, ◌↔◌, true, false};
+ghost use Rattle.std.specs.Prelude.{◌≡◌, ◌≤◌, ◌&&◌, IfOk, OnOk, OnErr, IsTrue, ◌↔◌, true, false};
 ghost use Rattle.axle_train.specs.Bounds.{IsTrain};
 ghost use Rattle.axle_limits.specs.Findings.{is_legal_by_weight};
 ghost use Rattle.axle_limits.specs.Worst.{IsWorst, IsInRange, worst_of};
@@ -8,6 +8,8 @@ ghost use Rattle.clearance_rules.specs.Loads.{is_cross_section, is_length, is_lo
 
 use axle_limits::{GROSS_LIMIT, LEGAL_HEIGHT, LEGAL_WIDTH, WorstGroup, worst};
 use axle_train::Train;
+use hs20_truck::Kept;
+use std::alloc::{AllocError, Global};
 use std::marker::Model;
 use thiserror::Error;
 
@@ -18,13 +20,15 @@ pub struct Range;
 
 /// Height and width (1 to 999 in), length (1 to 9,999 in) and the axles of a truck.
 ///
-/// The worst group of the axles and whether the load is legal are found once, when the load is made.
+/// The worst group of the axles and whether the load is legal are found once, when the load is made. What the
+/// truck asks of spans is kept with it, for the lengths that it is told to keep, so that whoever judges it
+/// finds it there.
 #[derive(Drop)]
 pub struct Load {
     height: u32,
     width: u32,
     length: u32,
-    train: Train,
+    study: Kept,
     worst: WorstGroup,
     legal: bool,
 }
@@ -34,9 +38,9 @@ impl Model for Load {
 
     ghost Value = { LoadParts };
 
-    ghost view = { λ a. parts_of a.height a.width a.length a.train };
+    ghost view = { λ a. parts_of a.height a.width a.length a.study };
 
-    ghost invariant = { λ a. IsKept (parts_of a.height a.width a.length a.train) a.worst a.legal };
+    ghost invariant = { λ a. IsKept (parts_of a.height a.width a.length a.study) a.worst a.legal };
 }
 
 impl Load {
@@ -57,7 +61,7 @@ impl Load {
             height,
             width,
             length,
-            train,
+            study: Kept::new(train),
             worst,
             legal: by_weight && by_size,
         })
@@ -89,7 +93,23 @@ impl Load {
         ensures value { result.now ≡ self.now.train }
         ensures bounds { IsTrain self.now.train }
     {
-        &self.train
+        self.study.train()
+    }
+
+    /// The study of the axles, which keeps what the load was told to keep.
+    pub fn study(&self) -> &Kept
+        ensures { result.now ≡ self.now.train }
+    {
+        &self.study
+    }
+
+    /// Keeps what the truck asks of spans of so many inches. Where no memory is found it keeps what it kept.
+    pub fn keep(&mut self, alloc: Global, inches: u32) -> Result<(), AllocError>
+        requires some { 1 ≤ inches }
+        requires long { inches ≤ 6000 }
+        ensures { self.new ≡ self.old }
+    {
+        self.study.keep(alloc, inches)
     }
 
     /// The worst group of the axles: of all groups, single axles among them, the one whose weight is the greatest part of

@@ -1,7 +1,7 @@
 ghost use Rattle.std.specs.Prelude.{◌≡◌, ◌<◌, length, IfOk};
 ghost use Rattle.restriction_log.specs.States.{AreOf};
 
-use crate::{Limit, Load, Range, Steps, first_failing, limits_are_of_their_segment};
+use crate::{Limit, Load, Range, Steps, first_failing, limits_are_of_their_segment, meets};
 use axle_limits::WorstGroup;
 use axle_train::{Axle, Train};
 use hs20_truck::Live;
@@ -72,6 +72,13 @@ fn loaded(
     Ok(Load::new(height, width, length, train).expect(rt, "a load"))
 }
 
+// A load that keeps what its axles ask of spans of 20 ft.
+fn kept(rt: &impl Abort, alloc: Global, pairs: &[(u32, u32)]) -> Result<Load, Fail> {
+    let mut load = loaded(rt, alloc, 168, 144, 720, pairs)?;
+    load.keep(alloc, 240)?;
+    Ok(load)
+}
+
 // A name of these bytes, which are one.
 fn named(rt: &impl Abort, bytes: &[u8]) -> Name {
     Name::new(bytes).expect(rt, "a name")
@@ -138,7 +145,26 @@ fn limit_on<L: Ledger>(
     first_failing(network, state, load, &study, segment, &mut steps)
 }
 
-// The first limit of segment 0 that fails a load, after the changes of these rows.
+// Whether a segment meets a load, by what the load keeps, counted by a counter of its own.
+fn is_met_on<L: Ledger>(
+    network: &Network,
+    state: &State,
+    load: &Load,
+    segment: u32,
+    blank: Blank,
+) -> bool
+    requires segment { segment < length network.now.segments }
+    requires state { AreOf network.now state.now }
+    requires name { blank.name ≡ L.name }
+    requires parts { blank.parts ≡ L.parts }
+    requires some { 0 < blank.parts }
+{
+    let mut steps = Steps::<L>::new(blank);
+    meets(network, state, load, load.study(), segment, &mut steps)
+}
+
+// The first limit of segment 0 that fails a load, after the changes of these rows. The segment meets the load
+// exactly where there is none.
 fn limit_after(
     rt: &impl Abort,
     alloc: Global,
@@ -149,7 +175,9 @@ fn limit_after(
     let state = state_after(rt, alloc, network, rows)?;
     assert!(rt; network.segments() > 0);
     let limit = limit_on::<Brand>(network, &state, load, 0, Blank::new(1));
+    let is_met = is_met_on::<Brand>(network, &state, load, 0, Blank::new(1));
     drop(state);
+    assert_eq!(rt; is_met, limit.is_none());
     Ok(limit)
 }
 
@@ -418,7 +446,7 @@ fn judge_spans(rt: &impl Abort, alloc: Global, network: &Network, load: &Load) -
 
 #[test]
 fn judges_spans_by_both_effects(rt: HostRuntime) -> Result<(), Fail> {
-    let load = loaded(&rt, rt.alloc(), 168, 144, 720, &TWO_AXLES)?;
+    let load = kept(&rt, rt.alloc(), &TWO_AXLES)?;
     let network = roads(&rt, rt.alloc());
     let judged = judge_spans(&rt, rt.alloc(), &network, &load);
     drop(network);

@@ -1,7 +1,15 @@
 -- The study's effects are those of the train and of the design truck, and the judgement is that of these.
-use Rattle.std.proofs.Common.{◌∙◌}
+use Rattle.std.proofs.Common.{sym, ◌∙◌}
+use Rattle.clearance_rules.proofs.Meeting.{span_none}
 use Rattle.clearance_rules.proofs.Naming.{judged}
 use Rattle.clearance_rules.proofs.first_limit.span_limit.Goals as goal
+
+pub returns-then-carries : goal.returns-then-carries
+returns-then-carries g c =
+    let span = c.span-inches.ensures.fits in
+    rw (← c.span-inches.ensures.at, ← c.rating-rating.ensures)
+    (sym (span_none (g.E.SpanStudy.axles c.args.study.now) c.span-inches.result.inches c.rating-rating.result c.args.segment c.args.span
+    c.requires.train span.some span.long (c.carries.ensures.0 c.if-carries.true)))
 
 pub returns : goal.returns
 returns g c =

@@ -1,7 +1,9 @@
 -- What a new load keeps is what it is seen as.
-use Rattle.std.proofs.Common.{◌≡◌, Bool, true, false, ◌&&◌, rules, sym, ap, ◌∙◌}
+use Rattle.std.proofs.Common.{◌≡◌, ℕ, List, Bool, true, false, ◌&&◌, rules, sym, ap, subst, ◌∙◌}
+use Rattle.axle_train.specs.declared.axle.Axle.{Axle}
+use Rattle.axle_limits.specs.declared.worst_group.WorstGroup.{WorstGroup}
 use Rattle.axle_limits.specs.Findings.{is_legal_by_weight}
-use Rattle.clearance_rules.specs.Loads.{is_legal_size}
+use Rattle.clearance_rules.specs.Loads.{IsKept, is_legal_size, parts_of}
 use Rattle.clearance_rules.proofs.load.Load.new.Goals as goal
 use Rattle.clearance_rules.proofs.load.Load.new.Goals.{then-by_weight, else-by_weight}
 
@@ -11,8 +13,13 @@ in_turn result a b x y ea eb h is = is ∙ eb ∙ ap (λ (t : Bool). t && y) (sy
 no_turn : (result a x y : Bool) → a ≡ x → a ≡ false → result ≡ a → result ≡ (x && y)
 no_turn result a x y ea h is = is ∙ h ∙ ap (λ (t : Bool). t && y) (sym h ∙ ea)
 
+-- the study is seen as the axles of its train
+of_study : (height width length : ℕ) (train study : List Axle) (worst : WorstGroup) (legal : Bool) → study ≡ train
+    → IsKept (parts_of height width length train) worst legal → IsKept (parts_of height width length study) worst legal
+of_study height width length train study worst legal same is = subst (λ (t : List Axle). IsKept (parts_of height width length t) worst legal) (sym same) is
+
 pub invariant_of-result : goal.invariant_of-result
-invariant_of-result c = record {
+invariant_of-result c = of_study c.args.height c.args.width c.args.length c.args.train c.new.result c.worst-worst.result c.if-by_weight.result c.new.ensures (record {
   in_range = search rules;
   is_train = c.bounds.ensures;
   is_worst = c.worst-worst.ensures.meaning;
@@ -24,4 +31,4 @@ invariant_of-result c = record {
     | else-by_weight w ↦ no_turn c.if-by_weight.result c.is_legal_by_weight-by_weight.result (is_legal_by_weight c.args.train) (is_legal_size c.args.height c.args.width)
         c.is_legal_by_weight-by_weight.ensures w.if-by_weight.false w.result-is
   ];
-}
+})
