@@ -1,5 +1,6 @@
 -- What a study says of a train on spans of one length, and what it keeps of it.
-use Rattle.std.specs.Prelude.{◌≡◌, ℕ, ◌+◌, List, length, slice_index}
+use Rattle.std.specs.Prelude.{◌≡◌, ℕ, ◌+◌, List, Option, Vec, IfSome, length, slice_index}
+use Rattle.std.specs.Global.{Global}
 use Rattle.axle_train.specs.declared.axle.Axle.{Axle}
 use Rattle.influence_line.specs.Peaks.{IsTrainPlaced, IsHs20Placed}
 use Rattle.span_rating.specs.declared.loading.Study.{Study}
@@ -21,3 +22,7 @@ IsNumberFor axles inches number = (least : ℕ) → number ≡ least + 1 → Car
 pub record IsTable (axles : List Axle) (numbers : List ℕ) : Type 0 where
   pub many : length numbers ≡ 6001
   pub each : (inches : ℕ) → IsNumberFor axles inches (slice_index numbers inches)
+
+-- a study keeps such a table, or nothing
+abbrev pub IsKept : List Axle → Option (Vec ℕ Global) → Type 0
+IsKept axles numbers = IfSome numbers (λ table. IsTable axles table.items)

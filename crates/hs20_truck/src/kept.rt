@@ -1,9 +1,9 @@
 // A study that keeps what is asked of it most.
 
-ghost use Rattle.std.specs.Prelude.{◌≡◌, ◌≤◌, List, IfOk, IfSome};
+ghost use Rattle.std.specs.Prelude.{◌≡◌, ◌≤◌, List, IfOk};
 ghost use Rattle.axle_train.specs.declared.axle.Axle.{Axle};
 ghost use Rattle.span_rating.specs.Carrying.{CarriesFrom};
-ghost use Rattle.hs20_truck.specs.Kept.{IsNumberFor, IsTable};
+ghost use Rattle.hs20_truck.specs.Kept.{IsKept, IsNumberFor, IsTable};
 
 use crate::live::{is_carried, study_of};
 use axle_train::Train;
@@ -11,28 +11,28 @@ use span_rating::{SpanStudy, Study, least_rating};
 use std::alloc::{AllocError, Global};
 use std::marker::Model;
 
-/// The study of one train that keeps, for spans of the lengths that it was told to keep, the least rating with which they
-/// carry the train, and computes the rest. What it answers does not depend on what it keeps, and contracts see the axles of
-/// its train alone.
+/// The study of one train that keeps, for spans of the lengths that it was told to keep, the least rating with
+/// which they carry the train, and computes the rest. What it answers does not depend on what it keeps, and
+/// contracts see the axles of its train alone.
 #[derive(Drop)]
 pub struct Kept {
     train: Train,
-    // For each length in inches, 0 where it is not kept, and else one more than the least rating. As long as nothing is kept
-    // there is no table.
+    // For each length in inches, 0 where it is not kept, and else one more than the least rating. As long as
+    // nothing is kept there is no table.
     numbers: Option<Vec<u32>>,
 }
 
 impl Model for Kept {
-    ghost use Rattle.std.specs.Prelude.{List, IfSome};
+    ghost use Rattle.std.specs.Prelude.{List};
     ghost use Rattle.axle_train.specs.declared.axle.Axle.{Axle};
 
     ghost Value = { List Axle };
 
     ghost view = { λ k. k.train };
 
-    ghost use Rattle.hs20_truck.specs.Kept.{IsTable};
+    ghost use Rattle.hs20_truck.specs.Kept.{IsKept};
 
-    ghost invariant = { λ k. IfSome k.numbers (λ numbers. IsTable k.train numbers.items) };
+    ghost invariant = { λ k. IsKept k.train k.numbers };
 }
 
 impl Kept {
@@ -53,8 +53,8 @@ impl Kept {
         &self.train
     }
 
-    /// Keeps the least rating with which spans of `inches` carry the train, unless it does so already. The first length takes
-    /// the memory for all. Where none is found it keeps what it kept.
+    /// Keeps the least rating with which spans of `inches` carry the train, unless it does so already. The first
+    /// length takes the memory for all. Where none is found it keeps what it kept.
     pub fn keep(&mut self, alloc: Global, inches: u32) -> Result<(), AllocError>
         requires some { 1 ≤ inches }
         requires long { inches ≤ 6000 }
@@ -89,7 +89,7 @@ impl SpanStudy for Kept {
 
 // What is kept for spans of this length, whose train ever it is.
 fn number_of(numbers: &Option<Vec<u32>>, inches: u32) -> u32
-    ensures { (axles : List Axle) → IfSome numbers.now (λ t. IsTable axles t.items) → IsNumberFor axles inches result }
+    ensures { (axles : List Axle) → IsKept axles numbers.now → IsNumberFor axles inches result }
 {
     match numbers {
         Some(numbers) => match numbers.get(inches as usize) {
@@ -102,7 +102,7 @@ fn number_of(numbers: &Option<Vec<u32>>, inches: u32) -> u32
 
 // The table of what is kept, or one of nothing.
 fn table_of(alloc: Global, numbers: Option<Vec<u32>>) -> Result<Vec<u32>, AllocError>
-    ensures { IfOk result (λ table. (axles : List Axle) → IfSome numbers (λ t. IsTable axles t.items) → IsTable axles table.items) }
+    ensures { IfOk result (λ t. (axles : List Axle) → IsKept axles numbers → IsTable axles t.items) }
 {
     match numbers {
         Some(numbers) => Ok(numbers),

@@ -168,7 +168,7 @@ mod tests {
         same(rt, inches, &study.carries(inches, rating - 1), &false);
     }
 
-    // A study of the design truck has the effects of the table, and the truck is as much as a rating of 1,000 carries.
+    // A study of the design truck has the effects of the table, and the truck is what a rating of 1,000 carries.
     fn ask(rt: &impl Abort, study: &Kept, row: (u32, u128, u128)) {
         let (inches, moment, shear) = row;
         let wanted = ((moment, 1), (shear, 1));

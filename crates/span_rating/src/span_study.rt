@@ -22,8 +22,8 @@ pub trait SpanStudy {
         ensures design { AreEffects IsHs20Placed inches result.design }
         ensures design_train { AreEffectsOfSomeTrain inches result.design };
 
-    /// Whether a span of `inches` with this rating carries the truck. This is asked far more often than the effects, and
-    /// may be answered without them.
+    /// Whether a span of `inches` with this rating carries the truck. This is asked far more often than the
+    /// effects, and may be answered without them.
     fn carries(&self, inches: u32, rating: u32) -> bool
         requires some { 1 ≤ inches }
         requires long { inches ≤ 6000 }

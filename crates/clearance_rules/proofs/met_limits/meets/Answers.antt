@@ -1,5 +1,4 @@
 -- No limit fails exactly where the segment meets the load.
-use Rattle.std.proofs.Common.{sym, ◌∙◌}
 use Rattle.clearance_rules.proofs.Meeting.{met_means}
 use Rattle.clearance_rules.proofs.met_limits.meets.Goals as goal
 
