@@ -5,6 +5,9 @@
 //! allowance of its limit by 23 CFR 658.17; and then, for each bridge span by rising number, the peak moment and the peak
 //! end shear are over the span's rating in thousandths of the HS20-44 truck's of the AASHTO Standard Specifications.
 //! Every limit is met at equality. The order, and the legal height of 162 in, are this project's own.
+//!
+//! A load keeps what its axles ask of spans, so that it is found once for all who judge it. Whether a segment meets
+//! a load is told without peaks; they are computed where a limit is named.
 #![tactic(auto)]
 
 mod first_limit;

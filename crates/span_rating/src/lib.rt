@@ -6,8 +6,9 @@
 //!
 //! The crates above are promised that `fits` judges by whole numbers alone, that it passes at
 //! equality and names the moment before the shear, that its judgement is the one of any fractions with
-//! which the four peaks are written, and that each `SpanStudy` gives the peaks of its own truck and
-//! those of the design.
+//! which the four peaks are written, that `least_rating` is the least with which a span carries a truck,
+//! and that each `SpanStudy` gives the peaks of its own truck and those of the design, and says exactly
+//! which spans carry it.
 #![tactic(auto)]
 
 mod judgement;
