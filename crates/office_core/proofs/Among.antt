@@ -1,20 +1,19 @@
 -- The permits that a posting recalls are among those that use the segment it touches.
-use Rattle.std.proofs.Common.{◌≡◌, ◌∷◌, ◌++◌, [], List, ℕ, ◌+◌, ◌<◌, Bool, cond, true, false, ◌&&◌, not, map, filter, drop, length, get_or, is_some, Option, refl, ap, sym, subst, ◌∙◌, append_assoc, arith}
+use Rattle.std.proofs.Common.{◌≡◌, ◌∷◌, ◌++◌, [], List, ℕ, ◌+◌, ◌<◌, Bool, cond, true, false, ◌&&◌, not, map, filter, drop, length, get_or, refl, ap, sym, subst, ◌∙◌, append_assoc, arith}
 use Rattle.std.specs.List.{All}
 use Rattle.std.proofs.lemmas.Bool.{and_from, and_parts}
 use Rattle.std.proofs.lemmas.List.{at_drop_more, length-append}
 use Rattle.std.proofs.lemmas.List.Elements.{All-head, All-tail}
 use Rattle.restriction_log.specs.States.{InForce}
-use Rattle.clearance_rules.specs.declared.limit.Limit.{Limit}
 use Rattle.permit_book.specs.declared.permit.Permit.{Permit}
 use Rattle.permit_book.specs.Permits.{AreNumbered, in_force, is_live, permit_of}
 use Rattle.trip_analysis.specs.Bases.{BaseLists}
-use Rattle.trip_analysis.specs.Findings.{is_in, is_passable, limit_for}
+use Rattle.trip_analysis.specs.Findings.{is_in, is_passable}
 use Rattle.office_core.specs.Recalls.{InForceMeetElsewhere, MeetsElsewhereIfInForce, fails, is_recalled, recalled_by}
 use Rattle.office_core.specs.Users.{users_of, uses}
 use Rattle.office_core.proofs.ByNumber.{found_seam}
 use Rattle.office_core.proofs.Forces.{live_in_force}
-use Rattle.office_core.proofs.Touching.{fails_by, fails_there}
+use Rattle.office_core.proofs.Touching.{fails_there}
 
 -- one number more of those that pass
 pub hit_more : (test : ℕ → Bool) (numbers users : List ℕ) (i n : ℕ) (b : Bool) → i < length users → n ≡ get_or users i 0 → b ≡ test n → (numbers ++ cond b (n ∷ []) []) ++ filter test (drop (i + 1) users) ≡ numbers ++ filter test (drop i users)
@@ -73,8 +72,8 @@ recalled_among base state segment day ps numbered elsewhere =
     ∙ sym (ap (map (λ (p : Permit). p.number)) (filter_within (is_recalled base state day) (uses segment) ps (λ k d low. recalled_uses base state segment day (get_or ps k d) (elsewhere k d low))))
 
 -- the test of that segment decides
-pub recalled_if_failing : (base : BaseLists) (state : InForce) (segment : ℕ) (day : List ℕ) (p : Permit) (l : Option Limit) → MeetsElsewhereIfInForce base state segment day p → uses segment p ≡ true
-    → in_force day p ≡ true → l ≡ limit_for base state p.truck segment → is_some l ≡ is_recalled base state day p
-recalled_if_failing base state segment day p l elsewhere use' on found =
+pub recalled_if_failing : (base : BaseLists) (state : InForce) (segment : ℕ) (day : List ℕ) (p : Permit) → MeetsElsewhereIfInForce base state segment day p → uses segment p ≡ true
+    → in_force day p ≡ true → not (is_passable base state p.truck segment) ≡ is_recalled base state day p
+recalled_if_failing base state segment day p elsewhere use' on =
     let holds = (and_parts (is_live p.mark) (is_in segment p.route) use').1 in
-    fails_by base state segment p true l (elsewhere on) (sym holds) found refl ∙ sym (ap (λ b. b && fails base state p) on)
+    sym (ap (λ b. b && fails base state p) on ∙ (fails_there base state segment p (elsewhere on) ∙ ap (λ b. b && not (is_passable base state p.truck segment)) holds))

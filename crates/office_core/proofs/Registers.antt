@@ -1,5 +1,5 @@
 -- What an office keeps stays in order.
-use Rattle.std.proofs.Common.{◌≡◌, ◌∷◌, ◌++◌, [], List, ℕ, ◌+◌, ◌-◌, ◌<◌, ◌≤◌, true, length, drop, filter, ap, sym, subst, refl, ◌∙◌, Bool, Option, None, Some, is_some, Result, Ok, Err, IfOk, arith, replicate}
+use Rattle.std.proofs.Common.{◌≡◌, ◌∷◌, ◌++◌, [], List, ℕ, ◌+◌, ◌-◌, ◌<◌, ◌≤◌, true, length, drop, filter, ap, sym, subst, refl, ◌∙◌, Bool, not, Option, None, Some, Result, Ok, Err, IfOk, arith, replicate}
 use Rattle.std.proofs.lemmas.Bool.Decides.{nat_tests}
 use Rattle.std.specs.Prelude.{slice_get}
 use Rattle.std.proofs.lemmas.List.{append-nil, drop_all, get_or-replicate, length-replicate}
@@ -18,7 +18,7 @@ use Rattle.trip_analysis.specs.declared.application.Application.{Application}
 use Rattle.trip_analysis.specs.declared.finding.What.{What}
 use Rattle.trip_analysis.specs.Bases.{BaseLists}
 use Rattle.trip_analysis.specs.Applications.{Sound}
-use Rattle.trip_analysis.specs.Findings.{InRange, IsFinding, IsFoundAt, first_on, limit_for}
+use Rattle.trip_analysis.specs.Findings.{InRange, IsFinding, IsFoundAt, first_on, is_passable}
 use Rattle.trip_analysis.specs.declared.finding.Proposal.{Proposal}
 use Rattle.trip_analysis.specs.Followers.{GoesOn}
 use Rattle.trip_analysis.proofs.Following.{goes_on_posted}
@@ -62,13 +62,13 @@ recalled_whole i p state segment k numbers users seen inv elsewhere are done is 
 
 -- of a permit in force that uses the segment it decides whether the state fails its truck there
 pub recalled_so : (p : RegisterParts) (state : InForce) (segment n : ℕ) (q : Permit) → IsUser p.machine.permits segment n → MeetElsewhere p state segment → q ≡ permit_of p.machine.permits n
-    → in_force p.machine.day q ≡ true → is_some (limit_for p.base state q.truck segment) ≡ is_recalled_in p state n
+    → in_force p.machine.day q ≡ true → not (is_passable p.base state q.truck segment) ≡ is_recalled_in p state n
 recalled_so p state segment n q user elsewhere same on =
     let issued = user.issued in
     let low : n - 1 < length p.machine.permits = grind (arith, nat_tests, issued) in
     let own = permit_of p.machine.permits n in
-    recalled_if_failing p.base state segment p.machine.day own (limit_for p.base state q.truck segment) (elsewhere (n - 1) no_permit low) user.uses
-    (ap (in_force p.machine.day) (sym same) ∙ on) (ap (λ (r : Permit). limit_for p.base state r.truck segment) same)
+    ap (λ (r : Permit). not (is_passable p.base state r.truck segment)) same
+    ∙ recalled_if_failing p.base state segment p.machine.day own (elsewhere (n - 1) no_permit low) user.uses (ap (in_force p.machine.day) (sym same) ∙ on)
 
 no_verdict : (trucks t : ℕ) (b : Bool) (empty : Option Bool) → empty ≡ None → slice_get (replicate trucks empty) t ≡ Some (Some b) → ⊥
 no_verdict trucks t b empty none at =

@@ -63,12 +63,3 @@ pub met_elsewhere : (base : BaseLists) (postings : List Change) (next : InForce)
     → InForceMeet base (state_of base.roads postings) day permits → InForceMeetElsewhere base next segment day permits
 met_elsewhere base postings next change segment day permits is there had =
     rw (there, is, state-posted base.roads postings change) (meet_elsewhere base (state_of base.roads postings) change day permits had)
-
-some_or_none : (l : Option Limit) → is_some l ≡ not (is_none l)
-some_or_none (Some l) = refl
-some_or_none None = refl
-
--- where the one segment is on the route, its test decides
-pub fails_by : (base : BaseLists) (state : InForce) (segment : ℕ) (p : Permit) (here : Bool) (l : Option Limit) → MeetsElsewhere base state segment p → here ≡ is_in segment p.route → l ≡ limit_for base state p.truck segment → here ≡ true → is_some l ≡ fails base state p
-fails_by base state segment p here l elsewhere among found is =
-    some_or_none l ∙ (ap (λ k. not (is_none k)) found ∙ sym (fails_there base state segment p elsewhere ∙ ap (λ b. b && not (is_passable base state p.truck segment)) (sym among ∙ is)))

@@ -1,5 +1,5 @@
 -- Which permits a state of the roads fails, and their recall.
-use Rattle.std.specs.Prelude.{◌≡◌, ◌≢◌, ◌<◌, ◌∷◌, [], List, ℕ, Bool, true, false, length, if◌then◌else◌, ◌&&◌, not, filter, map, All, Option, Some, is_some, slice_get}
+use Rattle.std.specs.Prelude.{◌≡◌, ◌≢◌, ◌<◌, ◌∷◌, [], List, ℕ, Bool, true, false, length, if◌then◌else◌, ◌&&◌, not, filter, map, All, Option, Some, slice_get}
 use Rattle.std.specs.List.{list_any}
 use Rattle.restriction_log.specs.States.{InForce}
 use Rattle.permit_book.specs.declared.permit.Permit.{Permit}
@@ -7,7 +7,7 @@ use Rattle.permit_book.specs.declared.permit.Mark.{Mark}
 use Rattle.permit_book.specs.declared.permit.Mark.TheVariants as mark
 use Rattle.permit_book.specs.Permits.{in_force, is_issued, is_live, marked, permit_of}
 use Rattle.trip_analysis.specs.Bases.{BaseLists}
-use Rattle.trip_analysis.specs.Findings.{is_passable, limit_for}
+use Rattle.trip_analysis.specs.Findings.{is_passable}
 
 -- whether one of the permit's segments fails its truck
 abbrev pub fails : BaseLists → InForce → Permit → Bool
@@ -57,10 +57,10 @@ abbrev pub AreLive : Mark → List Permit → List ℕ → Type 0
 AreLive m permits [] = Unit {0}
 AreLive m permits (n ∷ ns) = (is_issued permits n ≡ true) × (is_live (permit_of permits n).mark ≡ true) × AreLive m (marked permits n m) ns
 
--- for each truck, if it was judged, whether the segment has a limit that fails it in a state
+-- for each truck, if it was judged, whether it may pass the segment in a state
 pub record AreVerdicts (base : BaseLists) (state : InForce) (segment : ℕ) (verdicts : List (Option Bool)) : Type 0 where
   pub many : length verdicts ≡ length base.fleet
-  pub each : (t : ℕ) (b : Bool) → slice_get verdicts t ≡ Some (Some b) → b ≡ is_some (limit_for base state t segment)
+  pub each : (t : ℕ) (b : Bool) → slice_get verdicts t ≡ Some (Some b) → b ≡ is_passable base state t segment
 
 -- the truck and the segments of the permit are there
 pub record IsRanged (base : BaseLists) (p : Permit) : Type 0 where

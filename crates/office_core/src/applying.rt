@@ -19,7 +19,7 @@ use permit_book::BookRefusal;
 use permit_days::Day;
 use road_graph::Numbers;
 use std::sync::ledger::Ledger;
-use trip_analysis::{Application, Base, Failing, Proposal, What, next_leaving};
+use trip_analysis::{Application, Base, Failing, Proposal, What, is_passable, next_leaving};
 
 impl Register {
     /// Answers a proposal, which is what was found at its version.
@@ -206,7 +206,8 @@ impl Register {
             && is_passable self.now.base (state_now self.now) truck segment) }
         ensures steps { steps.new ≡ steps.old + (if has_changed self.now seen segment then 1 else 0) }
     {
-        self.changed(segment, seen) && self.failing_limit(truck, segment, steps).is_none()
+        self.changed(segment, seen)
+            && is_passable(self.base(), self.state(), truck, segment, steps)
     }
 
     // Whether a posting above the version seen names the segment or one of its spans. Takes no memory.

@@ -1,9 +1,9 @@
 // The answer to a posting.
 
-ghost use Rattle.std.specs.Prelude.{◌≡◌, ◌+◌, ◌<◌, ◌≤◌, ◌++◌, ◌∷◌, [], length, IfOk, OnOk, OnErr, None, is_some, replicate, true, if◌then◌else◌};
+ghost use Rattle.std.specs.Prelude.{◌≡◌, ◌+◌, ◌<◌, ◌≤◌, ◌++◌, ◌∷◌, [], length, IfOk, OnOk, OnErr, None, replicate, true, if◌then◌else◌};
 ghost use Rattle.restriction_log.specs.Changes.{takes};
 ghost use Rattle.restriction_log.specs.States.{AreOf};
-ghost use Rattle.trip_analysis.specs.Findings.{limit_for};
+ghost use Rattle.trip_analysis.specs.Findings.{is_passable};
 ghost use Rattle.permit_book.specs.Permits.{is_issued, is_live, marked, permit_of};
 ghost use Rattle.permit_book.specs.declared.permit.Mark.TheVariants as mark;
 ghost use Rattle.office_core.specs.declared.entry.Call.TheVariants as call;
@@ -24,7 +24,7 @@ use road_graph::Numbers;
 use snapshot_store::Next;
 use std::alloc::{AllocError, Global};
 use std::sync::ledger::Ledger;
-use trip_analysis::failing_limit_by;
+use trip_analysis::is_passable;
 
 impl Register {
     /// Posts a change that the network takes, and recalls the permits in force that then fail. What can fail comes first.
@@ -115,11 +115,11 @@ impl Register {
     {
         let permit = &self.permits()[number as usize - 1];
         permit.status(self.today()).is_in_force()
-            && self.fails(state, segment, permit.truck, verdicts, steps)
+            && !self.meets(state, segment, permit.truck, verdicts, steps)
     }
 
-    // Whether a state fails a truck at a segment. A truck is judged but once, however many permits it has there.
-    fn fails<L: Ledger>(
+    // Whether a truck may pass a segment in a state. A truck is judged but once, however many permits it has there.
+    fn meets<L: Ledger>(
         &self,
         state: &State,
         segment: u32,
@@ -131,18 +131,16 @@ impl Register {
         requires of_base { AreOf self.now.base.roads state.now }
         requires there { segment < length self.now.base.roads.segments }
         requires verdicts { AreVerdicts self.now.base state.now segment verdicts.old.items }
-        ensures value { result ≡ is_some (limit_for self.now.base state.now truck segment) }
+        ensures value { result ≡ is_passable self.now.base state.now truck segment }
         ensures verdicts { AreVerdicts self.now.base state.now segment verdicts.new.items }
         ensures steps { steps.new ≤ steps.old + 1 }
     {
-        if let Some(fails) = verdicts[truck as usize] {
-            return fails;
+        if let Some(meets) = verdicts[truck as usize] {
+            return meets;
         }
-        let study = self.study(truck);
-        let limit = failing_limit_by(self.base(), state, truck, study, segment, steps);
-        let fails = limit.is_some();
-        verdicts[truck as usize] = Some(fails);
-        fails
+        let meets = is_passable(self.base(), state, truck, segment, steps);
+        verdicts[truck as usize] = Some(meets);
+        meets
     }
 }
 

@@ -4,7 +4,6 @@ ghost use Rattle.std.specs.Prelude.{◌≡◌, ◌+◌, ◌<◌, length, All, If
 ghost use Rattle.std.specs.Arc.{arc_value};
 ghost use Rattle.road_graph.specs.Roads.{IsRoads};
 ghost use Rattle.restriction_log.specs.States.{AreOf};
-ghost use Rattle.trip_analysis.specs.Bases.{train_of};
 ghost use Rattle.trip_analysis.specs.Findings.{limit_for};
 ghost use Rattle.permit_book.specs.Permits.{is_issued, permit_of};
 ghost use Rattle.office_core.specs.Recalls.{IsRanged};
@@ -15,7 +14,6 @@ ghost use Rattle.office_core.specs.Registers.{Costs, Gives, Leaves, MayLack, sta
 use crate::answer::Answer;
 use crate::entry::{Call, Reply};
 use clearance_rules::{Limit, Steps};
-use hs20_truck::Kept;
 use office_io::NoMemory;
 use permit_book::{Book, Permit};
 use permit_days::Day;
@@ -26,7 +24,7 @@ use std::alloc::Global;
 use std::marker::Model;
 use std::sync::Arc;
 use std::sync::ledger::Ledger;
-use trip_analysis::{Base, Follower, failing_limit_by};
+use trip_analysis::{Base, Follower, failing_limit};
 
 /// What a permit office keeps: what it is about, what is posted and in force on the roads, the permits, the day, and what is
 /// known of each truck.
@@ -143,14 +141,6 @@ impl Register {
         self.index.using(segment)
     }
 
-    /// The study of a truck's axles. Takes no memory.
-    pub(crate) fn study(&self, truck: u32) -> &Kept
-        requires { truck < length self.now.base.fleet }
-        ensures { result.now ≡ train_of self.now.base truck }
-    {
-        self.follower.study(&self.base, truck)
-    }
-
     /// The first limit of the segment that fails the truck now. Takes no memory.
     pub(crate) fn failing_limit<L: Ledger>(
         &self,
@@ -163,8 +153,7 @@ impl Register {
         ensures value { result ≡ limit_for self.now.base (state_now self.now) truck segment }
         ensures steps { steps.new ≡ steps.old + 1 }
     {
-        let study = self.study(truck);
-        failing_limit_by(self.base(), self.state(), truck, study, segment, steps)
+        failing_limit(self.base(), self.state(), truck, segment, steps)
     }
 
     /// Answers a call. Where memory was wanting, the answer says so and nothing has changed.

@@ -1,21 +1,9 @@
--- What a follower knows, and how its store goes on.
+-- How the store of a follower goes on.
 use Rattle.std.proofs.Common.{Option, Some, None}
 use Rattle.restriction_log.specs.declared.change.Change.{Change}
-use Rattle.restriction_log.specs.States.{InForce, base_of}
 use Rattle.snapshot_store.specs.Stores.{IsLater, Stored, with_change}
 use Rattle.snapshot_store.proofs.Later.{later_on, later_posted, later_same}
-use Rattle.trip_analysis.specs.declared.analyst.Analyst.{Analyst}
-use Rattle.trip_analysis.specs.Bases.{BaseLists}
-use Rattle.trip_analysis.specs.Followers.{AreKnownAt, GoesOn}
-use Rattle.trip_analysis.specs.Known.{AreKnown, AreStudied}
-
-studied : (base : BaseLists) (state : InForce) (a : Analyst) → AreKnown base state a → AreStudied base a
-studied base state a are = record { many = are.many; each = λ truck d less. (are.each truck d less).study }
-
--- whatever was posted, the studies are those of the trucks
-pub studied_at : (base : BaseLists) (last : Option Stored) (a : Analyst) → AreKnownAt base last a → AreStudied base a
-studied_at base None a are = studied base (base_of base.roads) a (are (base_of base.roads))
-studied_at base (Some last) a are = studied base _ a are
+use Rattle.trip_analysis.specs.Followers.{GoesOn}
 
 -- a store goes on from the snapshot that was taken of it
 pub goes_on_here : (s : Stored) → GoesOn (Some s) s

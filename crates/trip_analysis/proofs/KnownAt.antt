@@ -1,10 +1,10 @@
 -- What is known of the trucks goes on from a state to another.
-use Rattle.std.proofs.Common.{◌≡◌, ◌==◌, ◌&&◌, ◌≢◌, ◌<◌, ◌≤◌, ◌⊎◌, ◌+◌, ◌++◌, ◌∷◌, [], ℕ, List, Bool, true, false, not, length, get_or, refl, sym, ap, ◌∙◌, subst, arith, inl, inr}
+use Rattle.std.proofs.Common.{◌≡◌, ◌==◌, ◌&&◌, ◌≢◌, ◌<◌, ◌≤◌, ◌⊎◌, ◌+◌, ◌++◌, ◌∷◌, [], ℕ, List, Bool, true, false, not, length, get_or, sym, ap, ◌∙◌, subst, arith, inl, inr}
 use Rattle.std.proofs.lemmas.Bool.{cases_eq, cases_lt}
 use Rattle.std.proofs.lemmas.List.{ext_get_or, get_or-set_same, get_or-set_other, get_or_push, get_or_append_left}
 use Rattle.std.proofs.lemmas.List.FromFn.{length-map-range_with_len}
 use Rattle.std.proofs.lemmas.Option.{get_or_from_slice_get}
-use Rattle.std.specs.Prelude.{is_none, is_some, Option, None, Some}
+use Rattle.std.specs.Prelude.{is_none, Option}
 use Rattle.std.proofs.Math.Bool.{beq}
 use Rattle.road_graph.specs.declared.values.Values.{Values}
 use Rattle.road_graph.specs.Roads.{AreSpansOf, Roads}
@@ -19,7 +19,7 @@ use Rattle.trip_analysis.specs.declared.analyst.Analyst.{Analyst}
 use Rattle.trip_analysis.specs.declared.analyst.Known.{Known}
 use Rattle.trip_analysis.specs.Bases.{BaseLists, truck_of}
 use Rattle.trip_analysis.specs.Findings.{flags_of, is_passable}
-use Rattle.trip_analysis.specs.Known.{AreJudged, AreKnown, AreOfFleet, IsJudged, IsKnown, IsKnownBelow, IsOfTruck}
+use Rattle.trip_analysis.specs.Known.{AreJudged, AreKnown, AreOfFleet, IsJudged, IsKnown, IsKnownBelow, IsOfRoads}
 use Rattle.trip_analysis.proofs.Flags.{flags_many}
 use Rattle.trip_analysis.proofs.Found.{flag_is}
 
@@ -53,10 +53,9 @@ agree_if roads old new segment n spans same are whole each = record {
       subst (λ (j : ℕ). rating_at new.ratings j ≡ rating_at old.ratings j) is (each k (omega (arith, get_within spans k i here, whole)));
 }
 
--- what is known of a truck in a state is of the truck
-pub known_of : (base : BaseLists) (state : InForce) (truck : ℕ) (known : Known) → IsKnown base state truck known → IsOfTruck base truck known
+-- what is known of a truck in a state is of the roads
+pub known_of : (base : BaseLists) (state : InForce) (truck : ℕ) (known : Known) → IsKnown base state truck known → IsOfRoads base.roads known
 known_of base state truck known is = record {
-  study = is.study;
   many = λ e. flags_many base state truck known.flags.items (is.flags e);
   settled = is.settled;
 }
@@ -75,7 +74,6 @@ below_none base old new truck known is = record {
 -- behind the last segment each flag is that of the new one
 below_all : (base : BaseLists) (old new : InForce) (n truck : ℕ) (known : Known) → length base.roads.segments ≤ n → IsKnownBelow base old new n truck known → IsKnown base new truck known
 below_all base old new n truck known whole below = record {
-  study = below.is_of.study;
   flags = λ e.
       let many = below.is_of.many e in
       let count : length (flags_of base new truck) ≡ length base.roads.segments = length-map-range_with_len (is_passable base new truck) 0 (length base.roads.segments) in
@@ -155,10 +153,3 @@ are_below_judged base old new n a b within judged are = record {
   many = judged.many;
   each = λ truck d less. below_judged base old new n truck _ _ within (judged.each truck d less) (are.each truck d less);
 }
-
--- there is no limit where there is not some
-pub none_by_some : (l : Option Limit) (b : Bool) → is_some l ≡ not b → b ≡ is_none l
-none_by_some None true e = refl
-none_by_some None false e = absurd (cc)
-none_by_some (Some x) true e = absurd (cc)
-none_by_some (Some x) false e = refl

@@ -6,7 +6,7 @@ use Rattle.route_search.specs.Heights.{AreHeights}
 use Rattle.restriction_log.specs.States.{InForce}
 use Rattle.trip_analysis.specs.declared.analyst.Known.{Known}
 use Rattle.trip_analysis.specs.declared.analyst.Analyst.{Analyst}
-use Rattle.trip_analysis.specs.Bases.{BaseLists, train_of}
+use Rattle.trip_analysis.specs.Bases.{BaseLists}
 use Rattle.trip_analysis.specs.Findings.{flags_of, is_passable}
 
 -- for each node how far it is from there to a goal, which is there, over the flagged segments
@@ -18,30 +18,28 @@ pub record IsSettled (roads : Roads) (flags : List Bool) (goal : ℕ) (potential
 abbrev pub AreSettled : Roads → Known → Type 0
 AreSettled roads known = known.is_settled ≡ true → IsSettled roads known.flags.items known.goal known.potentials
 
--- what is known of a truck in a state: the study is of its axles, the flags, if they are kept, are those of the segments in
--- the state, and the potentials are those of the flags
+-- what is known of a truck in a state: the flags, if they are kept, are those of the segments in the state, and the potentials
+-- are those of the flags
 pub record IsKnown (base : BaseLists) (state : InForce) (truck : ℕ) (known : Known) : Type 0 where
-  pub study : known.study ≡ train_of base truck
   pub flags : known.is_flagged ≡ true → known.flags.items ≡ flags_of base state truck
   pub settled : AreSettled base.roads known
 
--- what is kept of a truck is of it and of the roads, whatever is posted: the study is of its axles, there is a flag for each
--- segment, if flags are kept, and the potentials are those of the flags
-pub record IsOfTruck (base : BaseLists) (truck : ℕ) (known : Known) : Type 0 where
-  pub study : known.study ≡ train_of base truck
-  pub many : known.is_flagged ≡ true → length known.flags.items ≡ length base.roads.segments
-  pub settled : AreSettled base.roads known
+-- what is kept of a truck is of the roads, whatever is posted: there is a flag for each segment, if flags are kept, and the
+-- potentials are those of the flags
+pub record IsOfRoads (roads : Roads) (known : Known) : Type 0 where
+  pub many : known.is_flagged ≡ true → length known.flags.items ≡ length roads.segments
+  pub settled : AreSettled roads known
 
 -- a segment is judged anew for a truck, where flags are kept: its flag is that of the state, and the others stay
 pub record IsJudged (base : BaseLists) (state : InForce) (segment truck : ℕ) (old new : Known) : Type 0 where
-  pub is_of : IsOfTruck base truck new
+  pub is_of : IsOfRoads base.roads new
   pub is_flagged : new.is_flagged ≡ old.is_flagged
   pub flags : old.is_flagged ≡ true → new.flags.items ≡ slice_set old.flags.items segment (is_passable base state truck segment)
 
 -- it is so of each truck of the fleet, in order
 pub record AreOfFleet (base : BaseLists) (a : Analyst) : Type 0 where
   pub many : length a.known.items ≡ length base.fleet
-  pub each : (truck : ℕ) (d : Known) → truck < length base.fleet → IsOfTruck base truck (slice_index_or a.known.items truck d)
+  pub each : (truck : ℕ) (d : Known) → truck < length base.fleet → IsOfRoads base.roads (slice_index_or a.known.items truck d)
 
 -- the segment is judged anew for each truck of the fleet, and the heights are as before
 pub record AreJudged (base : BaseLists) (state : InForce) (segment : ℕ) (old new : Analyst) : Type 0 where
@@ -51,7 +49,7 @@ pub record AreJudged (base : BaseLists) (state : InForce) (segment : ℕ) (old n
 
 -- the flags of the segments below a number, if any are kept, are those of the new state, and the others those of the old one
 pub record IsKnownBelow (base : BaseLists) (old new : InForce) (n truck : ℕ) (known : Known) : Type 0 where
-  pub is_of : IsOfTruck base truck known
+  pub is_of : IsOfRoads base.roads known
   pub before : (i : ℕ) → known.is_flagged ≡ true → i < n → i < length base.roads.segments → slice_index_or known.flags.items i false ≡ is_passable base new truck i
   pub behind : (i : ℕ) → known.is_flagged ≡ true → n ≤ i → i < length base.roads.segments → slice_index_or known.flags.items i false ≡ is_passable base old truck i
 
@@ -60,8 +58,3 @@ pub record AreKnown (base : BaseLists) (state : InForce) (a : Analyst) : Type 0 
   pub heights : AreHeights base.roads.segments a.heights
   pub many : length a.known.items ≡ length base.fleet
   pub each : (truck : ℕ) (d : Known) → truck < length base.fleet → IsKnown base state truck (slice_index_or a.known.items truck d)
-
--- the studies are of the axles of the trucks, in order, whatever is posted
-pub record AreStudied (base : BaseLists) (a : Analyst) : Type 0 where
-  pub many : length a.known.items ≡ length base.fleet
-  pub each : (truck : ℕ) (d : Known) → truck < length base.fleet → (slice_index_or a.known.items truck d).study ≡ train_of base truck

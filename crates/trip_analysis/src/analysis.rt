@@ -1,24 +1,21 @@
 // What is found for an application.
 
-ghost use Rattle.std.specs.Prelude.{◌≡◌, ◌<◌, length, None, IfOk};
+ghost use Rattle.std.specs.Prelude.{◌≡◌, ◌<◌, length, None, All, IfOk};
 ghost use Rattle.restriction_log.specs.States.{AreOf};
 ghost use Rattle.snapshot_store.specs.Stores.{version_of};
 ghost use Rattle.trip_analysis.specs.Applications.{Sound};
-ghost use Rattle.trip_analysis.specs.Bases.{train_of};
-ghost use Rattle.trip_analysis.specs.Findings.{IsFinding, IsFoundAt, IsFoundBy, IsSearched, asked_finding, what_of};
+ghost use Rattle.trip_analysis.specs.Findings.{IsFinding, IsFoundAt, IsFoundBy, IsSearched, asked_finding, first_on as first_in, what_of};
 
 use crate::application::Application;
 use crate::base::Base;
-use crate::finding::{Failing, Proposal, What};
-use crate::passing::{first_on_by, flags, train_of};
+use crate::finding::{Proposal, What};
+use crate::passing::{first_on, flags};
 use clearance_rules::Steps;
-use hs20_truck::Live;
 use office_io::NoMemory;
 use restriction_log::State;
 use road_graph::{Network, Numbers};
 use route_search::{Heights, Shortest, shortest_walk};
 use snapshot_store::Snapshot;
-use span_rating::SpanStudy;
 use std::alloc::Global;
 use std::marker::Brand;
 use std::sync::ledger::{Blank, Ledger};
@@ -38,10 +35,7 @@ pub fn find(
     requires sound { Sound base.now application.now }
     ensures { IfOk result (λ w. IsFinding base.now state.now application.now w) }
 {
-    let study = Live {
-        train: train_of(base, application.truck()),
-    };
-    find_by(alloc, base, state, application, &study)
+    find_counted::<Brand>(alloc, base, state, application, Blank::new(1))
 }
 
 /// What is found for the application in the state of a snapshot, with the snapshot's version. `NoMemory` where no memory was
@@ -64,32 +58,14 @@ pub fn analyse(
     })
 }
 
-/// The same by a study of the truck's axles.
-pub fn find_by<E: SpanStudy>(
+// What is found, over a counter of tests, which nobody reads.
+fn find_counted<L: Ledger>(
     alloc: Global,
     base: &Base,
     state: &State,
     application: &Application,
-    study: &E,
-) -> Result<What, NoMemory>
-    requires state { AreOf base.now.roads state.now }
-    requires sound { Sound base.now application.now }
-    requires study { E.axles study.now ≡ train_of base.now application.now.truck }
-    ensures { IfOk result (λ w. IsFinding base.now state.now application.now w) }
-{
-    find_counted::<E, Brand>(alloc, base, state, application, study, Blank::new(1))
-}
-
-// The same over a counter of tests, which nobody reads.
-fn find_counted<E: SpanStudy, L: Ledger>(
-    alloc: Global,
-    base: &Base,
-    state: &State,
-    application: &Application,
-    study: &E,
     blank: Blank,
 ) -> Result<What, NoMemory>
-    requires study { E.axles study.now ≡ train_of base.now application.now.truck }
     requires name { blank.name ≡ L.name }
     requires parts { blank.parts ≡ L.parts }
     requires some { 0 < blank.parts }
@@ -98,28 +74,31 @@ fn find_counted<E: SpanStudy, L: Ledger>(
     ensures { IfOk result (λ w. IsFinding base.now state.now application.now w) }
 {
     let mut steps = Steps::<L>::new(blank);
-    if base.fleet()[application.truck() as usize].load.legal() {
+    let truck = application.truck();
+    if base.fleet()[truck as usize].load.legal() {
         return Ok(What::NotNeeded);
     }
     match application.asked() {
-        Some(route) => {
-            let truck = application.truck();
-            let failing = first_on_by(base, state, truck, study, route.as_slice(), &mut steps);
-            asked_finding(alloc, failing, route)
-        }
-        None => find_free(alloc, base, state, application, study, &mut steps),
+        Some(route) => find_asked(alloc, base, state, truck, route, &mut steps),
+        None => find_free(alloc, base, state, application, &mut steps),
     }
 }
 
-// What is found on an asked route, of which this is the first segment that fails.
-pub(crate) fn asked_finding(
+// What is found on an asked route.
+pub(crate) fn find_asked<L: Ledger>(
     alloc: Global,
-    failing: Option<Failing>,
+    base: &Base,
+    state: &State,
+    truck: u32,
     route: &Numbers,
+    steps: &mut Steps<L>,
 ) -> Result<What, NoMemory>
-    ensures { IfOk result (λ w. w ≡ asked_finding failing route.now) }
+    requires truck { truck < length base.now.fleet }
+    requires state { AreOf base.now.roads state.now }
+    requires segments { All (λ s. s < length base.now.roads.segments) route.now }
+    ensures { IfOk result (λ w. w ≡ asked_finding (first_in base.now state.now truck route.now) route.now) }
 {
-    match failing {
+    match first_on(base, state, truck, route.as_slice(), steps) {
         Some(failing) => Ok(What::Fails {
             segment: failing.segment,
         }),
@@ -128,27 +107,20 @@ pub(crate) fn asked_finding(
 }
 
 // What is found without one, by a search over the segments that the truck may pass.
-fn find_free<E: SpanStudy, L: Ledger>(
+fn find_free<L: Ledger>(
     alloc: Global,
     base: &Base,
     state: &State,
     application: &Application,
-    study: &E,
     steps: &mut Steps<L>,
 ) -> Result<What, NoMemory>
-    requires study { E.axles study.now ≡ train_of base.now application.now.truck }
     requires state { AreOf base.now.roads state.now }
     requires sound { Sound base.now application.now }
     ensures { IfOk result (IsFoundBy base.now state.now application.now None) }
 {
-    let passable = flags(alloc, base, state, application.truck(), study, steps)?;
-    search_flagged(
-        alloc,
-        base.network(),
-        &passable,
-        application.from(),
-        application.to(),
-    )
+    let passable = flags(alloc, base, state, application.truck(), steps)?;
+    let (from, to) = (application.from(), application.to());
+    search_flagged(alloc, base.network(), &passable, from, to)
 }
 
 // What a search over the flagged segments finds, as it is proposed.

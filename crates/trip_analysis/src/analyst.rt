@@ -1,23 +1,22 @@
 // Who finds what applications ask for, and keeps what is known of each truck.
 
-ghost use Rattle.std.specs.Prelude.{◌≡◌, ◌<◌, length, slice_set, true, false, IfOk, OnOk};
+ghost use Rattle.std.specs.Prelude.{◌≡◌, ◌<◌, ℕ, None, length, slice_set, true, false, IfOk, OnOk};
 ghost use Rattle.route_search.specs.Founds.{IsShortest};
 ghost use Rattle.route_search.specs.Heights.{AreHeights};
 ghost use Rattle.road_graph.specs.Roads.{IsRoads};
 ghost use Rattle.restriction_log.specs.States.{AgreeOn, AreOf, InForce};
 ghost use Rattle.snapshot_store.specs.Stores.{IsLater, state_now};
 ghost use Rattle.trip_analysis.specs.Applications.{Sound};
-ghost use Rattle.trip_analysis.specs.Bases.{train_of};
-ghost use Rattle.trip_analysis.specs.Findings.{IsFinding};
-ghost use Rattle.trip_analysis.specs.Known.{AreJudged, AreKnown, AreOfFleet, AreSettled, AreStudied, IsJudged, IsKnown, IsOfTruck, IsSettled};
+ghost use Rattle.trip_analysis.specs.Bases.{BaseLists};
+ghost use Rattle.trip_analysis.specs.Findings.{IsFinding, IsFoundBy};
+ghost use Rattle.trip_analysis.specs.Known.{AreJudged, AreKnown, AreOfFleet, AreSettled, IsJudged, IsKnown, IsOfRoads, IsSettled};
 
-use crate::analysis::{asked_finding, proposed};
+use crate::analysis::{find_asked, proposed};
 use crate::application::Application;
 use crate::base::Base;
 use crate::finding::What;
-use crate::passing::{failing_limit_by, first_on_by, flags, train_of};
+use crate::passing::{flags, is_passable};
 use clearance_rules::Steps;
-use hs20_truck::Kept;
 use office_io::NoMemory;
 use restriction_log::State;
 use road_graph::Network;
@@ -27,12 +26,10 @@ use std::alloc::Global;
 use std::marker::Brand;
 use std::sync::ledger::{Blank, Ledger};
 
-/// What is known of one truck: its study and, once they were needed, for each segment whether it may pass it, and for each
-/// node how far it is from there to a goal that came twice.
+/// What is known of one truck, once it was needed: for each segment whether it may pass it, and for each node how far it is
+/// from there to a goal that came twice.
 #[derive(Drop)]
 pub struct Known {
-    study: Kept,
-    is_studied: bool,
     is_flagged: bool,
     flags: Vec<bool>,
     is_settled: bool,
@@ -51,14 +48,14 @@ pub struct Analyst {
 }
 
 impl Analyst {
-    /// An analyst for this base, who knows nothing of its trucks but their axles.
+    /// An analyst for this base, who knows nothing of its trucks.
     pub fn new(alloc: Global, base: &Base) -> Result<Analyst, NoMemory>
         ensures { IfOk result (λ a. (state : InForce) → AreKnown base.now state a) }
     {
         let mut known = Vec::new(alloc);
         let count = base.fleet().len();
-        'trucks: for truck in 0..count {
-            known.push(unknown(alloc, base, truck as u32)?)?;
+        'trucks: for _ in 0..count {
+            known.push(unknown(alloc))?;
         }
         Ok(Analyst {
             known,
@@ -80,27 +77,60 @@ impl Analyst {
         ensures found { IfOk result (λ w. IsFinding base.now state.now application.now w) }
         ensures known { AreKnown base.now state.now self.new }
     {
-        let known = &mut self.known[application.truck() as usize];
-        let heights = &mut self.heights;
-        find_known::<Brand>(
-            alloc,
-            base,
-            state,
-            application,
-            known,
-            heights,
-            Blank::new(1),
-        )
+        self.find_counted::<Brand>(alloc, base, state, application, Blank::new(1))
     }
 
-    /// The study of a truck. Takes no memory.
-    pub fn study(&self, base: &Base, truck: u32) -> &Kept
-        requires studied { AreStudied base.now self.now }
-        requires truck { truck < length base.now.fleet }
-        ensures { result.now ≡ train_of base.now truck }
+    // The same over a counter of tests, which nobody reads.
+    fn find_counted<L: Ledger>(
+        &mut self,
+        alloc: Global,
+        base: &Base,
+        state: &State,
+        application: &Application,
+        blank: Blank,
+    ) -> Result<What, NoMemory>
+        requires name { blank.name ≡ L.name }
+        requires parts { blank.parts ≡ L.parts }
+        requires some { 0 < blank.parts }
+        requires known { AreKnown base.now state.now self.old }
+        requires state { AreOf base.now.roads state.now }
+        requires sound { Sound base.now application.now }
+        ensures found { IfOk result (λ w. IsFinding base.now state.now application.now w) }
+        ensures known { AreKnown base.now state.now self.new }
     {
-        let _trucks = base.fleet().len();
-        &self.known[truck as usize].study
+        let mut steps = Steps::<L>::new(blank);
+        let truck = application.truck();
+        if base.fleet()[truck as usize].load.legal() {
+            return Ok(What::NotNeeded);
+        }
+        match application.asked() {
+            Some(route) => find_asked(alloc, base, state, truck, route, &mut steps),
+            None => self.find_free(alloc, base, state, application, &mut steps),
+        }
+    }
+
+    // What is found without an asked route.
+    fn find_free<L: Ledger>(
+        &mut self,
+        alloc: Global,
+        base: &Base,
+        state: &State,
+        application: &Application,
+        steps: &mut Steps<L>,
+    ) -> Result<What, NoMemory>
+        requires known { AreKnown base.now state.now self.old }
+        requires state { AreOf base.now.roads state.now }
+        requires sound { Sound base.now application.now }
+        ensures found { IfOk result (IsFoundBy base.now state.now application.now None) }
+        ensures known { AreKnown base.now state.now self.new }
+    {
+        let truck = application.truck();
+        let known = &mut self.known[truck as usize];
+        learn_flags(alloc, base, state, truck, known, steps)?;
+        let heights = &mut self.heights;
+        let (from, to) = (application.from(), application.to());
+        let found = search_known(alloc, base.network(), known, heights, from, to)?;
+        Ok(proposed(found))
     }
 
     // Goes on from the state of a snapshot, in which the trucks are known, to that of a later one: of the segments that
@@ -142,48 +172,6 @@ impl Analyst {
     }
 }
 
-// What is found by what is known of the truck.
-fn find_known<L: Ledger>(
-    alloc: Global,
-    base: &Base,
-    state: &State,
-    application: &Application,
-    known: &mut Known,
-    heights: &mut Heights,
-    blank: Blank,
-) -> Result<What, NoMemory>
-    requires name { blank.name ≡ L.name }
-    requires parts { blank.parts ≡ L.parts }
-    requires some { 0 < blank.parts }
-    requires known { IsKnown base.now state.now application.now.truck known.old }
-    requires heights { AreHeights base.now.roads.segments heights.old }
-    requires state { AreOf base.now.roads state.now }
-    requires sound { Sound base.now application.now }
-    ensures found { IfOk result (λ w. IsFinding base.now state.now application.now w) }
-    ensures known { IsKnown base.now state.now application.now.truck known.new }
-    ensures heights { AreHeights base.now.roads.segments heights.new }
-{
-    let mut steps = Steps::<L>::new(blank);
-    let truck = application.truck();
-    if base.fleet()[truck as usize].load.legal() {
-        return Ok(What::NotNeeded);
-    }
-    learn_effects(base.network(), &mut known.study, &mut known.is_studied)?;
-    match application.asked() {
-        Some(route) => {
-            let study = &known.study;
-            let failing = first_on_by(base, state, truck, study, route.as_slice(), &mut steps);
-            asked_finding(alloc, failing, route)
-        }
-        None => {
-            learn_flags(alloc, base, state, truck, known, &mut steps)?;
-            let (from, to) = (application.from(), application.to());
-            let found = search_known(alloc, base.network(), known, heights, from, to)?;
-            Ok(proposed(found))
-        }
-    }
-}
-
 // Keeps the flags of the segments, where none are kept yet.
 fn learn_flags<L: Ledger>(
     alloc: Global,
@@ -202,7 +190,7 @@ fn learn_flags<L: Ledger>(
     if known.is_flagged {
         return Ok(());
     }
-    known.flags = flags(alloc, base, state, truck, &known.study, steps)?;
+    known.flags = flags(alloc, base, state, truck, steps)?;
     known.is_flagged = true;
     known.is_settled = false;
     Ok(())
@@ -224,7 +212,6 @@ fn search_known(
     requires settled { AreSettled network.now known.old }
     requires heights { AreHeights network.now.segments heights.old }
     ensures found { IfOk result (IsShortest network.now known.old.flags.items from to) }
-    ensures study { known.new.study ≡ known.old.study }
     ensures flagged { known.new.is_flagged ≡ known.old.is_flagged }
     ensures flags { known.new.flags.items ≡ known.old.flags.items }
     ensures settled { AreSettled network.now known.new }
@@ -271,7 +258,6 @@ fn learn_potentials(
     requires many { length known.old.flags.items ≡ length network.now.segments }
     requires goal { goal < length network.now.nodes }
     requires settled { AreSettled network.now known.old }
-    ensures study { known.new.study ≡ known.old.study }
     ensures flagged { known.new.is_flagged ≡ known.old.is_flagged }
     ensures flags { known.new.flags.items ≡ known.old.flags.items }
     ensures settled { AreSettled network.now known.new }
@@ -296,15 +282,15 @@ fn judge_anew<L: Ledger>(
     steps: &mut Steps<L>,
 )
     requires truck { truck < length base.now.fleet }
-    requires known { IsOfTruck base.now truck known.old }
+    requires known { IsOfRoads base.now.roads known.old }
     requires state { AreOf base.now.roads state.now }
     requires segment { segment < length base.now.roads.segments }
     requires roads { IsRoads base.now.roads }
     ensures { IsJudged base.now state.now segment truck known.old known.new }
 {
     if known.is_flagged {
-        let limit = failing_limit_by(base, state, truck, &known.study, segment, steps);
-        write_flag(base.network(), segment, limit.is_none(), known);
+        let passable = is_passable(base, state, truck, segment, steps);
+        write_flag(base.network(), segment, passable, known);
     }
 }
 
@@ -314,7 +300,6 @@ fn write_flag(network: &Network, segment: u32, passable: bool, known: &mut Known
     requires segment { segment < length network.now.segments }
     requires many { length known.old.flags.items ≡ length network.now.segments }
     requires settled { AreSettled network.now known.old }
-    ensures study { known.new.study ≡ known.old.study }
     ensures flagged { known.new.is_flagged ≡ known.old.is_flagged }
     ensures flags { known.new.flags.items ≡ slice_set known.old.flags.items segment passable }
     ensures settled { AreSettled network.now known.new }
@@ -344,34 +329,16 @@ fn differs(network: &Network, old: &State, new: &State, segment: u32) -> bool
     false
 }
 
-// Keeps the effects on each span, where that was not done yet.
-fn learn_effects(network: &Network, study: &mut Kept, is_studied: &mut bool) -> Result<(), NoMemory>
-    ensures { study.new ≡ study.old }
+// What is known of a truck of which nothing is known.
+fn unknown(alloc: Global) -> Known
+    ensures { (base : BaseLists) (state : InForce) (truck : ℕ) → IsKnown base state truck result }
 {
-    if *is_studied {
-        return Ok(());
-    }
-    'spans: for span in 0..network.spans() {
-        study.keep(network.span(span).inches)?;
-    }
-    *is_studied = true;
-    Ok(())
-}
-
-// What is known of a truck of which nothing is known but its axles.
-fn unknown(alloc: Global, base: &Base, truck: u32) -> Result<Known, NoMemory>
-    requires truck { truck < length base.now.fleet }
-    ensures { IfOk result (λ known. (state : InForce) → IsKnown base.now state truck known) }
-{
-    let train = train_of(base, truck).clone()?;
-    Ok(Known {
-        study: Kept::new(alloc, train),
-        is_studied: false,
+    Known {
         is_flagged: false,
         flags: Vec::new(alloc),
         is_settled: false,
         goal: 0,
         potentials: Potentials::none(alloc),
         last: None,
-    })
+    }
 }

@@ -10,7 +10,6 @@ use crate::application::Application;
 use crate::base::Base;
 use crate::finding::Proposal;
 use clearance_rules::Steps;
-use hs20_truck::Kept;
 use office_io::NoMemory;
 use snapshot_store::Snapshot;
 use std::alloc::Global;
@@ -42,14 +41,13 @@ impl Model for Follower {
 }
 
 impl Follower {
-    ghost use Rattle.std.specs.Prelude.{◌≡◌, ◌<◌, length, None, IfOk};
+    ghost use Rattle.std.specs.Prelude.{◌≡◌, IfOk};
     ghost use Rattle.snapshot_store.specs.Stores.{version_of};
     ghost use Rattle.trip_analysis.specs.Applications.{Sound};
-    ghost use Rattle.trip_analysis.specs.Bases.{train_of};
     ghost use Rattle.trip_analysis.specs.Findings.{IsFoundAt};
     ghost use Rattle.trip_analysis.specs.Followers.{GoesOn, followed, newly_followed};
 
-    /// A follower of this base, who was given no snapshot yet and knows nothing of its trucks but their axles.
+    /// A follower of this base, who was given no snapshot yet and knows nothing of its trucks.
     pub fn new(alloc: Global, base: &Base) -> Result<Follower, NoMemory>
         ensures { IfOk result (λ follower. follower ≡ newly_followed base.now) }
     {
@@ -87,15 +85,6 @@ impl Follower {
         let seen = snapshot.version();
         self.last = Some(snapshot);
         Ok(Proposal { seen, what: found? })
-    }
-
-    /// The study of a truck. Takes no memory.
-    pub fn study(&self, base: &Base, truck: u32) -> &Kept
-        requires base { self.now.base ≡ base.now }
-        requires truck { truck < length base.now.fleet }
-        ensures { result.now ≡ train_of base.now truck }
-    {
-        self.analyst.study(base, truck)
     }
 }
 

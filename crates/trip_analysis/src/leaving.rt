@@ -2,16 +2,13 @@
 
 ghost use Rattle.std.specs.Prelude.{◌≡◌, ◌+◌, ◌<◌, ◌≤◌, ◌∷◌, [], length, MatchOption};
 ghost use Rattle.restriction_log.specs.States.{AreOf};
-ghost use Rattle.trip_analysis.specs.Bases.{train_of};
 ghost use Rattle.trip_analysis.specs.Findings.{AreRising, IsNextLeaving, first_meeting, is_in, leaves, leaving, leaving_from};
 
 use crate::base::Base;
-use crate::passing::{failing_limit_by, train_of};
+use crate::passing::is_passable;
 use clearance_rules::Steps;
-use hs20_truck::Live;
 use restriction_log::State;
 use road_graph::Network;
-use span_rating::SpanStudy;
 use std::sync::ledger::Ledger;
 
 /// The least segment from a number on that leaves these nodes, which rise. Takes no memory.
@@ -44,30 +41,9 @@ pub fn first_meeting_out<L: Ledger>(
     requires rising { AreRising nodes.now }
     ensures { result ≡ first_meeting base.now state.now truck (leaving base.now.roads nodes.now) }
 {
-    let study = Live {
-        train: train_of(base, truck),
-    };
-    first_meeting_out_by(base, state, truck, &study, nodes, steps)
-}
-
-/// The same by a study of the truck's axles. Takes no memory.
-pub fn first_meeting_out_by<E: SpanStudy, L: Ledger>(
-    base: &Base,
-    state: &State,
-    truck: u32,
-    study: &E,
-    nodes: &[u32],
-    steps: &mut Steps<L>,
-) -> Option<u32>
-    requires truck { truck < length base.now.fleet }
-    requires study { E.axles study.now ≡ train_of base.now truck }
-    requires state { AreOf base.now.roads state.now }
-    requires rising { AreRising nodes.now }
-    ensures { result ≡ first_meeting base.now state.now truck (leaving base.now.roads nodes.now) }
-{
     let mut start = 0;
     'out: while let Some(s) = next_leaving(base.network(), nodes, start) {
-        if failing_limit_by(base, state, truck, study, s, steps).is_none() {
+        if is_passable(base, state, truck, s, steps) {
             return Some(s);
         }
         start = s + 1;

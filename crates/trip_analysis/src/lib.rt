@@ -23,7 +23,7 @@ mod leaving;
 mod passing;
 mod refusal;
 
-pub use analysis::{analyse, find, find_by};
+pub use analysis::{analyse, find};
 pub use analyst::{Analyst, Known};
 pub use application::Application;
 pub use base::{Base, Truck};
@@ -33,8 +33,8 @@ pub use laws::{
     asked_findings_are_of_the_route, findings_hold, free_findings_are_of_walks,
     routes_break_off_where_walks_do,
 };
-pub use leaving::{first_meeting_out, first_meeting_out_by, next_leaving};
-pub use passing::{failing_limit, failing_limit_by, first_on, first_on_by};
+pub use leaving::{first_meeting_out, next_leaving};
+pub use passing::{failing_limit, first_on, is_passable};
 pub use refusal::ApplicationRefusal;
 
 #[cfg(test)]

@@ -8,7 +8,8 @@ ghost use Rattle.trip_analysis.specs.Followers.{GoesOn, followed};
 use crate::{
     Application, ApplicationRefusal, Base, Failing, Follower, Proposal, Truck, What,
     asked_findings_are_of_the_route, failing_limit, find, findings_hold, first_meeting_out,
-    first_on, free_findings_are_of_walks, next_leaving, routes_break_off_where_walks_do,
+    first_on, free_findings_are_of_walks, is_passable, next_leaving,
+    routes_break_off_where_walks_do,
 };
 use axle_train::{Axle, Train};
 use clearance_rules::{Limit, Load, Steps};
@@ -17,6 +18,7 @@ use permit_days::Day;
 use restriction_log::{Change, State, takes};
 use road_graph::{Network, Numbers};
 use snapshot_store::Store;
+use span_rating::SpanStudy;
 use std::alloc::Global;
 use std::marker::Brand;
 use std::process::Abort;
@@ -437,6 +439,43 @@ fn follows_a_store_from_version_to_version(rt: HostRuntime) -> Result<(), Fail> 
     done
 }
 
+// Twice the HS20-44 truck, a span of 360 in carries the truck, which weighs less than that truck, and at 0 nothing.
+fn check_study(rt: &impl Abort, base: &Base, truck: u32)
+    requires { truck < length base.now.fleet }
+{
+    let study = base.study(truck);
+    assert!(rt; study.carries(360, 2_000));
+    assert!(rt; !study.carries(360, 0));
+}
+
+// Asks a study that keeps nothing, and again once it keeps the lengths of the roads.
+fn learn_truck(rt: &impl Abort, alloc: Global, base: &mut Base, truck: u32) -> Result<(), Fail>
+    requires { truck < length base.old.fleet }
+    ensures { base.new ≡ base.old }
+{
+    check_study(rt, base, truck);
+    base.learn(alloc, truck)?;
+    check_study(rt, base, truck);
+    Ok(())
+}
+
+// Both trucks, and then the findings and the history of the tests above.
+fn learn_both(rt: &impl Abort, alloc: Global, base: &mut Base) -> Result<(), Fail> {
+    assert!(rt; base.fleet().len() == 2);
+    learn_truck(rt, alloc, base, 0)?;
+    learn_truck(rt, alloc, base, 1)?;
+    find_each(rt, alloc, base)?;
+    follow_store(rt, alloc, base)
+}
+
+#[test]
+fn finds_the_same_by_what_studies_keep(rt: HostRuntime) -> Result<(), Fail> {
+    let mut base = base(&rt, rt.alloc())?;
+    let done = learn_both(&rt, rt.alloc(), &mut base);
+    drop(base);
+    done
+}
+
 // Whether the limit is that of segment 1, which at 167 in is too low for truck 0.
 fn is_too_low(limit: Option<Limit>) -> bool {
     match limit {
@@ -469,6 +508,8 @@ fn tell_limits<L: Ledger>(rt: &impl Abort, base: &Base, state: &State, steps: &m
     assert!(rt; base.network().segments() == 3);
     assert!(rt; is_too_low(failing_limit(base, state, 0, 1, steps)));
     assert!(rt; failing_limit(base, state, 1, 1, steps).is_none());
+    assert!(rt; !is_passable(base, state, 0, 1, steps));
+    assert!(rt; is_passable(base, state, 1, 1, steps));
     assert!(rt; is_low_segment(first_on(base, state, 0, route.as_slice(), steps)));
 }
 

@@ -3,7 +3,7 @@ use Rattle.std.specs.Prelude.{option_map}
 use Rattle.trip_analysis.proofs.Flags.{asked_there}
 use Rattle.trip_analysis.proofs.analysis.find_counted.Goals as goal
 
-pub first_on_by-failing-requires-clause-segments : goal.first_on_by-failing-requires-clause-segments
-first_on_by-failing-requires-clause-segments g c =
+pub find_asked-requires-clause-segments : goal.find_asked-requires-clause-segments
+find_asked-requires-clause-segments g c =
     let a = c.args.application.now in
-    rw c.as_slice.ensures (asked_there c.args.base.now.roads a.from a.to a.asked c.in-Some.route.now (sym c.asked.ensures ∙ ap (option_map (λ n. n.now)) c.in-Some.is) c.requires.sound.asked)
+    asked_there c.args.base.now.roads a.from a.to a.asked c.in-Some.route.now (sym c.asked.ensures ∙ ap (option_map (λ n. n.now)) c.in-Some.is) c.requires.sound.asked

@@ -10,15 +10,15 @@ use Rattle.trip_analysis.proofs.analyst.Analyst.new.Goals as goal
 pub trucks-preserved : goal.trucks-preserved
 trucks-preserved c =
     let P : ℕ → Known → Type 0 = λ truck known. (state : InForce) → IsKnown c.args.base.now state truck known in
-    let before = c.trucks.invariant in
+    let before = c.trucks.invariant in let n = c.trucks.counter in
     rw c.in_ok-push.ensures.items (record {
       many = search rules;
-      each = below_push P c.trucks.known.items c.in_ok-unknown.field-0 c.trucks.truck before.many before.each c.in_ok-unknown.ensures;
+      each = below_push P c.trucks.known.items c.unknown.result n before.many before.each (λ state. c.unknown.ensures c.args.base.now state n);
     })
 
 pub returns : goal.returns
 returns c = λ state. let all = c.trucks.invariant in record {
   heights = rw c.none.ensures (level_none_heights c.args.base.now.roads.segments);
-  many = omega (arith, all.many, c.trucks-test.false, c.trucks.auto.truck-end, ap length c.fleet-count.ensures.value);
+  many = omega (arith, all.many, c.trucks-test.false, c.trucks.auto.counter-end, ap length c.fleet-count.ensures.value);
   each = λ truck d less. all.each truck d (omega (arith, less, c.trucks-test.false, ap length c.fleet-count.ensures.value)) state;
 }

@@ -1,6 +1,6 @@
 use Rattle.std.proofs.Common.{◌≡◌, ◌≤◌, ◌+◌, drop}
 use Rattle.trip_analysis.specs.Findings.{first_on}
-use Rattle.trip_analysis.proofs.passing.first_on_by.Given as goal
+use Rattle.trip_analysis.proofs.passing.first_on.Given as goal
 
 abbrev pub invariant-loop-i : goal.invariant-loop-i
 invariant-loop-i g l = record {
