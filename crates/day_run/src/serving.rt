@@ -30,6 +30,27 @@ pub fn serve<R: Threads + Wait + AllocGlobal + Sync, G: Gate + Sync>(
     ensures base { IfOk result (λ office. office.base ≡ file.base) }
     ensures roads { OnOk result (IsRoads file.base.roads) }
 {
+    let mut file = file;
+    file.learn_applicants(rt.alloc())?;
+    serve_actors(rt, file, gate)
+}
+
+/// A law, and no code: over roads within their bounds, no two histories serve a day of at most one actor.
+pub fn lone_actors_are_one()
+    ensures { LoneActorsAreOne }
+{}
+
+// The same, whatever the base keeps of its trucks.
+fn serve_actors<R: Threads + Wait + AllocGlobal + Sync, G: Gate + Sync>(
+    rt: &R,
+    file: DayFile,
+    gate: &G,
+) -> Result<Office, NoMemory>
+    requires { IsDayFile file }
+    ensures served { IfOk result (λ office. IsServed file office.history) }
+    ensures base { IfOk result (λ office. office.base ≡ file.base) }
+    ensures roads { OnOk result (IsRoads file.base.roads) }
+{
     let alloc = rt.alloc();
     let most = most_entries(file.commands());
     let (base, day, scripts) = file.into_scripts(alloc)?;
@@ -43,8 +64,3 @@ pub fn serve<R: Threads + Wait + AllocGlobal + Sync, G: Gate + Sync>(
         Ended::Full => unreachable!(),
     }
 }
-
-/// A law, and no code: over roads within their bounds, no two histories serve a day of at most one actor.
-pub fn lone_actors_are_one()
-    ensures { LoneActorsAreOne }
-{}

@@ -6,11 +6,12 @@ ghost use Rattle.day_text.specs.Days.{day_of, ended_day, parts_of};
 ghost use Rattle.day_text.specs.Laws.{IsDayFile};
 ghost use Rattle.day_text.specs.Refusals.{IsRefusedAs};
 
+use crate::applicants::learn_applicants;
 use crate::draft::Draft;
 use crate::orders::Order;
 use crate::progress::DayProgress;
 use crate::refusal::DayFileRefusal;
-use office_io::Name;
+use office_io::{Name, NoMemory};
 use permit_days::Day;
 use record_text::{FileRefusal, RecordCause, RecordRefusal, read_records};
 use std::alloc::Global;
@@ -61,6 +62,14 @@ impl DayFile {
         ensures { result.now ≡ self.now.commands }
     {
         self.commands.as_slice()
+    }
+
+    /// Has the base keep what each truck that applies asks of spans of each length on its roads: whoever serves the day then
+    /// looks it up, and else computes it at each test. Nothing that contracts see changes. `NoMemory` where no memory was left.
+    pub fn learn_applicants(&mut self, alloc: Global) -> Result<(), NoMemory>
+        ensures { self.new ≡ self.old }
+    {
+        learn_applicants(alloc, &mut self.base, &self.commands)
     }
 
     /// The roads and the trucks, the opening day, the actors and the commands. Takes no memory.

@@ -163,7 +163,8 @@ fn are_scripts(rt: &impl Abort, scripts: &[Vec<Command>], wanted: Scripts) {
 }
 
 fn deal(rt: &impl Abort, alloc: Global, text: &str, wanted: Scripts) -> Result<(), Fail> {
-    let file = read_day(alloc, text.as_bytes())?;
+    let mut file = read_day(alloc, text.as_bytes())?;
+    file.learn_applicants(alloc)?;
     let (base, _, scripts) = file.into_scripts(alloc)?;
     are_scripts(rt, scripts.as_slice(), wanted);
     drop(base);

@@ -24,6 +24,17 @@ pub fn serve_in_order(alloc: Global, file: DayFile) -> Result<Office, NoMemory>
     ensures served { IfOk result (λ office. IsSerial file office.history) }
     ensures roads { OnOk result (IsRoads file.base.roads) }
 {
+    let mut file = file;
+    file.learn_applicants(alloc)?;
+    serve_orders(alloc, file)
+}
+
+// The same, whatever the base keeps of its trucks.
+fn serve_orders(alloc: Global, file: DayFile) -> Result<Office, NoMemory>
+    requires { IsDayFile file }
+    ensures served { IfOk result (λ office. IsSerial file office.history) }
+    ensures roads { OnOk result (IsRoads file.base.roads) }
+{
     let (base, day, _actors, orders) = file.into_parts();
     let most = most_entries(orders.as_slice());
     let base = Arc::new(alloc, base)?;

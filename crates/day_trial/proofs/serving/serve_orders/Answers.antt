@@ -1,6 +1,6 @@
 use Rattle.std.proofs.Common.{rules, ◌≡◌, ◌∙◌, length}
 use Rattle.day_trial.proofs.Carrying.{callers_for, served, sound_for}
-use Rattle.day_trial.proofs.serving.serve_in_order.Goals as goal
+use Rattle.day_trial.proofs.serving.serve_orders.Goals as goal
 
 pub carry_out_all-requires-clause-sound : goal.carry_out_all-requires-clause-sound
 carry_out_all-requires-clause-sound c =

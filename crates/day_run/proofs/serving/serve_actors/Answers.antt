@@ -5,7 +5,7 @@ use Rattle.office_desk.specs.Desks.{Terms, no_terms, terms_of}
 use Rattle.day_run.proofs.Histories.{all_served, never_full}
 use Rattle.day_run.proofs.Scripts.{scripts_short, scripts_sound}
 use Rattle.day_text.proofs.Dealt.{scripts_together}
-use Rattle.day_run.proofs.serving.serve.Goals as goal
+use Rattle.day_run.proofs.serving.serve_actors.Goals as goal
 
 pub work_all-requires-clause-sound : goal.work_all-requires-clause-sound
 work_all-requires-clause-sound g c κs within = let base : c.deref.result.now ≡ c.args.file.base = search rules in
