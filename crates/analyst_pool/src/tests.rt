@@ -59,7 +59,7 @@ impl Gate for Digits {
 struct Interrupted<'a, R: Abort> {
     rt: &'a R,
     office: Office,
-    changes: Vec<Change>,
+    changes: &'a [Change],
 }
 
 // Posts a change as caller 1.
@@ -70,13 +70,16 @@ fn post(office: &mut Office, change: Change)
     drop(seat.post(change));
 }
 
-// Posts the last of these changes as caller 1, if one is left.
-fn interrupt(office: &mut Office, changes: &mut Vec<Change>)
+// Posts the last of these changes as caller 1, if one is left. Those that are left then.
+fn interrupt<'a>(office: &mut Office, changes: &'a [Change]) -> &'a [Change]
     ensures { Interrupts office.old office.new }
 {
-    match changes.pop() {
-        Some(change) => post(office, change),
-        None => (),
+    match changes.split_last() {
+        Some((change, left)) => {
+            post(office, *change);
+            left
+        }
+        None => changes,
     }
 }
 
@@ -104,7 +107,7 @@ impl<R: Abort> OfficeCalls for Interrupted<'_, R> {
     }
 
     fn submit(&mut self, application: Application, proposal: Proposal) -> Reply {
-        interrupt(&mut self.office, &mut self.changes);
+        self.changes = interrupt(&mut self.office, self.changes);
         let mut seat = OneSeat::new(&mut self.office, 0);
         let reply = seat.submit(application, proposal);
         unless_full(self.rt, reply)
@@ -217,9 +220,21 @@ fn tell<C: OfficeCalls>(
     };
     let mut analyst = None;
     let reply = carry_out(alloc, calls, &mut analyst, command, &docket);
-    assert_eq!(rt; format!(in alloc; "{reply:?}")?.as_str(), wanted.0);
+    drop(analyst);
     assert_eq!(rt; gate.told.get(), wanted.1);
+    says(rt, alloc, reply, wanted.0)
+}
+
+// The reply is written as this text.
+fn says(rt: &impl Abort, alloc: Global, reply: Reply, wanted: &str) -> Result<(), Fail> {
+    let written = text_of(alloc, &reply);
+    drop(reply);
+    assert_eq!(rt; written?.as_str(), wanted);
     Ok(())
+}
+
+fn text_of(alloc: Global, reply: &Reply) -> Result<String, Fail> {
+    Ok(format!(in alloc; "{reply:?}")?)
 }
 
 // Segments, the height of segment 0, what caller 1 posts, the last first; and then the reply, what the
@@ -320,20 +335,35 @@ fn decides_while_another_posts(rt: HostRuntime) -> Result<(), Fail> {
 fn decides(rt: &impl Abort, alloc: Global, row: &Row) -> Result<(), Fail> {
     let &(segments, inches, posted, wanted, entries) = row;
     let base = Arc::new(alloc, base(rt, alloc, segments, inches)?)?;
-    let mut changes = Vec::new(alloc);
-    for &change in posted {
-        changes.push(change)?;
-    }
-    let command = Command::Apply(application(rt, &base));
-    let office = Office::start(alloc, base.clone()?, day(rt, b"2026-03-02"), 100)?;
+    let office = office(rt, alloc, &base, 100)?;
+    let held = decides_in(rt, alloc, office, &base, posted, &wanted)?;
+    assert_eq!(rt; held, entries);
+    Ok(())
+}
+
+// Decides the application in this office, while these changes are posted. How many entries the history then has.
+fn decides_in(
+    rt: &impl Abort,
+    alloc: Global,
+    office: Office,
+    base: &Base,
+    changes: &[Change],
+    wanted: &(&str, u64),
+) -> Result<usize, Fail>
+    requires { office.base ≡ base.now }
+{
+    let command = Command::Apply(application(rt, base));
     let mut calls = Interrupted {
         rt,
         office,
         changes,
     };
-    tell(rt, alloc, &mut calls, &base, &command, &wanted)?;
-    assert_eq!(rt; calls.office.history().len(), entries);
-    Ok(())
+    let told = tell(rt, alloc, &mut calls, base, &command, wanted);
+    let entries = calls.office.history().len();
+    drop(command);
+    drop(calls);
+    told?;
+    Ok(entries)
 }
 
 // How many entries the history may hold, and which command is asked; and then as in a row.
@@ -384,16 +414,32 @@ fn tells_the_gate_around_each_command(rt: HostRuntime) -> Result<(), Fail> {
 
 fn asks(rt: &impl Abort, alloc: Global, asked: &Asked) -> Result<(), Fail> {
     let &(most, kind, wanted, entries) = asked;
-    if most == 0 || most > 100 {
-        rt.abort();
-    }
     let base = Arc::new(alloc, base(rt, alloc, ALONE, 168)?)?;
-    let command = command(rt, &base, kind);
-    let mut office = Office::start(alloc, base.clone()?, day(rt, b"2026-03-02"), most)?;
-    let mut seat = OneSeat::new(&mut office, 0);
-    tell(rt, alloc, &mut seat, &base, &command, &wanted)?;
-    assert_eq!(rt; office.history().len(), entries);
+    let mut office = office(rt, alloc, &base, most)?;
+    let told = asks_of(rt, alloc, &mut office, &base, kind, &wanted);
+    let held = office.history().len();
+    drop(office);
+    told?;
+    assert_eq!(rt; held, entries);
     Ok(())
+}
+
+// Asks a command of this office by a seat.
+fn asks_of(
+    rt: &impl Abort,
+    alloc: Global,
+    office: &mut Office,
+    base: &Base,
+    kind: u32,
+    wanted: &(&str, u64),
+) -> Result<(), Fail>
+    requires { office.old.base ≡ base.now }
+{
+    let command = command(rt, base, kind);
+    let mut seat = OneSeat::new(office, 0);
+    let told = tell(rt, alloc, &mut seat, base, &command, wanted);
+    drop(command);
+    told
 }
 
 // An application that is handed over, decided at once.
@@ -401,14 +447,22 @@ fn asks(rt: &impl Abort, alloc: Global, asked: &Asked) -> Result<(), Fail> {
 fn decides_an_application(rt: HostRuntime) -> Result<(), Fail> {
     let alloc = rt.alloc();
     let base = Arc::new(alloc, base(&rt, alloc, ALONE, 168)?)?;
-    let wanted = application(&rt, &base);
-    let mut office = Office::start(alloc, base.clone()?, day(&rt, b"2026-03-02"), 17)?;
-    let mut seat = OneSeat::new(&mut office, 0);
-    let reply = decide(alloc, &mut seat, &base, wanted, &OpenGate, 0, 0);
+    let mut office = office(&rt, alloc, &base, 17)?;
+    let reply = decided(&rt, alloc, &mut office, &base);
+    let entries = office.history().len();
+    drop(office);
     let issued = "Issued { number: 1, version: 0, route: Numbers { list: [0] } }";
-    assert_eq!(rt; format!(in alloc; "{reply:?}")?.as_str(), issued);
-    assert_eq!(rt; office.history().len(), 2);
+    says(&rt, alloc, reply, issued)?;
+    assert_eq!(rt; entries, 2);
     Ok(())
+}
+
+fn decided(rt: &impl Abort, alloc: Global, office: &mut Office, base: &Base) -> Reply
+    requires { office.old.base ≡ base.now }
+{
+    let wanted = application(rt, base);
+    let mut seat = OneSeat::new(office, 0);
+    decide(alloc, &mut seat, base, wanted, &OpenGate, 0, 0)
 }
 
 #[test]
