@@ -126,7 +126,11 @@ fn take_later(
 }
 
 // Where a record of the road network leads.
-fn take_road(growing: Growing, kind: RoadKind, row: &StringRecord) -> Result<DayProgress, RecordRefusal>
+fn take_road(
+    growing: Growing,
+    kind: RoadKind,
+    row: &StringRecord,
+) -> Result<DayProgress, RecordRefusal>
     ensures { Judges result (going_on (with_road growing kind (fields_of row.now))) }
 {
     let mut growing = growing;
@@ -140,7 +144,11 @@ fn take_road(growing: Growing, kind: RoadKind, row: &StringRecord) -> Result<Day
 }
 
 // Where the record of a truck leads.
-fn take_truck(alloc: Global, growing: Growing, row: &StringRecord) -> Result<DayProgress, RecordRefusal>
+fn take_truck(
+    alloc: Global,
+    growing: Growing,
+    row: &StringRecord,
+) -> Result<DayProgress, RecordRefusal>
     ensures { Judges result (going_on (with_truck growing (fields_of row.now))) }
 {
     let mut growing = growing;

@@ -206,8 +206,7 @@ impl Register {
             && is_passable self.now.base (state_now self.now) truck segment) }
         ensures steps { steps.new ≡ steps.old + (if has_changed self.now seen segment then 1 else 0) }
     {
-        self.changed(segment, seen)
-            && is_passable(self.base(), self.state(), truck, segment, steps)
+        self.changed(segment, seen) && is_passable(self.base(), self.state(), truck, segment, steps)
     }
 
     // Whether a posting above the version seen names the segment or one of its spans. Takes no memory.
