@@ -2,12 +2,11 @@
 
 ghost use Rattle.std.specs.Prelude.{◌≡◌, ◌++◌, ◌∷◌, ◌↔◌, [], Some, OnOk, OnErr, IfOk, IsErr, IsTrue, option_map};
 ghost use Rattle.office_io.specs.Causes.{HasCause, counted};
-ghost use Rattle.office_io.specs.Memory.{is_failing};
 ghost use Rattle.notice_desk.specs.Memory.{new_notice, tell_fails};
 ghost use Rattle.notice_desk.specs.Notices.{told_more};
 
 use crate::notice::{Notice, Recall};
-use office_io::{Failed, NoMemory};
+use office_io::{Failed, NoMemory, is_failing};
 use std::alloc::Global;
 use std::marker::Model;
 
@@ -78,11 +77,4 @@ impl Notice for MemoryNotice {
     fn told(&self) -> Option<&[Recall]> {
         Some(self.recalls.as_slice())
     }
-}
-
-// Whether a call of this number, counted from 1, is one that fails.
-fn is_failing(failing: &[u32], call: u64) -> bool
-    ensures { result ≡ is_failing failing.now call }
-{
-    failing.iter().any(|n| u64::from(*n) == call)
 }

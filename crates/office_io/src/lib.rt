@@ -13,7 +13,7 @@ mod sink;
 mod source;
 mod standard;
 
-pub use memory::{MemorySink, MemorySource};
+pub use memory::{MemorySink, MemorySource, is_failing};
 pub use name::{BadName, Name};
 pub use refusal::{Failed, NoMemory};
 pub use sink::{Sink, WriteFault, write_all};

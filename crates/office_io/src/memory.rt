@@ -147,8 +147,8 @@ impl Sink for MemorySink {
     }
 }
 
-// Whether a call of this number, counted from 1, is one that fails.
-fn is_failing(failing: &[u32], call: u64) -> bool
+/// Whether the call of this number, counted from 1, is among those that are to fail.
+pub fn is_failing(failing: &[u32], call: u64) -> bool
     ensures { result ≡ is_failing failing.now call }
 {
     failing.iter().any(|n| u64::from(*n) == call)

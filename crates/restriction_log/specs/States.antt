@@ -13,10 +13,6 @@ pub record InForce : Type 0 where
   pub values : List Values
   pub ratings : List ℕ
 
--- these limits and these ratings
-abbrev pub in_force : List Values → List ℕ → InForce
-in_force values ratings = record { values = values; ratings = ratings }
-
 -- the limits of a segment
 abbrev pub values_at : List Values → ℕ → Values
 values_at values i = slice_index_or values i default_values
