@@ -3,7 +3,7 @@ use Rattle.std.proofs.Common.{ℕ, List, All, Vec, length, get_or, ap, sym, subs
 use Rattle.std.specs.Global.{Global}
 use Rattle.day_text.specs.Days.{DayParts}
 use Rattle.day_text.specs.Laws.{IsDayFile}
-use Rattle.day_text.specs.Scripts.{AreScripts, script_of}
+use Rattle.day_text.specs.Scripts.{AreScripts}
 use Rattle.day_text.proofs.Dealt.{script_few, script_sound}
 use Rattle.office_core.specs.Commands.{MayCarryOut}
 use Rattle.office_core.specs.declared.entry.Command.{Command}

@@ -1,7 +1,7 @@
 -- A text that grows word by word.
 use Rattle.std.proofs.Common.{◌≡◌, ◌∙◌, ◌∷◌, ◌++◌, [], ℕ, List, sym, refl, ap, append_assoc}
 use Rattle.std.specs.Prelude.{codes, flat_map}
-use Rattle.journal_text.specs.Words.{Adds, Words, joined, list_text, spaced}
+use Rattle.journal_text.specs.Words.{Adds, Words, list_text, spaced}
 
 pub adds_word : (old middle new text : List ℕ) → middle ≡ old ++ (32 ∷ []) → new ≡ middle ++ text → Adds old new (λ ws. text ∷ ws)
 unfolding spaced

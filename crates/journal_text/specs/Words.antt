@@ -1,7 +1,6 @@
 -- A line as words with one space between them, and the words of numbers.
 use Rattle.std.specs.Prelude.{◌≡◌, ℕ, ◌+◌, List, [], ◌∷◌, ◌++◌, flat_map, codes}
 use Rattle.std.specs.Fmt.{decimal}
-use Rattle.influence_line.specs.Fractions.{Ratio, ratio_text}
 
 abbrev pub Words : Type 0
 Words = List (List ℕ)

@@ -1,5 +1,5 @@
 -- A posting can make a permit in force fail at the segment alone that it touches.
-use Rattle.std.proofs.Common.{◌≡◌, ◌≢◌, ◌∷◌, ◌++◌, [], ◌&&◌, ◌||◌, ◌==◌, List, ℕ, Bool, true, false, not, refl, ap, sym, ◌∙◌, Option, Some, None, is_none, is_some}
+use Rattle.std.proofs.Common.{◌≡◌, ◌≢◌, ◌∷◌, ◌++◌, [], ◌&&◌, ◌||◌, ◌==◌, List, ℕ, Bool, true, false, not, refl, ap, ◌∙◌, is_none}
 use Rattle.std.specs.List.{All, list_any}
 use Rattle.std.proofs.lemmas.Bool.{eqb-false, eqb-true, or_parts}
 use Rattle.std.proofs.lemmas.List.Elements.{All-cons, All-head, All-nil, All-tail, All-weaker}
@@ -7,12 +7,11 @@ use Rattle.restriction_log.specs.declared.change.Change.{Change}
 use Rattle.restriction_log.specs.Changes.{touched}
 use Rattle.restriction_log.specs.States.{InForce, state_after, state_of}
 use Rattle.restriction_log.proofs.Elsewhere.{agree-after, state-posted}
-use Rattle.clearance_rules.specs.declared.limit.Limit.{Limit}
 use Rattle.clearance_rules.proofs.Agreeing.{limits_agree}
 use Rattle.permit_book.specs.declared.permit.Permit.{Permit}
 use Rattle.permit_book.specs.Permits.{in_force}
 use Rattle.trip_analysis.specs.Bases.{BaseLists, truck_of}
-use Rattle.trip_analysis.specs.Findings.{is_in, is_passable, limit_for}
+use Rattle.trip_analysis.specs.Findings.{is_in, is_passable}
 use Rattle.office_core.specs.Recalls.{InForceMeet, InForceMeetElsewhere, MeetsElsewhere, fails}
 
 not_false : (b : Bool) → not b ≡ false → b ≡ true

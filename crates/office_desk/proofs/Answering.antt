@@ -1,5 +1,5 @@
 -- A turn with one step answers its call.
-use Rattle.std.proofs.Common.{◌≡◌, ◌++◌, ◌∷◌, [], ℕ, List, Option, Some, None, true, false, refl, ap, sym, subst, ◌∙◌, append_assoc}
+use Rattle.std.proofs.Common.{◌≡◌, ◌++◌, ◌∷◌, [], ℕ, List, Some, false, refl, ap, sym, subst, ◌∙◌}
 use Rattle.office_core.specs.declared.calls.Looked.{Looked}
 use Rattle.office_core.specs.declared.calls.Looked.TheVariants as looked
 use Rattle.office_core.specs.declared.entry.Call.{Call}

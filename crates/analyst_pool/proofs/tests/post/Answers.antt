@@ -1,4 +1,4 @@
-use Rattle.std.proofs.Common.{◌≡◌, Some, ap, sym, subst}
+use Rattle.std.proofs.Common.{Some, ap, sym, subst}
 use Rattle.office_core.specs.Offices.{Opened}
 use Rattle.analyst_pool.specs.Interrupted.{Interrupts}
 use Rattle.analyst_pool.proofs.Interrupting.{from_seat, touched}

@@ -1,4 +1,4 @@
-use Rattle.std.proofs.Common.{◌≡◌, ◌∙◌, List, ap}
+use Rattle.std.proofs.Common.{◌∙◌, List, ap}
 use Rattle.trip_analysis.specs.Bases.{BaseLists}
 use Rattle.journal_text.specs.Journals.{journal_of}
 use Rattle.office_core.specs.RecallLists.{recalls_in}

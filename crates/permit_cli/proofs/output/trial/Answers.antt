@@ -1,5 +1,3 @@
-use Rattle.std.proofs.Common.{◌≡◌, ◌∙◌, ap}
-use Rattle.day_trial.specs.Summaries.{summary_of}
 use Rattle.permit_cli.proofs.Only.{trial_made, only_trial}
 use Rattle.permit_cli.proofs.output.trial.Goals as goal
 

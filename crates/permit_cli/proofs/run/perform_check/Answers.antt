@@ -1,4 +1,4 @@
-use Rattle.std.proofs.Common.{◌≡◌, ◌∙◌, ℕ, List, Some, refl, ap, sym, subst}
+use Rattle.std.proofs.Common.{ℕ, Some, refl, sym, subst}
 use Rattle.permit_cli.specs.Runs.{IsRun, outside_of}
 use Rattle.permit_cli.specs.declared.task.Task.TheVariants.{Check}
 use Rattle.permit_cli.proofs.Ends.{ends_with_too_many, many_left}

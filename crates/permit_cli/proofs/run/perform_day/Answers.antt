@@ -1,4 +1,4 @@
-use Rattle.std.proofs.Common.{rules, ◌≡◌, ◌∙◌, ℕ, List, None, Some, refl, ap, sym, subst}
+use Rattle.std.proofs.Common.{rules, ◌≡◌, ℕ, List, None, Some, refl, sym, subst}
 use Rattle.permit_cli.specs.Runs.{IsRun, desk_at, outside_of}
 use Rattle.permit_cli.specs.declared.task.Task.TheVariants.{Day}
 use Rattle.permit_cli.proofs.Ends.{all_taken, ends_told, ends_untold, ends_with_too_many, many_left}

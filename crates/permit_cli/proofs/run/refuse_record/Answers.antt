@@ -1,5 +1,4 @@
-use Rattle.std.proofs.Common.{List, ℕ, subst, sym, ap, ◌∙◌}
-use Rattle.std.specs.String.{string_bytes}
+use Rattle.std.proofs.Common.{List, ℕ, subst, ◌∙◌}
 use Rattle.permit_cli.specs.Runs.{WroteLine, sink_at}
 use Rattle.permit_cli.proofs.run.refuse_record.Goals as goal
 

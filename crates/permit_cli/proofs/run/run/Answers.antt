@@ -1,4 +1,4 @@
-use Rattle.std.proofs.Common.{◌≡◌, ◌∙◌, Option, Some, ap, sym, subst}
+use Rattle.std.proofs.Common.{Option, Some, sym, subst}
 use Rattle.permit_cli.specs.Runs.{IsRun, Outside, desk_at, outside_of}
 use Rattle.permit_cli.specs.declared.task.Task.{Task}
 use Rattle.permit_cli.specs.declared.task.Task.TheVariants.{Day}

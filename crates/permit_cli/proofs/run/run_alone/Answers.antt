@@ -1,7 +1,6 @@
 use Rattle.std.proofs.Common.{◌≡◌, ◌∙◌, Option, Some, map, refl, ap, sym, subst}
 use Rattle.std.specs.Prelude.{option_map}
 use Rattle.std.specs.String.{string_bytes}
-use Rattle.office_io.specs.Causes.{TookAtMost}
 use Rattle.permit_cli.specs.Runs.{IsAlone, outside_of}
 use Rattle.permit_cli.specs.Tasks.{task_for, task_of}
 use Rattle.permit_cli.specs.declared.run.Alone.TheVariants as alone

@@ -1,4 +1,4 @@
-use Rattle.std.proofs.Common.{arith, ap, sym, ◌∙◌, ◌++◌, ◌≡◌, filter, length}
+use Rattle.std.proofs.Common.{arith, ap, ◌∙◌, ◌++◌, filter, length}
 use Rattle.trip_analysis.specs.Bases.{BaseLists}
 use Rattle.office_core.specs.Registers.{is_recalled_in}
 use Rattle.office_core.proofs.Registers.{none_judged, recalled_whole}

@@ -1,4 +1,4 @@
-use Rattle.std.proofs.Common.{◌≡◌, ap, sym, subst, ◌∙◌}
+use Rattle.std.proofs.Common.{ap, sym, subst, ◌∙◌}
 use Rattle.office_core.specs.declared.entry.Entry.{Entry}
 use Rattle.office_core.specs.Machine.{MayAsk}
 use Rattle.office_core.specs.Offices.{Opened, entry, grown, machine_in}

@@ -1,4 +1,4 @@
-use Rattle.std.proofs.Common.{◌≡◌, ap, sym, subst, ◌∙◌}
+use Rattle.std.proofs.Common.{ap, sym, ◌∙◌}
 use Rattle.office_core.specs.declared.entry.Call.TheVariants as call
 use Rattle.office_core.specs.declared.entry.Entry.{Entry}
 use Rattle.office_core.specs.declared.entry.Reply.TheVariants as reply
