@@ -1,36 +1,13 @@
 // Days that are made from a number, for the tests: run, and read back from their journals.
 
-use crate::run::run;
-use analyst_pool::OpenGate;
+use crate::tests::run_words;
 use day_text::{Order, read_day};
 use journal_reader::read;
 use journal_text::print;
-use notice_desk::Subscribers;
 use office_core::{Call, Command, Entry, Reply};
-use office_io::{MemorySink, MemorySource};
 use std::alloc::Global;
-use std::sync::Wait;
+use std::process::Abort;
 use std::test::Fail;
-use std::thread::Threads;
-
-// What the words write for this input, and the status.
-#[tactic(auto, using(notice_desk::proofs::Ready::none_new))]
-fn output_of<R: Threads + Wait + AllocGlobal + Sync>(
-    rt: &R,
-    words: &[&str],
-    input: Vec<u8>,
-) -> Result<(u8, Vec<u8>), Fail> {
-    let alloc = rt.alloc();
-    let mut list = Vec::new(alloc);
-    for word in words {
-        list.push(word.to_string(alloc)?)?;
-    }
-    let mut source = MemorySource::new(input, Vec::new(alloc));
-    let mut sink = MemorySink::new(alloc, 200_000, Vec::new(alloc))?;
-    let mut nobody = Subscribers::new(alloc);
-    let status = run(rt, &list, &mut source, &mut sink, &mut nobody, &OpenGate);
-    Ok((status, sink.bytes().to_vec(alloc)?))
-}
 
 // Whether an entry can be one of those that carry out the command.
 fn carries_out(entry: &Entry, command: &Command) -> bool {
@@ -78,29 +55,35 @@ fn has_carried_out(history: &[Entry], orders: &[Order], actor: u32) -> bool {
     at == orders.len()
 }
 
+// Whether the first four actors have, and no other did anything.
+fn have_carried_out(history: &[Entry], orders: &[Order]) -> bool {
+    for actor in 0..4u32 {
+        if !has_carried_out(history, orders, actor) {
+            return false;
+        }
+    }
+    history.iter().all(|entry| entry.caller < 4)
+}
+
+// The history that a journal tells, which is printed again to the same bytes.
+fn read_back(rt: &impl Abort, alloc: Global, journal: &[u8]) -> Result<Vec<Entry>, Fail> {
+    let history = read(alloc, journal)?;
+    assert_eq!(rt; print(alloc, &history)?.as_slice(), journal);
+    Ok(history)
+}
+
 // A made day of 36 nodes, 120 segments, 30 spans, 4 trucks, three analysts, an engineer and 100 commands, run on threads: its
 // journal is read back and printed again, and in it each actor's commands stand once in their order.
 #[test]
 fn runs_a_made_day_and_reads_it_back(rt: HostRuntime) -> Result<(), Fail> {
-    let alloc = rt.alloc();
-    let words = ["make", "--seed", "7", "--size", "5"];
-    let (made, input) = output_of(&rt, &words, Vec::new(alloc))?;
-    assert_eq!(rt; made, 0);
-    let (status, journal) = output_of(&rt, &["day"], input.as_slice().to_vec(alloc)?)?;
-    assert_eq!(rt; status, 0);
-    let history = read(alloc, journal.as_slice())?;
-    assert_eq!(rt; print(alloc, &history)?.as_slice(), journal.as_slice());
-    let file = read_day(alloc, input.as_slice())?;
+    let made = run_words(&rt, &["make", "--seed", "7", "--size", "5"], &[], &[], &[])?;
+    assert_eq!(rt; made.status, 0);
+    let ran = run_words(&rt, &["day"], made.text.as_slice(), &[], &[])?;
+    assert_eq!(rt; ran.status, 0);
+    let history = read_back(&rt, rt.alloc(), ran.text.as_slice())?;
+    let file = read_day(rt.alloc(), made.text.as_slice())?;
     assert_eq!(rt; file.commands().len(), 100);
-    for actor in 0..4u32 {
-        assert!(rt;
-            has_carried_out(&history, file.commands(), actor),
-            "actor {actor}"
-        );
-    }
-    for entry in &history {
-        assert!(rt; entry.caller < 4);
-    }
+    assert!(rt; have_carried_out(&history, file.commands()));
     drop(file);
     Ok(())
 }
@@ -119,17 +102,24 @@ fn records_of(text: &[u8], kind: &[u8]) -> usize {
 // On one thread nothing comes between a look at the roads and its submit: a posting is one entry and an application two.
 #[test]
 fn sums_up_a_made_day(rt: HostRuntime) -> Result<(), Fail> {
-    let alloc = rt.alloc();
-    let (made, day) = output_of(&rt, &["make"], Vec::new(alloc))?;
-    let (status, summary) = output_of(&rt, &["trial"], Vec::new(alloc))?;
-    let (again, same) = output_of(&rt, &["trial", "--seed=1", "--size=1"], Vec::new(alloc))?;
-    assert_eq!(rt; (made, status, again), (0, 0, 0));
-    assert_eq!(rt; same.as_slice(), summary.as_slice());
-    let posts = records_of(day.as_slice(), b"post,");
-    let applies = records_of(day.as_slice(), b"apply,");
+    let day = run_words(&rt, &["make"], &[], &[], &[])?;
+    let summed = run_words(&rt, &["trial"], &[], &[], &[])?;
+    assert_eq!(rt; (day.status, summed.status), (0, 0));
+    let posts = records_of(day.text.as_slice(), b"post,");
+    let applies = records_of(day.text.as_slice(), b"apply,");
     assert_eq!(rt; (posts <= 20, applies <= 20), (true, true));
-    let first = format!(in alloc; "entries {}\n", posts + 2 * applies)?;
-    assert!(rt; summary.starts_with(first.as_bytes()));
-    assert_eq!(rt; records_of(summary.as_slice(), b""), 8);
+    let first = format!(in rt.alloc(); "entries {}\n", posts + 2 * applies)?;
+    assert!(rt; summed.text.starts_with(first.as_bytes()));
+    assert_eq!(rt; records_of(summed.text.as_slice(), b""), 8);
+    Ok(())
+}
+
+// A seed and a size of 1 are what no words ask for.
+#[test]
+fn sums_up_the_same_day(rt: HostRuntime) -> Result<(), Fail> {
+    let one = run_words(&rt, &["trial"], &[], &[], &[])?;
+    let other = run_words(&rt, &["trial", "--seed=1", "--size=1"], &[], &[], &[])?;
+    assert_eq!(rt; (one.status, other.status), (0, 0));
+    assert_eq!(rt; one.text.as_slice(), other.text.as_slice());
     Ok(())
 }

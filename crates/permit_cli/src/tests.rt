@@ -2,9 +2,10 @@ use crate::add;
 use crate::days::{DAYS, MEETING, NO_LEAP_DAY, RECALLING};
 use crate::run::{Alone, run, run_alone};
 use analyst_pool::{Gate, OpenGate};
-use notice_desk::{MemoryNotice, Subscribers};
+use notice_desk::{MemoryNotice, Recall, Subscribers};
 use office_io::{MemorySink, MemorySource};
 use std::alloc::Global;
+use std::process::Abort;
 use std::sync::Wait;
 use std::test::Fail;
 use std::thread::Threads;
@@ -29,7 +30,7 @@ pub(crate) struct Ran {
 }
 
 // Runs the words over an input, of which some reads fail, and a sink of which some writes fail.
-fn run_words<R: Threads + Wait + AllocGlobal + Sync>(
+pub(crate) fn run_words<R: Threads + Wait + AllocGlobal + Sync>(
     rt: &R,
     words: &[&str],
     input: &[u8],
@@ -50,7 +51,7 @@ pub(crate) fn run_at<R: Threads + Wait + AllocGlobal + Sync, G: Gate + Sync>(
     gate: &G,
 ) -> Result<Ran, Fail> {
     let mut source = MemorySource::new(input.to_vec(rt.alloc())?, reads.to_vec(rt.alloc())?);
-    let mut sink = MemorySink::new(rt.alloc(), 100_000, writes.to_vec(rt.alloc())?)?;
+    let mut sink = MemorySink::new(rt.alloc(), 200_000, writes.to_vec(rt.alloc())?)?;
     let mut nobody = Subscribers::new(rt.alloc());
     let words = list_of(rt.alloc(), words)?;
     let status = run(rt, &words, &mut source, &mut sink, &mut nobody, gate);
@@ -58,6 +59,12 @@ pub(crate) fn run_at<R: Threads + Wait + AllocGlobal + Sync, G: Gate + Sync>(
         status,
         text: sink.bytes().to_vec(rt.alloc())?,
     })
+}
+
+// That a run ends with this status and writes this text, which the input is given for.
+fn same(rt: &impl Abort, ran: &Ran, status: u8, text: &str) {
+    assert_eq!(rt; ran.status, status, "{text}");
+    assert_eq!(rt; ran.text.as_slice(), text.as_bytes(), "{text}");
 }
 
 // The words in a list.
@@ -85,8 +92,7 @@ fn reports_trucks_and_probes(rt: HostRuntime) -> Result<(), Fail> {
     ];
     for (input, output) in rows {
         let ran = run_words(&rt, &["check"], input.as_bytes(), &[], &[])?;
-        assert_eq!(rt; ran.status, 0, "{input}");
-        assert_eq!(rt; ran.text.as_slice(), output.as_bytes(), "{input}");
+        same(&rt, &ran, 0, output);
     }
     Ok(())
 }
@@ -96,8 +102,7 @@ fn reports_trucks_and_probes(rt: HostRuntime) -> Result<(), Fail> {
 fn writes_journals_of_days(rt: HostRuntime) -> Result<(), Fail> {
     for (input, output) in DAYS {
         let ran = run_words(&rt, &["day"], input.as_bytes(), &[], &[])?;
-        assert_eq!(rt; ran.status, 0, "{input}");
-        assert_eq!(rt; ran.text.as_slice(), output.as_bytes(), "{input}");
+        same(&rt, &ran, 0, output);
     }
     Ok(())
 }
@@ -125,14 +130,18 @@ fn refuses_what_is_no_file(rt: HostRuntime) -> Result<(), Fail> {
     ];
     for (word, input, status, line) in rows {
         let ran = run_words(&rt, &[word], input, &[], &[])?;
-        assert_eq!(rt; ran.status, status, "{line}");
-        assert_eq!(rt; ran.text.as_slice(), line.as_bytes(), "{line}");
+        same(&rt, &ran, status, line);
     }
+    Ok(())
+}
+
+// One byte more than a file may have.
+#[test]
+fn refuses_too_many_bytes(rt: HostRuntime) -> Result<(), Fail> {
     for word in ["check", "day"] {
         let input = vec![in rt.alloc(); b'x'; 4_194_305]?;
         let ran = run_words(&rt, &[word], input.as_slice(), &[], &[])?;
-        assert_eq!(rt; ran.status, 6);
-        assert_eq!(rt; ran.text.as_slice(), b"refused: bytes\n".as_slice());
+        same(&rt, &ran, 6, "refused: bytes\n");
     }
     Ok(())
 }
@@ -169,39 +178,56 @@ fn says_how_it_is_used(rt: HostRuntime) -> Result<(), Fail> {
     ];
     for words in rows {
         let ran = run_words(&rt, words, FHWA.as_bytes(), &[], &[])?;
-        assert_eq!(rt; ran.status, 2);
-        assert_eq!(rt; ran.text.as_slice(), USAGE.as_bytes());
+        same(&rt, &ran, 2, USAGE);
     }
     let ran = run_words(&rt, &["--size", "2", "check"], FHWA.as_bytes(), &[], &[])?;
     assert_eq!(rt; ran.status, 0);
     Ok(())
 }
 
-// A day in which a posting recalls permit 1, of a carrier ACME: who hears of all recalls is told of it, after the whole
-// journal was written. Where that fails the status is 8, and the journal stands.
-#[test]
+// Runs a day, of whose recalls one object is told whose calls of these numbers fail: how the run ended, and what was heard.
 #[tactic(auto, using(notice_desk::proofs::Ready::none_new))]
-fn tells_of_recalls(rt: HostRuntime) -> Result<(), Fail> {
+fn hear<R: Abort + Threads + Wait + AllocGlobal + Sync>(
+    rt: &R,
+    input: &str,
+    failing: &[u32],
+) -> Result<(Ran, Vec<Recall>), Fail> {
     let alloc = rt.alloc();
+    let mut notices = Subscribers::new(alloc);
+    let notice = MemoryNotice::new(alloc, 4, failing.to_vec(alloc)?)?;
+    assert!(rt; add(&mut notices, Box::new(alloc, notice)?));
+    let mut source = MemorySource::new(input.as_bytes().to_vec(alloc)?, Vec::new(alloc));
+    let mut sink = MemorySink::new(alloc, 100_000, Vec::new(alloc))?;
+    let words = list_of(alloc, &["day"])?;
+    let status = run(rt, &words, &mut source, &mut sink, &mut notices, &OpenGate);
+    assert_eq!(rt; notices.len(), 1);
+    let heard = notices.told(0).ok_or("it tells its list")?.to_vec(alloc)?;
+    let text = sink.bytes().to_vec(alloc)?;
+    Ok((Ran { status, text }, heard))
+}
+
+// A day in which a posting recalls permit 1, of a carrier ACME: who hears of all recalls is told of it, after the whole
+// journal was written.
+#[test]
+fn tells_of_recalls(rt: HostRuntime) -> Result<(), Fail> {
     let (input, output) = DAYS[RECALLING];
-    for (failing, status, told) in [([].as_slice(), 0, 1), ([1].as_slice(), 8, 0)] {
-        let mut notices = Subscribers::new(alloc);
-        let notice = MemoryNotice::new(alloc, 4, failing.to_vec(alloc)?)?;
-        assert!(rt; add(&mut notices, Box::new(alloc, notice)?));
-        let mut source = MemorySource::new(input.as_bytes().to_vec(alloc)?, Vec::new(alloc));
-        let mut sink = MemorySink::new(alloc, 100_000, Vec::new(alloc))?;
-        let words = list_of(alloc, &["day"])?;
-        let ended = run(&rt, &words, &mut source, &mut sink, &mut notices, &OpenGate);
-        assert_eq!(rt; ended, status);
-        assert_eq!(rt; sink.bytes(), output.as_bytes());
-        assert_eq!(rt; notices.len(), 1);
-        let heard = notices.told(0).ok_or("it tells its list")?;
-        assert_eq!(rt; heard.len(), told);
-        for recall in heard {
-            assert_eq!(rt; (recall.permit, recall.version), (1, 1));
-            assert_eq!(rt; recall.carrier.as_bytes(), b"ACME".as_slice());
-        }
+    let (ran, heard) = hear(&rt, input, &[])?;
+    same(&rt, &ran, 0, output);
+    assert_eq!(rt; heard.len(), 1);
+    for recall in &heard {
+        assert_eq!(rt; (recall.permit, recall.version), (1, 1));
+        assert_eq!(rt; recall.carrier.as_bytes(), b"ACME".as_slice());
     }
+    Ok(())
+}
+
+// Where it can't be told the status is 8, and the journal stands.
+#[test]
+fn ends_with_8_where_nobody_hears(rt: HostRuntime) -> Result<(), Fail> {
+    let (input, output) = DAYS[RECALLING];
+    let (ran, heard) = hear(&rt, input, &[1])?;
+    same(&rt, &ran, 8, output);
+    assert!(rt; heard.is_empty());
     Ok(())
 }
 
@@ -227,33 +253,41 @@ fn lines_like(text: &[u8], wanted: &str) -> usize {
     count
 }
 
-// Sixteen actors, of whom the odd ones ask for a permit that nobody has and the others ask for nothing; and no actor at all.
-#[test]
-fn runs_sixteen_actors_and_none(rt: HostRuntime) -> Result<(), Fail> {
-    let alloc = rt.alloc();
+// A day of sixteen actors, of whom those of even index ask for a permit that nobody has and the others ask for nothing.
+fn sixteen(alloc: Global) -> Result<String, Fail> {
     let mut input = "day,2026-03-02,,,,,,\n".to_string(alloc)?;
     for actor in 1..17u32 {
         input.push_str(format!(in alloc; "actor,a{actor},,,,,,\n")?.as_str())?;
     }
-    for actor in 0..8u32 {
-        let odd = 2 * actor + 1;
-        input.push_str(format!(in alloc; "show,a{odd},0,,,,,\n")?.as_str())?;
+    for k in 0..8u32 {
+        input.push_str(format!(in alloc; "show,a{},0,,,,,\n", 2 * k + 1)?.as_str())?;
     }
     input.push_str("end,,,,,,,\n")?;
-    let ran = run_words(&rt, &["day"], input.as_bytes(), &[], &[])?;
+    Ok(input)
+}
+
+#[test]
+fn runs_sixteen_actors(rt: HostRuntime) -> Result<(), Fail> {
+    let alloc = rt.alloc();
+    let ran = run_words(&rt, &["day"], sixteen(alloc)?.as_bytes(), &[], &[])?;
     assert_eq!(rt; ran.status, 0);
-    for actor in 0..8u32 {
-        let odd = 2 * actor + 1;
-        let line = format!(in alloc; "{odd} show 0 = unknown")?;
-        assert_eq!(rt; lines_like(&ran.text, line.as_str()), 1, "{line}");
+    for k in 0..8u32 {
+        let line = format!(in alloc; "{} show 0 = unknown", 2 * k + 1)?;
+        assert_eq!(rt; lines_like(&ran.text, line.as_str()), 1);
     }
     assert_eq!(rt; lines_like(&ran.text, "end 8"), 1);
-    let none = "day,2026-03-02,,,,,,\nend,,,,,,,\n";
-    let ran = run_words(&rt, &["day"], none.as_bytes(), &[], &[])?;
-    assert_eq!(rt; ran.status, 0);
-    assert_eq!(rt;
-        ran.text.as_slice(),
-        b"permit-journal 1\nend 0\n".as_slice()
-    );
+    Ok(())
+}
+
+#[test]
+fn runs_no_actor(rt: HostRuntime) -> Result<(), Fail> {
+    let ran = run_words(
+        &rt,
+        &["day"],
+        b"day,2026-03-02,,,,,,\nend,,,,,,,\n",
+        &[],
+        &[],
+    )?;
+    same(&rt, &ran, 0, "permit-journal 1\nend 0\n");
     Ok(())
 }
