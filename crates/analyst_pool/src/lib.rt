@@ -22,6 +22,3 @@ pub use gate::{Gate, OpenGate};
 pub use laws::{runs_are_one, scripts_are_short, unfoldings_are_short};
 pub use room::most_entries;
 pub use worker::{Outcome, Worker, run_actors};
-
-#[cfg(test)]
-mod tests;

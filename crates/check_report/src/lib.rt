@@ -10,6 +10,3 @@
 mod writing;
 
 pub use writing::{report, report_is_one};
-
-#[cfg(test)]
-mod tests;

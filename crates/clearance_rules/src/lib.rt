@@ -23,6 +23,3 @@ pub use limit::Limit;
 pub use load::{Load, Range, is_cross_section, is_length};
 pub use met_limits::meets;
 pub use steps::Steps;
-
-#[cfg(test)]
-mod tests;

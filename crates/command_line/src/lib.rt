@@ -16,6 +16,3 @@ pub use laws::{
     four_words_ask_for_their_tasks, no_words_and_help_ask_for_nothing, what_asks_is_accepted,
 };
 pub use reading::read_words;
-
-#[cfg(test)]
-mod tests;

@@ -16,6 +16,3 @@ mod traffic;
 
 pub use day::make_day;
 pub use laws::made_days_are_accepted;
-
-#[cfg(test)]
-mod tests;

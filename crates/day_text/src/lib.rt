@@ -31,6 +31,3 @@ pub use day_file::{DayFile, read_day};
 pub use orders::Order;
 pub use record_text::{Kind, RecordCause};
 pub use refusal::DayFileRefusal;
-
-#[cfg(test)]
-mod tests;

@@ -13,6 +13,3 @@ mod telling;
 pub use laws::serial_histories_are_one;
 pub use serving::serve_in_order;
 pub use telling::summary;
-
-#[cfg(test)]
-mod tests;

@@ -24,8 +24,3 @@ pub use laws::{
 };
 pub use reading::read;
 pub use refusal::JournalRefusal;
-
-#[cfg(test)]
-mod printed;
-#[cfg(test)]
-mod tests;

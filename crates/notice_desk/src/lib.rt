@@ -19,6 +19,3 @@ pub use laws::{deliveries_go_on, deliveries_resume, deliveries_resume_without, n
 pub use memory::MemoryNotice;
 pub use notice::{Notice, Recall, Whom};
 pub use subscribers::{NoticeFault, Returned, Subscribers};
-
-#[cfg(test)]
-mod tests;

@@ -22,6 +22,3 @@ mod seat;
 pub use desk::{Desk, Pass, Root};
 pub use desked::Desked;
 pub use seat::Seat;
-
-#[cfg(test)]
-mod tests;

@@ -19,6 +19,3 @@ pub use refusal::{Failed, NoMemory};
 pub use sink::{Sink, WriteFault, write_all};
 pub use source::{ReadRefusal, Source, read_all};
 pub use standard::{StdSink, StdSource};
-
-#[cfg(test)]
-mod tests;

@@ -15,6 +15,3 @@ mod refusal;
 pub use book::Book;
 pub use permit::{Mark, Permit, Status};
 pub use refusal::BookRefusal;
-
-#[cfg(test)]
-mod tests;

@@ -15,6 +15,3 @@ mod refusal;
 pub use day::Day;
 pub use laws::{days_follow_the_calendar, days_follow_their_numbers, every_day_reads_back};
 pub use refusal::DayRefusal;
-
-#[cfg(test)]
-mod tests;

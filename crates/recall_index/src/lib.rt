@@ -15,6 +15,3 @@ mod users;
 
 pub use index::Index;
 pub use laws::using_is_a_filter;
-
-#[cfg(test)]
-mod tests;

@@ -23,6 +23,3 @@ pub use posted::{Posted, parse_posted, parse_what};
 pub use records::{Progress, is_blank_from, read_records};
 pub use refusal::{Cause, FileRefusal, Kind, RecordCause, RecordRefusal};
 pub use route::{Route, parse_route};
-
-#[cfg(test)]
-mod tests;

@@ -10,6 +10,3 @@ mod line;
 
 pub use line::{refusal_line, refusal_lines_differ, refusal_status};
 pub use record_text::{Cause, Kind, RecordCause};
-
-#[cfg(test)]
-mod tests;

@@ -28,6 +28,3 @@ pub use log::Log;
 pub use refusal::PostRefusal;
 pub use stamps::Stamps;
 pub use state::State;
-
-#[cfg(test)]
-mod tests;

@@ -22,6 +22,3 @@ pub use numbers::Numbers;
 pub use refusal::AddRefusal;
 pub use segment::{Arrival, Segment, Span};
 pub use values::{Values, What};
-
-#[cfg(test)]
-mod tests;

@@ -30,6 +30,3 @@ pub use found::{Found, Potentials};
 pub use heights::Heights;
 pub use laws::{cuts_hold, findings_are_one, potentials_certify};
 pub use shortest::Shortest;
-
-#[cfg(test)]
-mod tests;

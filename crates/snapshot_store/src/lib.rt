@@ -16,6 +16,3 @@ mod store;
 pub use next::Next;
 pub use snapshot::Snapshot;
 pub use store::Store;
-
-#[cfg(test)]
-mod tests;

@@ -36,6 +36,3 @@ pub use laws::{
 pub use leaving::{first_meeting_out, next_leaving};
 pub use passing::{failing_limit, first_on, is_passable};
 pub use refusal::ApplicationRefusal;
-
-#[cfg(test)]
-mod tests;

@@ -1,6 +1,0 @@
-use Rattle.std.proofs.Common.{All}
-use Rattle.office_core.specs.Commands.{MayCarryOut}
-use Rattle.analyst_pool.proofs.tests.script.Given as goal
-
-abbrev pub invariant-loop-kind : goal.invariant-loop-kind
-invariant-loop-kind g l = All (MayCarryOut l.base) l.script.items

@@ -1,5 +1,0 @@
-use Rattle.restriction_log.specs.States.{AreOf}
-use Rattle.clearance_rules.proofs.tests.state_after.Given as goal
-
-abbrev pub invariant-changes : goal.invariant-changes
-invariant-changes g l = AreOf l.network l.state

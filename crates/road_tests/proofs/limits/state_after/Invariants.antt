@@ -1,0 +1,5 @@
+use Rattle.restriction_log.specs.States.{AreOf}
+use Rattle.road_tests.proofs.limits.state_after.Given as goal
+
+abbrev pub invariant-changes : goal.invariant-changes
+invariant-changes g l = AreOf l.network l.state

@@ -1,0 +1,462 @@
+use crate::fixtures::{named, same};
+use office_io::Name;
+use road_graph::{AddRefusal, Arrival, Network, Numbers, Segment, Span, Values, What};
+use std::alloc::Global;
+use std::process::Abort;
+use std::test::Fail;
+
+// Each table goes to a function that takes the network by reference, and each network is let go by a call of
+// `drop`: where a scope lets it go, the proof of the whole function goes through its parts.
+
+// The last digit of a number.
+fn last_digit(number: u32) -> u8 {
+    b'0' + (number % 10) as u8
+}
+
+// The name of a number, of five digits.
+fn numbered(rt: &impl Abort, number: u32) -> Name {
+    let digits = [
+        last_digit(number / 10_000),
+        last_digit(number / 1_000),
+        last_digit(number / 100),
+        last_digit(number / 10),
+        last_digit(number),
+    ];
+    named(rt, &digits)
+}
+
+// The name of a node.
+type Node = &'static [u8];
+
+// The name of a segment, from, to, feet.
+type Road = (&'static [u8], u32, u32, u32);
+
+// The name of a span, its segment, inches, rating.
+type Bridge = (&'static [u8], u32, u32, u32);
+
+// A segment, which of its limits, the value.
+type Posted = (u32, What, u32);
+
+// The number of what was added, or why it was not.
+type Answer = Result<u32, AddRefusal>;
+
+// A limit was set, or why it was not.
+type Taken = Result<(), AddRefusal>;
+
+fn add_node(rt: &impl Abort, network: &mut Network, name: Node) -> Answer {
+    network.add_node(named(rt, name))
+}
+
+fn add_segment(rt: &impl Abort, network: &mut Network, road: &Road) -> Answer {
+    let &(name, from, to, feet) = road;
+    network.add_segment(named(rt, name), from, to, feet)
+}
+
+fn add_span(rt: &impl Abort, network: &mut Network, bridge: &Bridge) -> Answer {
+    let &(name, segment, inches, rating) = bridge;
+    network.add_span(named(rt, name), segment, inches, rating)
+}
+
+// The two nodes a and b, these segments and these spans.
+fn built(rt: &impl Abort, alloc: Global, segments: &[Road], spans: &[Bridge]) -> Network {
+    let mut network = Network::new(alloc);
+    for name in [b"a", b"b"] {
+        same(rt, 0, &add_node(rt, &mut network, name).is_ok(), &true);
+    }
+    for road in segments {
+        same(rt, 1, &add_segment(rt, &mut network, road).is_ok(), &true);
+    }
+    for bridge in spans {
+        same(rt, 2, &add_span(rt, &mut network, bridge).is_ok(), &true);
+    }
+    network
+}
+
+// A segment there, and a span on it.
+fn small(rt: &impl Abort, alloc: Global) -> Network {
+    built(rt, alloc, &[(b"ab", 0, 1, 5_280)], &[(b"s", 0, 360, 1_000)])
+}
+
+// The same with the way back, a second way there and a loop at b, and a span more on each of two segments.
+fn grown(rt: &impl Abort, alloc: Global) -> Network {
+    built(
+        rt,
+        alloc,
+        &[
+            (b"ab", 0, 1, 5_280),
+            (b"ba", 1, 0, 100),
+            (b"way-2", 0, 1, 200),
+            (b"loop", 1, 1, 300),
+        ],
+        &[
+            (b"s", 0, 360, 1_000),
+            (b"t", 2, 480, 900),
+            (b"u", 0, 600, 800),
+        ],
+    )
+}
+
+fn add_nodes(rt: &impl Abort, network: &mut Network, cases: &[(Node, Answer)]) {
+    for (row, (name, answer)) in cases.iter().enumerate() {
+        same(rt, row, &add_node(rt, network, name), answer);
+    }
+}
+
+#[test]
+fn refuses_a_node_by_the_first_cause_that_applies(rt: HostRuntime) {
+    let mut network = small(&rt, rt.alloc());
+    add_nodes(
+        &rt,
+        &mut network,
+        &[
+            (b"a", Err(AddRefusal::SameName)),
+            (b"b", Err(AddRefusal::SameName)),
+            (b"c", Ok(2)),
+            (b"c", Err(AddRefusal::SameName)),
+            // a segment and a span may have the name of a node
+            (b"s", Ok(3)),
+        ],
+    );
+    drop(network);
+}
+
+fn add_segments(rt: &impl Abort, network: &mut Network, cases: &[(Road, Answer)]) {
+    for (row, (road, answer)) in cases.iter().enumerate() {
+        same(rt, row, &add_segment(rt, network, road), answer);
+    }
+}
+
+#[test]
+fn refuses_a_segment_by_the_first_cause_that_applies(rt: HostRuntime) {
+    let mut network = small(&rt, rt.alloc());
+    add_segments(
+        &rt,
+        &mut network,
+        &[
+            ((b"ab", 2, 2, 0), Err(AddRefusal::SameName)),
+            ((b"ba", 2, 0, 0), Err(AddRefusal::UnknownNode)),
+            ((b"ba", 0, 2, 0), Err(AddRefusal::UnknownNode)),
+            ((b"ba", 1, 0, 0), Err(AddRefusal::Range)),
+            ((b"ba", 1, 0, 10_000_001), Err(AddRefusal::Range)),
+            ((b"ba", 1, 0, 10_000_000), Ok(1)),
+            ((b"aa", 0, 0, 1), Ok(2)),
+        ],
+    );
+    drop(network);
+}
+
+fn add_spans(rt: &impl Abort, network: &mut Network, cases: &[(Bridge, Answer)]) {
+    for (row, (bridge, answer)) in cases.iter().enumerate() {
+        same(rt, row, &add_span(rt, network, bridge), answer);
+    }
+}
+
+#[test]
+fn refuses_a_span_by_the_first_cause_that_applies(rt: HostRuntime) {
+    let mut network = small(&rt, rt.alloc());
+    add_spans(
+        &rt,
+        &mut network,
+        &[
+            ((b"s", 1, 0, 0), Err(AddRefusal::SameName)),
+            ((b"t", 1, 0, 100_001), Err(AddRefusal::UnknownSegment)),
+            ((b"t", 0, 0, 0), Err(AddRefusal::Range)),
+            ((b"t", 0, 6_001, 0), Err(AddRefusal::Range)),
+            ((b"t", 0, 1, 100_001), Err(AddRefusal::Range)),
+            ((b"t", 0, 6_000, 100_000), Ok(1)),
+            ((b"u", 0, 1, 0), Ok(2)),
+        ],
+    );
+    drop(network);
+}
+
+fn set_limits(rt: &impl Abort, network: &mut Network, cases: &[(Posted, Taken)]) {
+    for (row, &((segment, what, value), answer)) in cases.iter().enumerate() {
+        same(rt, row, &network.set_limit(segment, what, value), &answer);
+    }
+}
+
+#[test]
+fn refuses_a_limit_by_the_first_cause_that_applies(rt: HostRuntime) {
+    let mut network = small(&rt, rt.alloc());
+    set_limits(
+        &rt,
+        &mut network,
+        &[
+            ((1, What::Height, 0), Err(AddRefusal::UnknownSegment)),
+            ((0, What::Closed, 2), Err(AddRefusal::Range)),
+            ((0, What::Closed, 1), Ok(())),
+            ((0, What::Height, 0), Err(AddRefusal::Range)),
+            ((0, What::Height, 999), Ok(())),
+            ((0, What::Height, 1_000), Err(AddRefusal::Range)),
+            ((0, What::Width, 0), Err(AddRefusal::Range)),
+            ((0, What::Width, 1_000), Err(AddRefusal::Range)),
+            ((0, What::Length, 0), Err(AddRefusal::Range)),
+            ((0, What::Length, 9_999), Ok(())),
+            ((0, What::Length, 10_000), Err(AddRefusal::Range)),
+            ((0, What::Gross, 0), Err(AddRefusal::Range)),
+            ((0, What::Gross, 2_000_001), Err(AddRefusal::Range)),
+            ((0, What::Allowance, 0), Ok(())),
+            ((0, What::Allowance, 100_001), Err(AddRefusal::Range)),
+        ],
+    );
+    drop(network);
+}
+
+// A name, and the numbers of its node, its segment and its span.
+type Numbered = (&'static [u8], [Option<u32>; 3]);
+
+fn find_each(rt: &impl Abort, network: &Network, cases: &[Numbered]) {
+    for (row, &(name, numbers)) in cases.iter().enumerate() {
+        let name = named(rt, name);
+        let found = [
+            network.node_named(&name),
+            network.segment_named(&name),
+            network.span_named(&name),
+        ];
+        same(rt, row, &found, &numbers);
+    }
+}
+
+#[test]
+fn finds_each_name_among_its_kind(rt: HostRuntime) {
+    let network = grown(&rt, rt.alloc());
+    find_each(
+        &rt,
+        &network,
+        &[
+            (b"a", [Some(0), None, None]),
+            (b"b", [Some(1), None, None]),
+            (b"ab", [None, Some(0), None]),
+            (b"way-2", [None, Some(2), None]),
+            (b"loop", [None, Some(3), None]),
+            (b"s", [None, None, Some(0)]),
+            (b"u", [None, None, Some(2)]),
+            (b"way-3", [None, None, None]),
+        ],
+    );
+    drop(network);
+}
+
+fn tell_segment(rt: &impl Abort, segment: Segment, name: &[u8], ends: (u32, u32), feet: u32) {
+    same(rt, 0, &segment.name, &named(rt, name));
+    same(rt, 1, &(segment.from, segment.to), &ends);
+    same(rt, 2, &segment.feet, &feet);
+    same(rt, 3, &segment.base, &Values::default());
+}
+
+fn tell_span(rt: &impl Abort, span: Span, name: &[u8], numbers: (u32, u32, u32)) {
+    same(rt, 0, &span.name, &named(rt, name));
+    same(rt, 1, &(span.segment, span.inches, span.rating), &numbers);
+}
+
+fn tell(rt: &impl Abort, network: &Network) {
+    assert!(rt; network.nodes() == 2);
+    assert!(rt; network.segments() == 4);
+    assert!(rt; network.spans() == 3);
+    tell_segment(rt, network.segment(3), b"loop", (1, 1), 300);
+    tell_span(rt, network.span(1), b"t", (2, 480, 900));
+}
+
+#[test]
+fn tells_segments_and_spans_by_number(rt: HostRuntime) {
+    let network = grown(&rt, rt.alloc());
+    tell(&rt, &network);
+    drop(network);
+}
+
+fn has_set(rt: &impl Abort, network: &Network, segment: u32, values: &Values) {
+    assert!(rt; segment < network.segments());
+    same(rt, segment as usize, &network.segment(segment).base, values);
+}
+
+#[test]
+fn sets_one_limit_and_leaves_the_others(rt: HostRuntime) {
+    let mut network = grown(&rt, rt.alloc());
+    set_limits(
+        &rt,
+        &mut network,
+        &[
+            ((0, What::Height, 168), Ok(())),
+            ((0, What::Closed, 1), Ok(())),
+            ((0, What::Closed, 0), Ok(())),
+            ((0, What::Gross, 120_000), Ok(())),
+        ],
+    );
+    same(&rt, 0, &network.segments(), &4);
+    let values = Values {
+        closed: false,
+        height: 168,
+        width: 999,
+        length: 9_999,
+        gross: 120_000,
+        allowance: 100_000,
+    };
+    has_set(&rt, &network, 0, &values);
+    has_set(&rt, &network, 1, &Values::default());
+    drop(network);
+}
+
+// Segment, the node where it begins, feet.
+type Came = (u32, u32, u32);
+
+// What begins and ends at a node.
+fn meets(rt: &impl Abort, network: &Network, node: u32, outgoing: &[u32], incoming: &[Came]) {
+    assert!(rt; node < network.nodes());
+    same(rt, 0, &network.outgoing(node), &outgoing);
+    let arrivals = network.incoming(node);
+    same(rt, 1, &arrivals.len(), &incoming.len());
+    for (arrival, &(segment, from, feet)) in arrivals.iter().zip(incoming) {
+        let wanted = Arrival {
+            segment,
+            from,
+            feet,
+        };
+        same(rt, 2, arrival, &wanted);
+    }
+}
+
+fn carries(rt: &impl Abort, network: &Network, segment: u32, spans: &[u32]) {
+    assert!(rt; segment < network.segments());
+    same(rt, segment as usize, &network.spans_of(segment), &spans);
+}
+
+#[test]
+fn lists_what_begins_and_ends_at_a_node_and_what_a_segment_carries(rt: HostRuntime) {
+    let network = grown(&rt, rt.alloc());
+    meets(&rt, &network, 0, &[0, 2], &[(1, 1, 100)]);
+    meets(
+        &rt,
+        &network,
+        1,
+        &[1, 3],
+        &[(0, 0, 5_280), (2, 0, 200), (3, 1, 300)],
+    );
+    carries(&rt, &network, 0, &[0, 2]);
+    carries(&rt, &network, 1, &[]);
+    carries(&rt, &network, 2, &[1]);
+    carries(&rt, &network, 3, &[]);
+    drop(network);
+}
+
+#[test]
+fn has_room_for_4096_nodes(rt: HostRuntime) {
+    let mut network = small(&rt, rt.alloc());
+    for number in 2..4_096 {
+        assert!(rt; network.add_node(numbered(&rt, number)) == Ok(number));
+    }
+    add_nodes(
+        &rt,
+        &mut network,
+        &[
+            (b"c", Err(AddRefusal::TooMany)),
+            (b"a", Err(AddRefusal::SameName)),
+        ],
+    );
+    same(
+        &rt,
+        2,
+        &network.node_named(&numbered(&rt, 4_095)),
+        &Some(4_095),
+    );
+    drop(network);
+}
+
+#[test]
+fn has_room_for_16384_segments(rt: HostRuntime) {
+    let mut network = small(&rt, rt.alloc());
+    for number in 1..16_384 {
+        let added = network.add_segment(numbered(&rt, number), number % 2, 0, 1);
+        assert!(rt; added == Ok(number));
+    }
+    add_segments(
+        &rt,
+        &mut network,
+        &[
+            ((b"c", 0, 0, 1), Err(AddRefusal::TooMany)),
+            ((b"c", 0, 0, 0), Err(AddRefusal::Range)),
+        ],
+    );
+    same(
+        &rt,
+        2,
+        &network.segment_named(&numbered(&rt, 16_383)),
+        &Some(16_383),
+    );
+    drop(network);
+}
+
+// Adds the spans of these numbers, each to the segment of a sixteenth of its number.
+fn add_numbered_spans(rt: &impl Abort, network: &mut Network, first: u32, end: u32) {
+    for number in first..end {
+        let added = network.add_span(numbered(rt, number), number / 16, 1, 0);
+        assert!(rt; added == Ok(number));
+    }
+}
+
+#[test]
+fn has_room_for_2048_spans_and_16_on_a_segment(rt: HostRuntime) {
+    let mut network = small(&rt, rt.alloc());
+    for number in 1..130 {
+        let added = network.add_segment(numbered(&rt, number), 0, 0, 1);
+        assert!(rt; added == Ok(number));
+    }
+    add_numbered_spans(&rt, &mut network, 1, 16);
+    add_spans(
+        &rt,
+        &mut network,
+        &[((b"t", 0, 1, 0), Err(AddRefusal::TooMany))],
+    );
+    add_numbered_spans(&rt, &mut network, 16, 2_048);
+    add_spans(
+        &rt,
+        &mut network,
+        &[((b"t", 129, 1, 0), Err(AddRefusal::TooMany))],
+    );
+    same(
+        &rt,
+        2,
+        &network.span_named(&numbered(&rt, 2_047)),
+        &Some(2_047),
+    );
+    drop(network);
+}
+
+fn hands_back(rt: &impl Abort, alloc: Global, list: &[u32]) -> Result<(), Fail> {
+    let numbers = Numbers::of(list.to_vec(alloc)?);
+    let copy = numbers.try_clone(alloc)?;
+    same(rt, 0, &copy.as_slice(), &list);
+    same(rt, 1, &numbers.into_vec().as_slice(), &list);
+    Ok(())
+}
+
+#[test]
+fn hands_numbers_back_as_they_were(rt: HostRuntime) -> Result<(), Fail> {
+    hands_back(&rt, rt.alloc(), &[])?;
+    hands_back(&rt, rt.alloc(), &[7])?;
+    hands_back(&rt, rt.alloc(), &[3, 3, 4_294_967_295])
+}
+
+fn names(rt: &impl Abort, alloc: Global, cases: &[(AddRefusal, &str)]) -> Result<(), Fail> {
+    for (row, (refusal, text)) in cases.iter().enumerate() {
+        let named = format!(in alloc; "{refusal}")?;
+        same(rt, row, &named.as_str(), text);
+    }
+    Ok(())
+}
+
+#[test]
+fn names_each_cause(rt: HostRuntime) -> Result<(), Fail> {
+    names(
+        &rt,
+        rt.alloc(),
+        &[
+            (AddRefusal::SameName, "the name is taken"),
+            (AddRefusal::UnknownNode, "there is no such node"),
+            (AddRefusal::UnknownSegment, "there is no such segment"),
+            (AddRefusal::Range, "a value is out of range"),
+            (AddRefusal::TooMany, "there are too many"),
+            (AddRefusal::NoMemory, "out of memory"),
+        ],
+    )
+}

@@ -1,0 +1,232 @@
+use journal_reader::{JournalRefusal, read};
+use journal_text::print;
+use std::alloc::Global;
+use std::process::Abort;
+use std::test::Fail;
+
+// A day of one application.
+const ONE_TRIP: &str = "permit-journal 1
+1 snapshot = at 0
+1 submit truck 1 from 1 to 2 asked none days 2026-03-02 2026-03-06 seen 0 route 1 = issued 1 at 0 route 1
+end 2
+";
+
+// What the files of `examples/` give.
+const BRIDGE: &str = "permit-journal 1
+1 snapshot = at 0
+1 submit truck 1 from 1 to 2 asked 1 days 2026-03-02 2026-03-06 seen 0 route 1 = issued 1 at 0 route 1
+1 post span 1 rating 999 = posted 1 recalled 1
+1 snapshot = at 1
+1 submit truck 1 from 1 to 2 asked 1 days 2026-03-02 2026-03-06 seen 1 fails 1 = refused 1 segment 1 span 1 moment 1920000/1 hs20 1920000/1 rating 999
+end 5
+";
+
+const NO_ROAD: &str = "permit-journal 1
+1 snapshot = at 0
+1 submit truck 1 from 1 to 2 asked none days 2026-03-02 2026-03-06 seen 0 cut 1,3 = noroad
+1 snapshot = at 0
+1 submit truck 1 from 1 to 3 asked none days 2026-03-02 2026-03-06 seen 0 cut 1 = refused 0 segment 1 closed
+1 snapshot = at 0
+1 submit truck 1 from 1 to 3 asked 1 days 2026-03-02 2026-03-06 seen 0 fails 1 = refused 0 segment 1 closed
+end 6
+";
+
+const RECALL: &str = "permit-journal 1
+1 snapshot = at 0
+1 submit truck 1 from 1 to 2 asked 1 days 2026-03-02 2026-03-06 seen 0 route 1 = issued 1 at 0 route 1
+1 post segment 1 height 167 = posted 1 recalled 1
+1 show 1 = shown 1 caller 1 truck 1 days 2026-03-02 2026-03-06 at 0 seen 0 recalled 1
+end 4
+";
+
+// Every form that a line can have, and the greatest values. Whether a reply fits its call is not asked.
+const FORMS: &str = "permit-journal 1
+65536 snapshot = at 4294967295
+1 submit truck 65536 from 65536 to 65536 asked - days 0001-01-01 9999-12-28 seen 4294967295 none = notneeded
+1 submit truck 1 from 1 to 2 asked 1,65536 days 2026-03-02 2026-03-06 seen 0 cut - = noroad
+1 held truck 1 from 1 to 2 asked none days 2026-03-02 2026-03-06 = late 2026-03-03
+1 held truck 1 from 1 to 2 asked 3,2,1 days 2026-03-02 2026-03-06 = outdated 1 meets segment 2
+1 post segment 1 closed 0 = posted 0 recalled -
+1 post segment 1 closed 1 = posted 4294967295 recalled 1,4294967295,0
+1 post segment 1 width 4294967295 = range
+1 post segment 1 length 0 = outdated 9 fails segment 1 width 2 over 1
+1 post segment 1 gross 1 = refused 1 segment 1 length 0 over 4294967295
+1 post segment 1 allowance 1000 = refused 1 segment 1 gross 2 over 1
+1 post span 65536 rating 0 = refused 1 segment 1 height 2 over 1
+1 day 2026-03-02 = day 2026-03-02
+1 day 2026-03-02 = dayback 2026-03-03
+1 surrender 0 = surrendered
+1 surrender 1 = notyours
+1 show 1 = unknown
+1 show 4294967295 = notinforce expired
+1 show 1 = notinforce surrendered
+1 show 1 = shown 1 caller 65536 truck 1 days 2026-03-02 2026-03-06 at 2 seen 1 inforce
+1 show 1 = issued 1 at 2 route -
+1 snapshot = refused 0 segment 1 group 1-65536 weight 1 limit 2 allowance 3
+1 snapshot = refused 0 segment 1 span 2 moment 0/1 hs20 340282366920938463463374607431768211455/2 rating 4
+1 snapshot = refused 0 segment 1 span 2 shear 1/340282366920938463463374607431768211455 hs20 5/3 rating 4
+1 snapshot = nomemory
+end 25
+";
+
+// What is read is printed as the same text.
+fn reads_back(rt: &impl Abort, alloc: Global, text: &str) -> Result<(), Fail> {
+    let history = read(alloc, text.as_bytes())?;
+    let printed = print(alloc, history.as_slice());
+    drop(history);
+    let printed = printed?;
+    let same = printed.as_slice() == text.as_bytes();
+    drop(printed);
+    assert!(rt; same, "{text}");
+    Ok(())
+}
+
+#[test]
+fn journals_are_read_and_printed_again(rt: HostRuntime) -> Result<(), Fail> {
+    let alloc = rt.alloc();
+    for text in [
+        "permit-journal 1\nend 0\n",
+        ONE_TRIP,
+        BRIDGE,
+        NO_ROAD,
+        RECALL,
+        FORMS,
+    ] {
+        reads_back(&rt, alloc, text)?;
+    }
+    Ok(())
+}
+
+// The row of the bad line, where the text is refused for one.
+fn bad_row(alloc: Global, text: &str) -> Option<u64> {
+    match read(alloc, text.as_bytes()) {
+        Err(JournalRefusal::BadLine { row }) => Some(row),
+        Err(JournalRefusal::NoMemory) => None,
+        Ok(history) => {
+            drop(history);
+            None
+        }
+    }
+}
+
+#[test]
+fn names_the_first_line_that_no_journal_has(rt: HostRuntime) {
+    let alloc = rt.alloc();
+    for (text, row) in [
+        // no first line, a part of it, another, and none but it
+        ("", 1),
+        ("\n", 1),
+        ("permit-journal 1", 1),
+        ("permit-journal 2\nend 0\n", 1),
+        ("permit-journal 1\n", 2),
+        // a zero in front; the same line is bad whatever follows
+        ("permit-journal 1\n1 snapshot = at 00\nend 1\n", 2),
+        ("permit-journal 1\n1 snapshot = at 00", 2),
+        // a last line without its line feed, though it is the end line
+        ("permit-journal 1\n1 snapshot = at 0\nend 1", 3),
+        ("permit-journal 1\n1 snapshot = at 0", 2),
+        // no end line
+        ("permit-journal 1\n1 snapshot = at 0\n", 3),
+        // an end line with another count, too early, or written otherwise
+        ("permit-journal 1\n1 snapshot = at 0\nend 2\n", 3),
+        ("permit-journal 1\nend 1\n", 2),
+        ("permit-journal 1\nend 00\n", 2),
+        ("permit-journal 1\nend  0\n", 2),
+        // anything after the end line
+        ("permit-journal 1\nend 0\n\n", 3),
+        ("permit-journal 1\nend 0\nx", 3),
+        ("permit-journal 1\nend 0\nend 0\n", 3),
+        // an empty line, and a carriage return
+        ("permit-journal 1\n\nend 0\n", 2),
+        ("permit-journal 1\r\nend 0\n", 1),
+    ] {
+        assert!(rt; bad_row(alloc, text) == Some(row), "{text}");
+    }
+}
+
+// The journal of one application with one text in place of another.
+fn changed(alloc: Global, old: &str, new: &str) -> Result<Option<u64>, Fail> {
+    let text = ONE_TRIP.replace(alloc, old, new)?;
+    Ok(bad_row(alloc, text.as_str()))
+}
+
+#[test]
+fn names_the_line_that_was_changed(rt: HostRuntime) -> Result<(), Fail> {
+    let alloc = rt.alloc();
+    for (old, new, row) in [
+        ("= at 0\n", "= at 00\n", 2),
+        ("end 2\n", "end 2", 4),
+        ("end 2\n", "end 3\n", 4),
+        ("end 2\n", "end 2\n1 snapshot = at 0\n", 5),
+        (" issued", "  issued", 3),
+    ] {
+        assert!(rt; changed(alloc, old, new)? == Some(row), "{new}");
+    }
+    Ok(())
+}
+
+// A journal of this one line names it.
+fn is_bad_line(alloc: Global, line: &str) -> Result<bool, Fail> {
+    let text = format!(in alloc; "permit-journal 1\n{line}\nend 1\n")?;
+    Ok(bad_row(alloc, text.as_str()) == Some(2))
+}
+
+#[test]
+fn takes_no_line_with_a_fault(rt: HostRuntime) -> Result<(), Fail> {
+    for line in [
+        // indices and numbers out of range, with a sign, with a zero in front, or none
+        "0 snapshot = at 0",
+        "65537 snapshot = at 0",
+        "01 snapshot = at 0",
+        "1 snapshot = at 4294967296",
+        "1 snapshot = at 18446744073709551616",
+        "1 snapshot = at +0",
+        "1 snapshot = at -0",
+        "1 snapshot = at ",
+        "1 snapshot = at x",
+        // spaces
+        " 1 snapshot = at 0",
+        "1  snapshot = at 0",
+        "1 snapshot = at 0 ",
+        "1 snapshot\t= at 0",
+        "1 snapshot = at 0\r",
+        // words that are missing, too many, or another
+        "1 snapshot at 0",
+        "1 snapshot =",
+        "1 snapshot",
+        "1 = at 0",
+        "1 snapshot = at 0 0",
+        "1 Snapshot = at 0",
+        "1 snapshot = full 1",
+        "1 post segment 1 closed 2 = range",
+        "1 post segment 1 rating 2 = range",
+        "1 post span 1 height 2 = range",
+        "1 held truck 1 from 1 to 2 days 2026-03-02 2026-03-06 asked none = noroad",
+        // lists
+        "1 snapshot = posted 1 recalled ",
+        "1 snapshot = posted 1 recalled 1,",
+        "1 snapshot = posted 1 recalled ,1",
+        "1 snapshot = posted 1 recalled 1,,2",
+        "1 snapshot = posted 1 recalled 1, 2",
+        "1 snapshot = posted 1 recalled -,1",
+        "1 snapshot = issued 1 at 0 route 0",
+        "1 snapshot = issued 1 at 0 route 65537",
+        "1 snapshot = issued 1 at 0 route none",
+        // days
+        "1 day 2026-02-30 = range",
+        "1 day 2026-3-02 = range",
+        // fractions and groups
+        "1 snapshot = refused 0 segment 1 span 2 shear 2/4 hs20 5/3 rating 4",
+        "1 snapshot = refused 0 segment 1 span 2 shear 0/2 hs20 5/3 rating 4",
+        "1 snapshot = refused 0 segment 1 span 2 shear 1/0 hs20 5/3 rating 4",
+        "1 snapshot = refused 0 segment 1 span 2 shear 5 hs20 5/3 rating 4",
+        "1 snapshot = refused 0 segment 1 span 2 shear 5/1/1 hs20 5/3 rating 4",
+        "1 snapshot = refused 0 segment 1 span 2 shear 340282366920938463463374607431768211456/1 hs20 5/3 rating 4",
+        "1 snapshot = refused 0 segment 1 group 1-0 weight 1 limit 2 allowance 3",
+        "1 snapshot = refused 0 segment 1 group 1 weight 1 limit 2 allowance 3",
+        "1 snapshot = refused 0 segment 1 height 2 under 1",
+    ] {
+        assert!(rt; is_bad_line(rt.alloc(), line)?, "{line}");
+    }
+    Ok(())
+}

@@ -1,0 +1,273 @@
+ghost use Rattle.std.specs.Prelude.{Ok};
+ghost use Rattle.record_text.specs.Causes.{◌>>=◌, demand, or_bad};
+ghost use Rattle.record_text.specs.Fields.{field_of, number_of};
+ghost use Rattle.record_text.specs.Records.{is_blank_from};
+ghost use Rattle.record_text.specs.declared.refusal.RecordCause.TheVariants as bad;
+
+use axle_train::Axle;
+use csv::StringRecord;
+use record_text::{
+    Cause, FileRefusal, Posted, Progress, RecordCause, RecordRefusal, field, is_blank_from,
+    parse_axles, parse_day, parse_name, parse_number, parse_posted, parse_route, parse_what,
+    read_records,
+};
+use road_graph::What;
+use std::alloc::Global;
+use std::fmt::Debug;
+use std::process::Abort;
+use std::test::Fail;
+
+// The number in the second field of the last record.
+#[derive(Drop)]
+struct Last {
+    number: u32,
+}
+
+impl Progress for Last {
+    ghost judge = { λ last row. demand (is_blank_from 2 row) bad.Extra >>= (λ rest. or_bad (bad.Field 2) (number_of (field_of row 1)) >>= (λ n. Ok (record { number = n }))) };
+
+    fn take(self, _alloc: Global, row: &StringRecord) -> Result<Last, RecordRefusal> {
+        if !is_blank_from(row, 2) {
+            return Err(RecordRefusal::bad(RecordCause::Extra));
+        }
+        match parse_number(field(row, 1)) {
+            Some(number) => Ok(Last { number }),
+            None => Err(RecordRefusal::bad(RecordCause::Field(2))),
+        }
+    }
+}
+
+// What was found is what a table says of a text.
+fn same<T: PartialEq + Debug>(rt: &impl Abort, text: &str, found: &T, wanted: &T) {
+    assert_eq!(rt; found, wanted, "{text:?}");
+}
+
+fn lead(rt: &impl Abort, alloc: Global, text: &str, rows: u64, number: u32) -> Result<(), Fail> {
+    let (next, last) = read_records(alloc, Last { number: 0 }, text.as_bytes())?;
+    same(rt, text, &(next, last.number), &(rows, number));
+    Ok(())
+}
+
+// A text, the number of the row after its last, and the number that was read last.
+fn lead_each(rt: &impl Abort, alloc: Global, cases: &[(&str, u64, u32)]) -> Result<(), Fail> {
+    for &(text, rows, number) in cases {
+        lead(rt, alloc, text, rows, number)?;
+    }
+    Ok(())
+}
+
+#[test]
+fn leads_through_all_records(rt: HostRuntime) -> Result<(), Fail> {
+    lead_each(
+        &rt,
+        rt.alloc(),
+        &[
+            ("", 1, 0),
+            ("a,7,,,,,,", 2, 7),
+            ("a,7,,,,,,\r\n\n\"b\",\"0012\",,,,,,\n", 3, 12),
+            ("\u{feff}a,999999999,,,,,,\n", 2, 999_999_999),
+        ],
+    )
+}
+
+fn refusal(alloc: Global, text: &[u8]) -> Option<FileRefusal> {
+    read_records(alloc, Last { number: 0 }, text).err()
+}
+
+// A text, the first of its rows that is refused, and why.
+fn stop_each(rt: &impl Abort, alloc: Global, cases: &[(&[u8], u64, RecordCause)]) {
+    for &(text, row, cause) in cases {
+        let wanted = FileRefusal::Refused {
+            row,
+            cause: Cause::Bad(cause),
+        };
+        assert_eq!(rt; refusal(alloc, text), Some(wanted));
+    }
+}
+
+#[test]
+fn stops_at_the_first_record_that_is_refused(rt: HostRuntime) {
+    stop_each(
+        &rt,
+        rt.alloc(),
+        &[
+            (b"a,7,,,,,\n", 1, RecordCause::Fields),
+            (b"a,7,,,,,,\na,7,,,,,,,\n", 2, RecordCause::Fields),
+            (b"a,7,,,,,,\n\xff,7,,,,,,\n", 2, RecordCause::Fields),
+            (
+                b"a,7,,,,,,\nb,,,,,,,\nc,7,x,,,,,\n",
+                2,
+                RecordCause::Field(2),
+            ),
+            (b"a,7,,,,,,\nb,7,,,,,,x\n", 2, RecordCause::Extra),
+            (b"a,1234567890,,,,,,\n", 1, RecordCause::Field(2)),
+        ],
+    );
+}
+
+fn read_names(rt: &impl Abort, cases: &[(&str, bool)]) {
+    for (text, is) in cases {
+        same(rt, text, &parse_name(text).is_some(), is);
+    }
+}
+
+fn read_numbers(rt: &impl Abort, cases: &[(&str, Option<u32>)]) {
+    for (text, number) in cases {
+        same(rt, text, &parse_number(text), number);
+    }
+}
+
+// A text, whether it has the shape of a day, and whether there is such a day.
+fn read_days(rt: &impl Abort, cases: &[(&str, bool, bool)]) {
+    for &(text, shaped, there) in cases {
+        let day = parse_day(text);
+        same(
+            rt,
+            text,
+            &(day.is_some(), day.flatten().is_some()),
+            &(shaped, there),
+        );
+    }
+}
+
+#[test]
+fn reads_names_numbers_and_days(rt: HostRuntime) {
+    read_names(
+        &rt,
+        &[
+            ("A", true),
+            ("a-b_C9", true),
+            ("1234567890123456", true),
+            ("12345678901234567", false),
+            ("", false),
+            ("a b", false),
+            ("\u{e9}", false),
+        ],
+    );
+    read_numbers(
+        &rt,
+        &[
+            ("0", Some(0)),
+            ("007", Some(7)),
+            ("999999999", Some(999_999_999)),
+            ("0000000001", None),
+            ("", None),
+            ("+1", None),
+            ("1.", None),
+        ],
+    );
+    read_days(
+        &rt,
+        &[
+            ("2026-03-02", true, true),
+            ("2026-13-02", true, false),
+            ("0000-01-01", true, false),
+            ("2026-3-02", false, false),
+            ("", false, false),
+        ],
+    );
+}
+
+// Whether a text has these axles.
+fn are_axles(alloc: Global, text: &str, wanted: &[Axle]) -> Result<bool, Fail> {
+    Ok(match parse_axles(alloc, text)? {
+        Some(axles) => axles.as_slice() == wanted,
+        None => false,
+    })
+}
+
+fn are_no_axles(alloc: Global, text: &str) -> Result<bool, Fail> {
+    Ok(parse_axles(alloc, text)?.is_none())
+}
+
+#[test]
+fn reads_axles(rt: HostRuntime) -> Result<(), Fail> {
+    let two = [
+        Axle {
+            place: 0,
+            weight: 12_000,
+        },
+        Axle {
+            place: 180,
+            weight: 17_000,
+        },
+    ];
+    assert!(rt; are_axles(rt.alloc(), "0:12000 180:17000", &two)?);
+    for text in [
+        "", "0", "0:", ":1", "0:1:2", "0:1  2:3", "0:1 ", " 0:1", "0:1,2:3",
+    ] {
+        same(&rt, text, &are_no_axles(rt.alloc(), text)?, &true);
+    }
+    Ok(())
+}
+
+// How many names the route of a text has.
+fn names_of(alloc: Global, text: &str) -> Result<Option<usize>, Fail> {
+    Ok(match parse_route(alloc, text)? {
+        Some(route) => Some(route.as_slice().len()),
+        None => None,
+    })
+}
+
+fn read_routes(
+    rt: &impl Abort,
+    alloc: Global,
+    cases: &[(&str, Option<usize>)],
+) -> Result<(), Fail> {
+    for (text, names) in cases {
+        same(rt, text, &names_of(alloc, text)?, names);
+    }
+    Ok(())
+}
+
+#[test]
+fn reads_routes(rt: HostRuntime) -> Result<(), Fail> {
+    read_routes(
+        &rt,
+        rt.alloc(),
+        &[
+            ("", Some(0)),
+            ("S1", Some(1)),
+            ("S1 S2 S1", Some(3)),
+            (" ", None),
+            ("S1  S2", None),
+            ("S1 ", None),
+            ("S1,S2", None),
+        ],
+    )
+}
+
+// A text, and what it names as a limit, and as what a posting replaces.
+fn read_postings(rt: &impl Abort, cases: &[(&str, Option<What>, Option<Posted>)]) {
+    for &(text, what, posted) in cases {
+        same(
+            rt,
+            text,
+            &(parse_what(text), parse_posted(text)),
+            &(what, posted),
+        );
+    }
+}
+
+fn limit(text: &str, what: What) -> (&str, Option<What>, Option<Posted>) {
+    (text, Some(what), Some(Posted::Limit(what)))
+}
+
+#[test]
+fn reads_what_a_posting_replaces(rt: HostRuntime) {
+    read_postings(
+        &rt,
+        &[
+            limit("closed", What::Closed),
+            limit("height", What::Height),
+            limit("width", What::Width),
+            limit("length", What::Length),
+            limit("gross", What::Gross),
+            limit("allowance", What::Allowance),
+            ("rating", None, Some(Posted::Rating)),
+            ("Height", None, None),
+            ("tridem", None, None),
+            ("", None, None),
+        ],
+    );
+}

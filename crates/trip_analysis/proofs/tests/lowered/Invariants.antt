@@ -1,5 +1,0 @@
-use Rattle.restriction_log.specs.States.{AreOf}
-use Rattle.trip_analysis.proofs.tests.lowered.Given as goal
-
-abbrev pub invariant-low : goal.invariant-low
-invariant-low g l = AreOf l.network l.state

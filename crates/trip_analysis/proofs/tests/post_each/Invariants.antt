@@ -1,5 +1,0 @@
-use Rattle.snapshot_store.specs.Stores.{IsLater}
-use Rattle.trip_analysis.proofs.tests.post_each.Given as goal
-
-abbrev pub invariant-postings : goal.invariant-postings
-invariant-postings g l = IsLater l.fn.store l.store

@@ -1,4 +1,0 @@
-use Rattle.trip_analysis.proofs.tests.tell_lowered.Given as goal
-
-abbrev pub ghosts-tell_both : goal.ghosts-tell_both
-ghosts-tell_both g a = record { name = a.blank.name; parts = a.blank.parts }

@@ -1,0 +1,10 @@
+use Rattle.std.proofs.Common.{◌≡◌}
+use Rattle.trip_analysis.specs.Followers.{GoesOn}
+use Rattle.trip_tests.proofs.analyses.follow_lines.Given as goal
+
+abbrev pub invariant-lines : goal.invariant-lines
+invariant-lines g l = record {
+  base : l.follower.base ≡ l.base;
+  roads : l.store.roads ≡ l.base.roads;
+  later : GoesOn l.follower.last l.store;
+}

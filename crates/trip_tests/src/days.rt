@@ -1,0 +1,157 @@
+use permit_days::{Day, DayRefusal};
+use std::process::Abort;
+use std::test::Fail;
+
+#[test]
+fn reads_a_day_or_says_why_not(rt: HostRuntime) -> Result<(), Fail> {
+    for (text, wanted) in [
+        ("1970-01-01", None),
+        ("2026-03-02", None),
+        ("0001-01-01", None),
+        ("0001-12-31", None),
+        ("9999-12-31", None),
+        ("2024-02-29", None),
+        ("0000-01-01", Some(DayRefusal::NoSuchDay)),
+        ("0000-12-31", Some(DayRefusal::NoSuchDay)),
+        ("2026-00-02", Some(DayRefusal::NoSuchDay)),
+        ("2026-13-02", Some(DayRefusal::NoSuchDay)),
+        ("2026-03-00", Some(DayRefusal::NoSuchDay)),
+        ("2023-02-29", Some(DayRefusal::NoSuchDay)),
+        ("9999-12-32", Some(DayRefusal::NoSuchDay)),
+        ("2024-2-29", Some(DayRefusal::Shape)),
+        ("", Some(DayRefusal::Shape)),
+        ("2024-02-029", Some(DayRefusal::Shape)),
+        ("2024/02/29", Some(DayRefusal::Shape)),
+        ("+024-02-28", Some(DayRefusal::Shape)),
+        ("2024-0a-28", Some(DayRefusal::Shape)),
+        ("0000-1-01", Some(DayRefusal::Shape)),
+    ] {
+        match Day::read(text.as_bytes()) {
+            Ok(day) => {
+                assert!(rt; wanted.is_none());
+                assert_eq!(rt; day.to_string(rt.alloc())?.as_str(), text);
+                assert!(rt; day.text().as_slice() == text.as_bytes());
+            }
+            Err(refusal) => assert!(rt; wanted == Some(refusal)),
+        }
+    }
+    Ok(())
+}
+
+#[test]
+fn orders_days_by_year_then_month_then_day(rt: HostRuntime) -> Result<(), Fail> {
+    let rising = [
+        "0999-12-31",
+        "2025-12-31",
+        "2026-01-02",
+        "2026-01-10",
+        "2026-09-01",
+        "2026-10-01",
+    ];
+    for i in 0..rising.len() {
+        for j in 0..rising.len() {
+            match (
+                Day::read(rising[i].as_bytes()),
+                Day::read(rising[j].as_bytes()),
+            ) {
+                (Ok(a), Ok(b)) => {
+                    assert_eq!(rt; a < b, i < j);
+                    assert_eq!(rt; a == b, i == j);
+                    assert_eq!(rt; a.number() < b.number(), i < j);
+                }
+                _ => assert!(rt; false),
+            }
+        }
+    }
+    Ok(())
+}
+
+// Numbers that the days of other calendars programs have: days since 1970-01-01 in the proleptic Gregorian calendar.
+#[test]
+fn numbers_days_from_1970(rt: HostRuntime) -> Result<(), Fail> {
+    for (text, number) in [
+        ("1970-01-01", 0),
+        ("1969-12-31", -1),
+        ("2024-02-29", 19_782),
+        ("2000-03-01", 11_017),
+        ("0001-01-01", -719_162),
+        ("9999-12-31", 2_932_896),
+    ] {
+        match Day::read(text.as_bytes()) {
+            Ok(day) => assert_eq!(rt; day.number(), number, "{text}"),
+            Err(_) => assert!(rt; false, "{text}"),
+        }
+    }
+    Ok(())
+}
+
+// Every fourth year has a leap day, but of the years that end a century only every fourth.
+fn is_leap_year(year: u16) -> bool {
+    year % 4 == 0 && (year % 100 != 0 || year % 400 == 0)
+}
+
+// Thirty days have September, April, June and November.
+fn month_length(year: u16, month: u16) -> u16 {
+    match month {
+        2 if is_leap_year(year) => 29,
+        2 => 28,
+        4 | 6 | 9 | 11 => 30,
+        _ => 31,
+    }
+}
+
+// The last digit of a number.
+fn digit(number: u16) -> u8 {
+    b'0' + (number % 10) as u8
+}
+
+// What is read where this year, month and day of the month are written.
+fn read(year: u16, month: u16, day: u16) -> Result<Day, DayRefusal> {
+    Day::read(&[
+        digit(year / 1000),
+        digit(year / 100),
+        digit(year / 10),
+        digit(year),
+        b'-',
+        digit(month / 10),
+        digit(month),
+        b'-',
+        digit(day / 10),
+        digit(day),
+    ])
+}
+
+// That a month of the year has just its days, whose numbers go on after this one, and gives the last.
+fn month_goes_on(rt: &impl Abort, year: u16, month: u16, before: i32) -> i32 {
+    let mut last = before;
+    for day in 0..33 {
+        let is_there = 1 <= day && day <= month_length(year, month);
+        match read(year, month, day) {
+            Ok(day) => {
+                assert!(rt; is_there);
+                assert_eq!(rt; Some(day.number()), last.checked_add(1));
+                last = day.number();
+            }
+            Err(refusal) => {
+                assert!(rt; !is_there);
+                assert!(rt; refusal == DayRefusal::NoSuchDay);
+            }
+        }
+    }
+    last
+}
+
+// Of the years 1900, 2000 and 2100 only 2000 has a leap day.
+#[test]
+fn keeps_the_calendar_of_1896_to_2104(rt: HostRuntime) -> Result<(), Fail> {
+    // 1895-12-31: 74 years before 1970, of which 18 have a leap day.
+    let mut last = -27_029;
+    for year in 1896..2105 {
+        for month in 1..13 {
+            last = month_goes_on(&rt, year, month, last);
+        }
+    }
+    // 2104-12-31: 135 years from 1970 on, of which 33 have a leap day.
+    assert_eq!(rt; last, 49_307);
+    Ok(())
+}

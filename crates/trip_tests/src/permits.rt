@@ -1,0 +1,110 @@
+ghost use Rattle.std.specs.Prelude.{◌≡◌, true};
+ghost use Rattle.permit_book.specs.Permits.{is_issued, is_live, permit_of};
+
+use permit_book::{Book, Mark, Status};
+use permit_days::Day;
+use road_graph::Numbers;
+use std::alloc::Global;
+use std::process::Abort;
+use std::test::Fail;
+
+// The day of a text, which writes one.
+fn day(rt: &impl Abort, text: &[u8]) -> Day {
+    Day::read(text).expect(rt, "a day")
+}
+
+// A book with two permits of one route, for the days 2 to 10 and 2 to 20 of a month.
+fn two(rt: &impl Abort, alloc: Global) -> Book {
+    let mut book = Book::new(alloc);
+    let first = day(rt, b"2026-03-02");
+    let numbers = [
+        book.issue(
+            7,
+            1,
+            Numbers::of(Vec::new(alloc)),
+            first,
+            day(rt, b"2026-03-10"),
+            3,
+            2,
+        ),
+        book.issue(
+            9,
+            0,
+            Numbers::of(Vec::new(alloc)),
+            first,
+            day(rt, b"2026-03-20"),
+            4,
+            4,
+        ),
+    ];
+    assert_eq!(rt; numbers, [Ok(1), Ok(2)]);
+    book
+}
+
+#[test]
+fn expires_after_its_last_day(rt: HostRuntime) -> Result<(), Fail> {
+    let book = two(&rt, rt.alloc());
+    let cases = [
+        (0, b"2026-03-02", None),
+        (1, b"2026-03-01", Some(Status::InForce)),
+        (1, b"2026-03-10", Some(Status::InForce)),
+        (1, b"2026-03-11", Some(Status::Expired)),
+        (2, b"2026-03-11", Some(Status::InForce)),
+        (2, b"2027-01-01", Some(Status::Expired)),
+        (3, b"2026-03-02", None),
+    ];
+    'cases: for (number, text, status) in cases {
+        assert_eq!(rt;
+            book.status(number, day(&rt, text)),
+            status,
+            "permit {number}"
+        );
+        assert_eq!(rt;
+            book.get(number).is_some(),
+            status.is_some(),
+            "permit {number}"
+        );
+    }
+    Ok(())
+}
+
+// Whether there is a permit of this number, and it is live.
+fn is_live_in(book: &Book, number: u32) -> bool
+    ensures issued { result ≡ true → is_issued book.now number ≡ true }
+    ensures live { result ≡ true → is_live (permit_of book.now number).mark ≡ true }
+{
+    match book.get(number) {
+        Some(permit) => permit.mark.is_live(),
+        None => false,
+    }
+}
+
+// Recalls the permit of this number by posting 5, which it may.
+fn recall_by_5(rt: &impl Abort, book: &mut Book, number: u32) {
+    if !is_live_in(book, number) {
+        rt.abort();
+    }
+    book.recall(number, 5);
+}
+
+// Surrenders the permit of this number, which it may.
+fn surrender(rt: &impl Abort, book: &mut Book, number: u32) {
+    if !is_live_in(book, number) {
+        rt.abort();
+    }
+    book.surrender(number);
+}
+
+#[test]
+fn keeps_a_mark_after_the_last_day(rt: HostRuntime) -> Result<(), Fail> {
+    let mut book = two(&rt, rt.alloc());
+    recall_by_5(&rt, &mut book, 1);
+    surrender(&rt, &mut book, 2);
+    let late = day(&rt, b"2027-01-01");
+    assert_eq!(rt; book.status(1, late), Some(Status::Recalled { version: 5 }));
+    assert_eq!(rt; book.status(2, late), Some(Status::Surrendered));
+    assert_eq!(rt; book.permits()[0].mark, Mark::Recalled { version: 5 });
+    assert_eq!(rt; book.len(), 2);
+    assert!(rt; !book.is_empty());
+    Ok(())
+}
