@@ -50,7 +50,8 @@ fn add(subscribers: &mut Subscribers, whom: Whom, notice: Box<dyn Notice>) -> Re
 #[tactic(auto, using(notice_desk::proofs::Ready::new_within, notice_desk::proofs::Ready::stopped_within, notice_desk::proofs::Ready::delivered_within))]
 fn deliver_first(subscribers: &mut Subscribers, recalls: &[Recall]) -> Result<(), NoticeFault>
     requires { AreNew (standings (λ n. (⟦<dyn Notice as Notice>⟧ n.vtable).list n.value) subscribers.old) }
-    ensures { AreWithin recalls.now (standings (λ n. (⟦<dyn Notice as Notice>⟧ n.vtable).list n.value) subscribers.new) }
+    ensures { let told = standings (λ n. (⟦<dyn Notice as Notice>⟧ n.vtable).list n.value) in
+        AreWithin recalls.now (told subscribers.new) }
 {
     subscribers.deliver(recalls)
 }
@@ -120,7 +121,8 @@ fn tells_what_failed_once_more(rt: HostRuntime) -> Result<(), Fail> {
 // The second of three objects fails at its second recall.
 fn stop_at_the_second(rt: &impl Abort, subscribers: &mut Subscribers, recalls: &[Recall])
     requires { AreNew (standings (λ n. (⟦<dyn Notice as Notice>⟧ n.vtable).list n.value) subscribers.old) }
-    ensures { AreWithin recalls.now (standings (λ n. (⟦<dyn Notice as Notice>⟧ n.vtable).list n.value) subscribers.new) }
+    ensures { let told = standings (λ n. (⟦<dyn Notice as Notice>⟧ n.vtable).list n.value) in
+        AreWithin recalls.now (told subscribers.new) }
 {
     let delivered = deliver_first(subscribers, recalls);
     assert_eq!(rt; delivered, Err(NoticeFault { at: 1 }));

@@ -1,10 +1,10 @@
 // The top call.
 
-ghost use Rattle.std.specs.Prelude.{◌≡◌, ◌+◌, ◌≢◌, ◌≤◌, ◌⊎◌, ℕ, Some, map, take};
+ghost use Rattle.std.specs.Prelude.{◌≡◌, ◌≤◌, ◌⊎◌, ℕ, Some, map, take};
 ghost use Rattle.std.specs.String.{string_bytes};
 ghost use Rattle.std.specs.Io.KnownBytes.{Appends};
 ghost use Rattle.office_io.specs.Causes.{Rose};
-ghost use Rattle.notice_desk.specs.Standings.{AreNew, fault_counts, standings};
+ghost use Rattle.notice_desk.specs.Standings.{AreNew, standings};
 ghost use Rattle.permit_cli.specs.Runs.{DeskAt, IsAlone, IsMade, IsRun, WroteLine, desk_at, outside_of, sink_at, usage_line};
 ghost use Rattle.refusal_text.specs.Lines.{refusal_line_of, status_of};
 ghost use Rattle.permit_cli.specs.Tasks.{task_of};
