@@ -8,13 +8,13 @@ use Rattle.trip_analysis.specs.Applications.{Sound}
 use Rattle.trip_analysis.specs.Bases.{BaseLists}
 use Rattle.trip_analysis.specs.Findings.{IsFoundAt}
 use Rattle.office_core.specs.declared.calls.Looked.TheVariants as looked
-use Rattle.office_core.specs.declared.entry.Call.{Call}
-use Rattle.office_core.specs.declared.entry.Call.TheVariants as call
-use Rattle.office_core.specs.declared.entry.Command.{Command}
-use Rattle.office_core.specs.declared.entry.Command.TheVariants as command
-use Rattle.office_core.specs.declared.entry.Entry.{Entry}
-use Rattle.office_core.specs.declared.entry.Reply.{Reply}
-use Rattle.office_core.specs.declared.entry.Reply.TheVariants as reply
+use Rattle.office_words.specs.declared.entry.Call.{Call}
+use Rattle.office_words.specs.declared.entry.Call.TheVariants as call
+use Rattle.office_words.specs.declared.entry.Command.{Command}
+use Rattle.office_words.specs.declared.entry.Command.TheVariants as command
+use Rattle.office_words.specs.declared.entry.Entry.{Entry}
+use Rattle.office_words.specs.declared.entry.Reply.{Reply}
+use Rattle.office_words.specs.declared.entry.Reply.TheVariants as reply
 use Rattle.office_core.specs.Calls.{Answered, Calling, Looks, Who, machine_seen, stored_seen}
 use Rattle.office_core.specs.Machine.{IsFound}
 use Rattle.office_core.specs.Offices.{entry}

@@ -5,9 +5,9 @@ use Rattle.snapshot_store.proofs.Later.{later_on, later_same}
 use Rattle.trip_analysis.specs.Bases.{BaseLists}
 use Rattle.trip_analysis.specs.Followers.{Followed, GoesOn, followed}
 use Rattle.office_core.specs.declared.calls.Looked.TheVariants as looked
-use Rattle.office_core.specs.declared.entry.Call.{Call}
-use Rattle.office_core.specs.declared.entry.Entry.{Entry}
-use Rattle.office_core.specs.declared.entry.Reply.{Reply}
+use Rattle.office_words.specs.declared.entry.Call.{Call}
+use Rattle.office_words.specs.declared.entry.Entry.{Entry}
+use Rattle.office_words.specs.declared.entry.Reply.{Reply}
 use Rattle.office_core.specs.Calls.{Answered, Calling, Looks, Who, stored_seen}
 use Rattle.office_core.specs.Machine.{machine_of, stored_of}
 use Rattle.office_core.proofs.Later.{postings_on}

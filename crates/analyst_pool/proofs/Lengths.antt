@@ -2,12 +2,12 @@
 use Rattle.std.proofs.Common.{◌≡◌, ◌≤◌, ◌+◌, ◌*◌, List, ℕ, zero, suc, length, true, ap, refl, arith}
 use Rattle.std.proofs.lemmas.List.{length-append}
 use Rattle.trip_analysis.specs.declared.application.Application.{Application}
-use Rattle.office_core.specs.declared.entry.Call.{Call}
-use Rattle.office_core.specs.declared.entry.Command.{Command}
-use Rattle.office_core.specs.declared.entry.Command.TheVariants as command
-use Rattle.office_core.specs.declared.entry.Entry.{Entry}
-use Rattle.office_core.specs.declared.entry.Reply.{Reply}
-use Rattle.office_core.specs.declared.entry.Reply.TheVariants as reply
+use Rattle.office_words.specs.declared.entry.Call.{Call}
+use Rattle.office_words.specs.declared.entry.Command.{Command}
+use Rattle.office_words.specs.declared.entry.Command.TheVariants as command
+use Rattle.office_words.specs.declared.entry.Entry.{Entry}
+use Rattle.office_words.specs.declared.entry.Reply.{Reply}
+use Rattle.office_words.specs.declared.entry.Reply.TheVariants as reply
 use Rattle.office_core.specs.Replies.{is_full}
 use Rattle.analyst_pool.specs.Unfolds.{AreOutdated, Concludes, Ends, IsCalled, IsDecided, IsStopped, Unfolds, answered, concluded, full, full_between, held, lacks}
 use Rattle.analyst_pool.proofs.Growing.{by_test}

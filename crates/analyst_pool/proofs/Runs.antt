@@ -1,10 +1,10 @@
 -- Commands that are carried out one after another.
 use Rattle.std.proofs.Common.{◌≡◌, ◌≢◌, ◌≤◌, ◌*◌, ◌∷◌, ◌++◌, [], List, ℕ, length, None, false, ap, sym, refl, ◌∙◌, append_assoc, arith}
 use Rattle.std.proofs.lemmas.List.{append-nil, length-append}
-use Rattle.office_core.specs.declared.entry.Command.{Command}
-use Rattle.office_core.specs.declared.entry.Entry.{Entry}
-use Rattle.office_core.specs.declared.entry.Reply.{Reply}
-use Rattle.office_core.specs.declared.entry.Reply.TheVariants as reply
+use Rattle.office_words.specs.declared.entry.Command.{Command}
+use Rattle.office_words.specs.declared.entry.Entry.{Entry}
+use Rattle.office_words.specs.declared.entry.Reply.{Reply}
+use Rattle.office_words.specs.declared.entry.Reply.TheVariants as reply
 use Rattle.office_core.specs.Calls.{Calling}
 use Rattle.office_core.specs.Replies.{is_full}
 use Rattle.analyst_pool.specs.Leaves.{CarriedOut, Grew}

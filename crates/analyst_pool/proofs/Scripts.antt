@@ -3,10 +3,10 @@ use Rattle.std.proofs.Common.{◌≡◌, ◌≢◌, ◌<◌, ◌≤◌, ◌+◌,
 use Rattle.std.specs.Prelude.{slice_get}
 use Rattle.std.proofs.lemmas.List.{length-append, length-take, take_all, take_more}
 use Rattle.std.proofs.lemmas.Option.{slice_get-get_or}
-use Rattle.office_core.specs.declared.entry.Command.{Command}
-use Rattle.office_core.specs.declared.entry.Entry.{Entry}
-use Rattle.office_core.specs.declared.entry.Reply.{Reply}
-use Rattle.office_core.specs.declared.entry.Reply.TheVariants as reply
+use Rattle.office_words.specs.declared.entry.Command.{Command}
+use Rattle.office_words.specs.declared.entry.Entry.{Entry}
+use Rattle.office_words.specs.declared.entry.Reply.{Reply}
+use Rattle.office_words.specs.declared.entry.Reply.TheVariants as reply
 use Rattle.office_core.specs.Calls.{Calling}
 use Rattle.office_core.specs.Replies.{is_full}
 use Rattle.office_core.proofs.Callings.{full_is}

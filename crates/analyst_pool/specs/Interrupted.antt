@@ -1,6 +1,6 @@
 -- The calls of one caller of an office that another calls too, as a test has them.
 use Rattle.std.specs.Prelude.{◌≡◌, ◌++◌, ℕ, List, Some, None}
-use Rattle.office_core.specs.declared.entry.Entry.{Entry}
+use Rattle.office_words.specs.declared.entry.Entry.{Entry}
 use Rattle.office_core.specs.Calls.{Calling, full_in}
 use Rattle.office_core.specs.Machine.{entries_by}
 use Rattle.office_core.specs.Offices.{Opened}

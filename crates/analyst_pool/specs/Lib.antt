@@ -5,6 +5,6 @@ pub mod Attempts
 pub mod Ran
 pub mod Laws
 pub use Rattle.office_core.specs.Calls
-pub use Rattle.office_core.specs.Commands
+pub use Rattle.office_words.specs.Commands
 pub use Rattle.office_core.specs.Machine
 pub mod Interrupted

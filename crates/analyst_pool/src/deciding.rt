@@ -4,17 +4,18 @@ ghost use Rattle.std.specs.Prelude.{◌≡◌, false, IfErr, IfOk, IfSome, Match
 ghost use Rattle.snapshot_store.specs.Stores.{version_of};
 ghost use Rattle.trip_analysis.specs.Applications.{Sound};
 ghost use Rattle.trip_analysis.specs.Findings.{IsFoundAt};
-ghost use Rattle.office_core.specs.declared.entry.Command.TheVariants as asked;
+ghost use Rattle.office_words.specs.declared.entry.Command.TheVariants as asked;
 ghost use Rattle.office_core.specs.Replies.{is_outdated};
 ghost use Rattle.analyst_pool.specs.Attempts.{Concluded, DecidedAfter, IsAgain};
 ghost use Rattle.analyst_pool.specs.Attempts.{IsDrafted, IsSubmitted, IsUnlessOutdated, MaySubmit};
 ghost use Rattle.analyst_pool.specs.Following.{FollowsAt, MayFollow};
 ghost use Rattle.analyst_pool.specs.Leaves.{CarriedOut};
-ghost use Rattle.office_core.specs.Commands.{MayCarryOut};
+ghost use Rattle.office_words.specs.Commands.{MayCarryOut};
 
 use crate::gate::Gate;
-use office_core::{Command, Looked, OfficeCalls, Reply};
-use office_io::NoMemory;
+use names::NoMemory;
+use office_core::{Looked, OfficeCalls};
+use office_words::{Command, Reply};
 use snapshot_store::Snapshot;
 use std::alloc::Global;
 use trip_analysis::{Application, Base, Follower, Proposal};

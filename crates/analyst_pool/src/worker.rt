@@ -7,7 +7,8 @@ ghost use Rattle.analyst_pool.specs.Ran.{IsReady, Ran};
 
 use crate::deciding::{Docket, carry_out};
 use crate::gate::Gate;
-use office_core::{Command, OfficeCalls, Reply};
+use office_core::OfficeCalls;
+use office_words::{Command, Reply};
 use std::alloc::Global;
 use std::thread::{Threads, for_each_mut};
 use trip_analysis::Base;

@@ -7,7 +7,7 @@ ghost use Rattle.axle_limits.specs.Findings.{findings_of, Adds, gross_finding, A
 use crate::group::{Rule, group_limit};
 use crate::legal::GROSS_LIMIT;
 use axle_train::Train;
-use office_io::NoMemory;
+use names::NoMemory;
 use std::alloc::Global;
 
 /// A group of axles over its limit, from axle `i` to axle `j`, or the gross weight over its limit; both in pounds.

@@ -14,7 +14,7 @@ use day_text::{CheckFile, Probe};
 use hs20_truck::effects;
 use influence_line::{End, Place};
 use moment_peak::MomentPeak;
-use office_io::NoMemory;
+use names::NoMemory;
 use shear_peak::ShearPeak;
 use span_rating::{Effects, Fit, fits};
 use std::alloc::{AllocError, Global};

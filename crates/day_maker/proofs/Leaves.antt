@@ -10,7 +10,7 @@ use Rattle.std.proofs.lemmas.Fmt.{decimal_injective, decimal_is_IsNumeral, lengt
 use Rattle.std.proofs.lemmas.List.Elements.{All-from_get_or}
 use Rattle.std.proofs.lemmas.List.Splits.{slice_split_at, slice_split_none}
 use Rattle.std.proofs.lemmas.Str.Parse.{digit_at, digit_from_value}
-use Rattle.office_io.specs.Names.{is_name_byte}
+use Rattle.names.specs.Names.{is_name_byte}
 use Rattle.record_text.specs.Fields.{name_of, number_of}
 use Rattle.record_text.proofs.Numbers.{number_read}
 use Rattle.day_maker.specs.Made.{cell, numbered}

@@ -3,7 +3,7 @@ use Rattle.std.proofs.Common.{◌≡◌, ◌≢◌, ◌∙◌, ◌<◌, ◌≤�
 use Rattle.std.specs.Prelude.{codes, if◌then◌else◌, ◌==◌}
 use Rattle.std.specs.Fmt.{decimal}
 use Rattle.csv.specs.Records.{field_at}
-use Rattle.office_core.specs.declared.entry.Command.TheVariants as command
+use Rattle.office_words.specs.declared.entry.Command.TheVariants as command
 use Rattle.restriction_log.specs.declared.change.Change.TheVariants as change
 use Rattle.road_graph.specs.Roads.{number_of as number_named}
 use Rattle.trip_analysis.specs.Applications.{application_of}

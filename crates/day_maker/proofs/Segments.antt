@@ -4,7 +4,7 @@ use Rattle.std.specs.Prelude.{codes, nat_lt}
 use Rattle.std.specs.Fmt.{decimal}
 use Rattle.std.proofs.lemmas.List.{map-append}
 use Rattle.csv.specs.Records.{field_at}
-use Rattle.office_io.specs.Names.{is_name_byte}
+use Rattle.names.specs.Names.{is_name_byte}
 use Rattle.road_graph.specs.Adding.{new_segment, with_segment}
 use Rattle.road_graph.specs.Roads.{has_name, segment_names}
 use Rattle.road_graph.specs.declared.segment.Segment.{Segment}

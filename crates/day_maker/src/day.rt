@@ -8,7 +8,7 @@ use crate::field::Field;
 use crate::page::Page;
 use crate::roads::{put_nodes, put_segments, put_spans};
 use crate::traffic::{put_actors, put_commands, put_trucks};
-use office_io::NoMemory;
+use names::NoMemory;
 use std::alloc::{AllocError, Global};
 
 /// The text of the day file that is made of a seed and a size: a grid of `size + 1` by `size + 1` nodes with its segments and

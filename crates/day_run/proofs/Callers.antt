@@ -6,7 +6,7 @@ use Rattle.std.proofs.lemmas.List.Elements.{All-cons, All-head, All-nil, All-tai
 use Rattle.road_graph.specs.Roads.{IsRoads}
 use Rattle.day_text.specs.Days.{DayParts}
 use Rattle.day_text.specs.Scripts.{script_of}
-use Rattle.office_core.specs.declared.entry.Entry.{Entry}
+use Rattle.office_words.specs.declared.entry.Entry.{Entry}
 use Rattle.office_core.specs.Machine.{entries_by, opened}
 use Rattle.analyst_pool.specs.Laws.{RunsAreOne}
 use Rattle.analyst_pool.specs.Unfolds.{AreFinished}

@@ -5,8 +5,8 @@ use Rattle.day_text.specs.Days.{DayParts}
 use Rattle.day_text.specs.Laws.{IsDayFile}
 use Rattle.day_text.specs.Scripts.{AreScripts}
 use Rattle.day_text.proofs.Dealt.{script_few, script_sound}
-use Rattle.office_core.specs.Commands.{MayCarryOut}
-use Rattle.office_core.specs.declared.entry.Command.{Command}
+use Rattle.office_words.specs.Commands.{MayCarryOut}
+use Rattle.office_words.specs.declared.entry.Command.{Command}
 use Rattle.day_run.specs.Workers.{AreShort, AreSound}
 
 -- the commands of a sound file may be carried out

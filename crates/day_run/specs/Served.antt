@@ -3,8 +3,8 @@ use Rattle.std.specs.Prelude.{◌≡◌, ◌≢◌, ◌<◌, ◌≤◌, ℕ, Lis
 use Rattle.road_graph.specs.Roads.{IsRoads}
 use Rattle.day_text.specs.Days.{DayParts}
 use Rattle.day_text.specs.Scripts.{script_of}
-use Rattle.office_core.specs.declared.entry.Entry.{Entry}
-use Rattle.office_core.specs.declared.entry.Reply.TheVariants as reply
+use Rattle.office_words.specs.declared.entry.Entry.{Entry}
+use Rattle.office_words.specs.declared.entry.Reply.TheVariants as reply
 use Rattle.office_core.specs.Machine.{IsLegal, entries_by}
 use Rattle.office_core.specs.Promises.{KeepsPromises}
 use Rattle.analyst_pool.specs.Unfolds.{AreFinished}

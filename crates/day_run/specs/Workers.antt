@@ -2,12 +2,12 @@
 use Rattle.std.specs.Prelude.{◌≡◌, ◌<◌, ◌≤◌, ℕ, List, [], Some, None, Option, length, slice_index_or, All, Any, Contains, Vec, vec_len, if◌then◌else◌}
 use Rattle.std.specs.Global.{Global}
 use Rattle.trip_analysis.specs.Bases.{BaseLists}
-use Rattle.office_core.specs.declared.entry.Command.{Command}
-use Rattle.office_core.specs.declared.entry.Entry.{Entry}
+use Rattle.office_words.specs.declared.entry.Command.{Command}
+use Rattle.office_words.specs.declared.entry.Entry.{Entry}
 use Rattle.office_turn.specs.Told.{IsReady, Lock, Passing, receipt_for}
 use Rattle.office_turn.specs.declared.view.Receipt.{Receipt}
 use Rattle.office_desk.specs.Desks.{Terms}
-use Rattle.office_core.specs.Commands.{MayCarryOut}
+use Rattle.office_words.specs.Commands.{MayCarryOut}
 use Rattle.analyst_pool.specs.Ran.{Adds}
 use Rattle.analyst_pool.specs.declared.worker.Outcome.{Outcome}
 use Rattle.analyst_pool.specs.declared.worker.Outcome.TheVariants as outcome

@@ -7,7 +7,7 @@ ghost use Rattle.day_run.specs.Workers.{IsFullOutcome};
 use analyst_pool::Outcome;
 
 /// How the actors ended so far.
-#[derive(Clone, Copy, Debug, PartialEq, Eq)]
+#[derive(Clone, Copy, PartialEq, Eq)]
 pub(crate) enum Ended {
     /// Each carried out all its commands.
     Done,

@@ -9,9 +9,9 @@ use crate::ended::Ended;
 use crate::workers::work_all;
 use analyst_pool::{Gate, most_entries};
 use day_text::DayFile;
+use names::NoMemory;
 use office_core::Office;
 use office_desk::Desk;
-use office_io::NoMemory;
 use std::sync::{Arc, Wait};
 use std::thread::Threads;
 

@@ -8,9 +8,9 @@ ghost use Rattle.day_run.specs.Workers.{AreAt, AreDoneFrom, AreFresh, AreReceive
 
 use crate::ended::Ended;
 use analyst_pool::{Gate, Worker, run_actors};
-use office_core::Command;
+use names::NoMemory;
 use office_desk::{Desk, Root, Seat};
-use office_io::NoMemory;
+use office_words::Command;
 use std::sync::Wait;
 use std::thread::Threads;
 use trip_analysis::Base;

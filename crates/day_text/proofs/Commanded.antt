@@ -18,10 +18,10 @@ use Rattle.trip_analysis.proofs.Unbroken.{sound_if}
 use Rattle.day_text.specs.Commands.{all_numbers, applied, apply_fields_of, apply_of, asked_of, order_of, permit_of, post_of, posting_of, resolved_of, set_day_of, unless_refused}
 use Rattle.record_text.specs.Fields.{day_of, field_of, name_of, number_of, posted_of}
 use Rattle.day_text.specs.Fleets.{truck_names}
-use Rattle.office_core.specs.Commands.{MayCarryOut}
+use Rattle.office_words.specs.Commands.{MayCarryOut}
 use Rattle.record_text.specs.Causes.{demand, or_bad}
 use Rattle.record_text.specs.Records.{Row, is_blank_from}
-use Rattle.office_core.specs.declared.entry.Command.TheVariants as command
+use Rattle.office_words.specs.declared.entry.Command.TheVariants as command
 use Rattle.day_text.specs.declared.commands.ApplyFields.{ApplyFields}
 use Rattle.day_text.specs.declared.draft.Draft.{Draft}
 use Rattle.day_text.specs.declared.kind.CommandKind.{CommandKind}

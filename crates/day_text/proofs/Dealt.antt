@@ -3,9 +3,9 @@ use Rattle.std.proofs.Common.{◌≡◌, ◌≤◌, ℕ, List, All, eqb, filter,
 use Rattle.std.proofs.lemmas.List.{length-map}
 use Rattle.std.proofs.lemmas.List.Elements.{All-filter, All-map}
 use Rattle.std.proofs.lemmas.List.Sums.{length-filter, count_by-le-length}
-use Rattle.office_core.specs.declared.entry.Command.{Command}
+use Rattle.office_words.specs.declared.entry.Command.{Command}
 use Rattle.day_text.specs.Days.{DayParts}
-use Rattle.office_core.specs.Commands.{MayCarryOut}
+use Rattle.office_words.specs.Commands.{MayCarryOut}
 use Rattle.day_text.specs.Laws.{IsDayFile}
 use Rattle.day_text.specs.Scripts.{script_of}
 use Rattle.day_text.specs.declared.orders.Order.{Order}

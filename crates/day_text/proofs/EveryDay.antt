@@ -13,12 +13,12 @@ use Rattle.day_text.specs.Fleets.{actors_of, fleet_of, most_actors, truck_names}
 use Rattle.record_text.specs.Fields.{field_of, name_of}
 use Rattle.day_text.specs.Kinds.{kind_of}
 use Rattle.day_text.specs.Trucks.{load_of, truck_fields_of}
-use Rattle.office_core.specs.Commands.{MayCarryOut}
+use Rattle.office_words.specs.Commands.{MayCarryOut}
 use Rattle.day_text.specs.Laws.{IsDayFile}
 use Rattle.record_text.specs.Records.{Row, is_blank_from, judged, rows_of}
 use Rattle.day_text.specs.Roads.{roads_of}
-use Rattle.office_core.specs.declared.entry.Command.{Command}
-use Rattle.office_core.specs.declared.entry.Command.TheVariants as command
+use Rattle.office_words.specs.declared.entry.Command.{Command}
+use Rattle.office_words.specs.declared.entry.Command.TheVariants as command
 use Rattle.day_text.specs.declared.draft.Draft.{Draft}
 use Rattle.day_text.specs.declared.kind.CommandKind.{CommandKind}
 use Rattle.day_text.specs.declared.kind.RecordKind.{RecordKind}

@@ -16,7 +16,7 @@ use Rattle.record_text.specs.Causes.{◌>>=◌, demand, limit, or_bad}
 use Rattle.record_text.specs.Fields.{day_of, field_of, name_of, number_of, posted_of, route_of}
 use Rattle.day_text.specs.Fleets.{truck_names}
 use Rattle.record_text.specs.Records.{Row, is_blank_from}
-use Rattle.office_core.specs.declared.entry.Command.TheVariants as command
+use Rattle.office_words.specs.declared.entry.Command.TheVariants as command
 use Rattle.day_text.specs.declared.commands.ApplyFields.{ApplyFields}
 use Rattle.day_text.specs.declared.draft.Draft.{Draft}
 use Rattle.record_text.specs.declared.posted.Posted.{Posted}

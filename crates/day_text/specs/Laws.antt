@@ -2,7 +2,7 @@
 use Rattle.std.specs.Prelude.{◌<◌, ◌≤◌, length, All}
 use Rattle.day_text.specs.Days.{DayParts}
 use Rattle.day_text.specs.Fleets.{most_actors}
-use Rattle.office_core.specs.Commands.{MayCarryOut}
+use Rattle.office_words.specs.Commands.{MayCarryOut}
 
 -- there are few enough actors and commands, each command comes from an actor who is there, and each application is sound for
 -- the roads and the trucks of the file

@@ -1,7 +1,7 @@
 -- The scripts of the actors: each has its own commands, in the order of their records.
 use Rattle.std.specs.Prelude.{◌≡◌, ◌<◌, ℕ, ◌==◌, List, [], ◌∷◌, ◌++◌, Vec, filter, length, map, slice_index_or, if◌then◌else◌}
 use Rattle.std.specs.Global.{Global}
-use Rattle.office_core.specs.declared.entry.Command.{Command}
+use Rattle.office_words.specs.declared.entry.Command.{Command}
 use Rattle.day_text.specs.declared.orders.Order.{Order}
 
 -- the commands of one actor

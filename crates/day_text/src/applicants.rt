@@ -3,8 +3,8 @@
 ghost use Rattle.std.specs.Prelude.{◌≡◌};
 
 use crate::orders::Order;
-use office_core::Command;
-use office_io::NoMemory;
+use names::NoMemory;
+use office_words::Command;
 use std::alloc::Global;
 use trip_analysis::Base;
 

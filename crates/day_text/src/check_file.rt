@@ -19,7 +19,7 @@ use std::marker::Model;
 use trip_analysis::Truck;
 
 /// A span to try the truck on: its inches (1 to 6,000), and its rating per mille of HS20-44 (at most 100,000).
-#[derive(Clone, Copy, Debug, Drop, PartialEq, Eq)]
+#[derive(Clone, Copy, Drop, PartialEq, Eq)]
 pub struct Probe {
     pub inches: u32,
     pub rating: u32,

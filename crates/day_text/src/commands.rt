@@ -11,8 +11,8 @@ use crate::draft::Draft;
 use crate::kind::CommandKind;
 use crate::orders::Order;
 use csv::StringRecord;
-use office_core::Command;
-use office_io::Name;
+use names::Name;
+use office_words::Command;
 use permit_days::Day;
 use record_text::{
     Posted, RecordCause, RecordRefusal, Route, field, is_blank_from, parse_day, parse_name,

@@ -11,7 +11,7 @@ use crate::draft::Draft;
 use crate::orders::Order;
 use crate::progress::DayProgress;
 use crate::refusal::DayFileRefusal;
-use office_io::{Name, NoMemory};
+use names::{Name, NoMemory};
 use permit_days::Day;
 use record_text::{FileRefusal, RecordCause, RecordRefusal, read_records};
 use std::alloc::Global;

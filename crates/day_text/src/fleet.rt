@@ -6,7 +6,7 @@ ghost use Rattle.day_text.specs.Fleets.{truck_names};
 ghost use Rattle.record_text.specs.declared.refusal.RecordRefusal.TheVariants as refusal;
 
 use indexmap::IndexSet;
-use office_io::Name;
+use names::Name;
 use record_text::RecordRefusal;
 use std::alloc::Global;
 use std::marker::Model;

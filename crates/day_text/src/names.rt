@@ -5,7 +5,7 @@ ghost use Rattle.road_graph.specs.Roads.{has_name, number_of};
 ghost use Rattle.record_text.specs.declared.refusal.RecordRefusal.TheVariants as refusal;
 
 use indexmap::IndexSet;
-use office_io::Name;
+use names::Name;
 use record_text::RecordRefusal;
 use std::alloc::Global;
 use std::marker::Model;

@@ -4,7 +4,7 @@ ghost use Rattle.std.specs.Prelude.{◌≡◌, []};
 ghost use Rattle.record_text.specs.Causes.{Grows};
 ghost use Rattle.day_text.specs.Commands.{with_order};
 
-use office_core::Command;
+use office_words::Command;
 use record_text::{Kind, RecordRefusal};
 use std::alloc::Global;
 use std::marker::Model;
@@ -13,7 +13,7 @@ use std::marker::Model;
 const MOST_COMMANDS: usize = 4096;
 
 /// A command, and the number of the actor who gives it.
-#[derive(Debug, Drop)]
+#[derive(Drop)]
 pub struct Order {
     pub actor: u32,
     pub command: Command,

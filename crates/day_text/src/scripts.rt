@@ -6,8 +6,8 @@ ghost use Rattle.day_text.specs.Scripts.{AreScripts, IsDealt};
 
 use crate::day_file::DayFile;
 use crate::orders::Order;
-use office_core::Command;
-use office_io::NoMemory;
+use names::NoMemory;
+use office_words::Command;
 use permit_days::Day;
 use std::alloc::Global;
 use trip_analysis::Base;

@@ -8,7 +8,7 @@ ghost use Rattle.day_text.specs.Trucks.{load_of, train_number, truck_fields_of};
 use axle_train::{Axle, Train, TrainRefusal};
 use clearance_rules::{Load, is_cross_section, is_length};
 use csv::StringRecord;
-use office_io::Name;
+use names::Name;
 use record_text::{
     Axles, RecordCause, RecordRefusal, field, is_blank_from, parse_axles, parse_name, parse_number,
 };

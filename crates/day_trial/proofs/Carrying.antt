@@ -9,10 +9,10 @@ use Rattle.std.proofs.lemmas.List.Elements.{All-append, All-nil, All-weaker}
 use Rattle.trip_analysis.specs.Bases.{BaseLists}
 use Rattle.day_text.specs.declared.orders.Order.{Order}
 use Rattle.day_text.specs.Days.{DayParts}
-use Rattle.office_core.specs.declared.entry.Command.{Command}
-use Rattle.office_core.specs.declared.entry.Entry.{Entry}
-use Rattle.office_core.specs.declared.entry.Reply.{Reply}
-use Rattle.office_core.specs.declared.entry.Reply.TheVariants as reply
+use Rattle.office_words.specs.declared.entry.Command.{Command}
+use Rattle.office_words.specs.declared.entry.Entry.{Entry}
+use Rattle.office_words.specs.declared.entry.Reply.{Reply}
+use Rattle.office_words.specs.declared.entry.Reply.TheVariants as reply
 use Rattle.office_core.specs.Calls.{Calling, Who, full_in, one_seat}
 use Rattle.office_core.specs.Machine.{IsLegal}
 use Rattle.office_core.specs.Offices.{IsFull, Opened}
@@ -20,7 +20,7 @@ use Rattle.office_core.specs.Promises.{KeepsPromises}
 use Rattle.office_core.specs.Replies.{is_full}
 use Rattle.analyst_pool.specs.Laws.{FinishedFoundMemory, StoppedAreShorter, UnfoldingsAreShort}
 use Rattle.analyst_pool.specs.Leaves.{CarriedOut}
-use Rattle.office_core.specs.Commands.{MayCarryOut}
+use Rattle.office_words.specs.Commands.{MayCarryOut}
 use Rattle.analyst_pool.specs.Unfolds.{IsFinished, Unfolds}
 use Rattle.day_trial.specs.Serial.{CarriesOut, IsSerial}
 use Rattle.day_trial.specs.Serving.{HasCarriedOut, HasServed, WasCarriedOut, grown_by}

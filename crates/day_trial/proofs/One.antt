@@ -4,7 +4,7 @@ use Rattle.road_graph.specs.Roads.{IsRoads}
 use Rattle.trip_analysis.specs.Bases.{BaseLists}
 use Rattle.day_text.specs.declared.orders.Order.{Order}
 use Rattle.day_text.specs.Days.{DayParts}
-use Rattle.office_core.specs.declared.entry.Entry.{Entry}
+use Rattle.office_words.specs.declared.entry.Entry.{Entry}
 use Rattle.office_core.specs.Machine.{IsLegalFrom, Machine, after_all, opened}
 use Rattle.office_core.proofs.Prefixes.{legal_front, legal_later}
 use Rattle.analyst_pool.specs.Laws.{FinishedAreOne}

@@ -2,9 +2,9 @@
 use Rattle.std.specs.Prelude.{◌≡◌, ◌≤◌, ◌++◌, ◌*◌, ℕ, List, length}
 use Rattle.day_text.specs.declared.orders.Order.{Order}
 use Rattle.trip_analysis.specs.Followers.{Followed}
-use Rattle.office_core.specs.declared.entry.Entry.{Entry}
-use Rattle.office_core.specs.declared.entry.Reply.{Reply}
-use Rattle.office_core.specs.declared.entry.Reply.TheVariants as reply
+use Rattle.office_words.specs.declared.entry.Entry.{Entry}
+use Rattle.office_words.specs.declared.entry.Reply.{Reply}
+use Rattle.office_words.specs.declared.entry.Reply.TheVariants as reply
 use Rattle.office_core.specs.Offices.{IsFull, Opened, stored_in_office}
 use Rattle.analyst_pool.specs.Following.{FollowsAt}
 use Rattle.analyst_pool.specs.Unfolds.{IsFinished, Unfolds}

@@ -1,9 +1,9 @@
 -- What is counted of a history, and the text that tells it.
 use Rattle.std.specs.Prelude.{ℕ, Bool, true, false, List, [], ◌∷◌, ◌++◌, codes, count_by, length, sum_by}
 use Rattle.std.specs.Fmt.{decimal}
-use Rattle.office_core.specs.declared.entry.Entry.{Entry}
-use Rattle.office_core.specs.declared.entry.Reply.{Reply}
-use Rattle.office_core.specs.declared.entry.Reply.TheVariants as reply
+use Rattle.office_words.specs.declared.entry.Entry.{Entry}
+use Rattle.office_words.specs.declared.entry.Reply.{Reply}
+use Rattle.office_words.specs.declared.entry.Reply.TheVariants as reply
 use Rattle.day_trial.specs.declared.telling.Kind.{Kind}
 use Rattle.day_trial.specs.declared.telling.Kind.TheVariants.{Issued, NoRoad, NotNeeded, Refused}
 

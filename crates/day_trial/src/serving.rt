@@ -2,7 +2,7 @@
 
 ghost use Rattle.std.specs.Prelude.{◌≡◌, ◌+◌, ◌*◌, ◌<◌, ◌≤◌, [], length, All, IfOk, IfSome, OnOk};
 ghost use Rattle.road_graph.specs.Roads.{IsRoads};
-ghost use Rattle.office_core.specs.Commands.{MayCarryOut};
+ghost use Rattle.office_words.specs.Commands.{MayCarryOut};
 ghost use Rattle.day_text.specs.Laws.{IsDayFile};
 ghost use Rattle.day_trial.specs.Serial.{IsSerial};
 ghost use Rattle.day_trial.specs.Serving.{FollowsOffice, HasCarriedOut, HasServed, WasCarriedOut};
@@ -11,8 +11,9 @@ use analyst_pool::{
     Docket, OpenGate, carry_out, most_entries, scripts_are_short, unfoldings_are_short,
 };
 use day_text::{DayFile, Order};
-use office_core::{Office, OneSeat, Reply};
-use office_io::NoMemory;
+use names::NoMemory;
+use office_core::{Office, OneSeat};
+use office_words::Reply;
 use std::alloc::Global;
 use std::sync::Arc;
 use trip_analysis::{Base, Follower};

@@ -4,8 +4,8 @@ ghost use Rattle.std.specs.Prelude.{◌≡◌, ◌≤◌, ◌++◌, ◌*◌, ◌
 ghost use Rattle.day_trial.specs.Summaries.{is_of, is_no_road, is_not_needed, is_permit, is_refusal, recalled_by, summary_of, told, version_after, version_behind};
 
 use itoa::Buffer;
-use office_core::{Entry, Reply};
-use office_io::NoMemory;
+use names::NoMemory;
+use office_words::{Entry, Reply};
 use std::alloc::{AllocError, Global};
 
 // What replies to applications are counted by.

@@ -18,7 +18,7 @@ impl Placements for Train {
 }
 
 /// The HS20-44 truck, at any lead and with any second spacing from 14 to 30 feet.
-#[derive(Clone, Copy, Debug)]
+#[derive(Clone, Copy)]
 pub struct Hs20Placements;
 
 impl Placements for Hs20Placements {

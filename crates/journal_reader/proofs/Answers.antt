@@ -3,7 +3,7 @@ use Rattle.std.proofs.Common.{◌≡◌, ◌≢◌, ◌∙◌, ◌<◌, ◌+◌,
 use Rattle.std.specs.Prelude.{Result, Ok, Err}
 use Rattle.std.specs.List.{AllByRecursion}
 use Rattle.std.proofs.lemmas.Bool.{cases_order}
-use Rattle.office_core.specs.declared.entry.Entry.{Entry}
+use Rattle.office_words.specs.declared.entry.Entry.{Entry}
 use Rattle.journal_text.specs.Journals.{ended, journal_of}
 use Rattle.journal_reader.specs.Fits.{FitsHistory}
 use Rattle.journal_reader.specs.Journals.{IsAnswer, IsBadLine, IsBadNext, IsJournalOf, IsLine, lines_text}

@@ -7,7 +7,7 @@ use Rattle.std.proofs.Math.ListN.{length-append}
 use Rattle.std.proofs.lemmas.Slice.Eq.{bytes_eq-Decides}
 use Rattle.std.proofs.lemmas.Bool.{cases_eq, eqb-true}
 use Rattle.std.proofs.lemmas.Bool.Decides.{nat_tests}
-use Rattle.office_core.specs.declared.entry.Entry.{Entry}
+use Rattle.office_words.specs.declared.entry.Entry.{Entry}
 use Rattle.journal_text.specs.Journals.{end_line, ended, journal_of, line_of}
 use Rattle.journal_reader.specs.Fits.{FitsEntry, FitsHistory}
 use Rattle.journal_reader.specs.Readers.{entry_of}

@@ -1,7 +1,7 @@
 -- Which texts are journals, and which line of a text is bad.
 use Rattle.std.specs.Prelude.{◌≡◌, ◌≢◌, ◌⊎◌, ℕ, ◌+◌, List, ◌++◌, length, flat_map, codes, Result, Ok, Err}
 use Rattle.std.specs.List.{AllByRecursion}
-use Rattle.office_core.specs.declared.entry.Entry.{Entry}
+use Rattle.office_words.specs.declared.entry.Entry.{Entry}
 use Rattle.journal_text.specs.Journals.{ended, journal_of, line_of}
 use Rattle.journal_reader.specs.Fits.{FitsHistory}
 use Rattle.journal_reader.specs.declared.refusal.JournalRefusal.{JournalRefusal}

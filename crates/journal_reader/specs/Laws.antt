@@ -1,6 +1,6 @@
 -- Laws of journals.
 use Rattle.std.specs.Prelude.{◌≡◌, ◌≢◌, ◌⊎◌, List, [], ◌++◌, ℕ, Result, Ok, Err}
-use Rattle.office_core.specs.declared.entry.Entry.{Entry}
+use Rattle.office_words.specs.declared.entry.Entry.{Entry}
 use Rattle.journal_text.specs.Journals.{journal_of}
 use Rattle.journal_reader.specs.Fits.{FitsHistory}
 use Rattle.journal_reader.specs.Journals.{IsAnswer, IsJournalOf}

@@ -11,7 +11,7 @@ ghost use Rattle.journal_reader.specs.Readers.{FitsTerm, FitsTrip, term_words, t
 use crate::limits::change;
 use crate::numbers::{indices_in, is};
 use crate::words::{after, day, named_number, named_place, number, place, places, word};
-use office_core::Call;
+use office_words::Call;
 use permit_days::Day;
 use road_graph::Numbers;
 use std::alloc::{AllocError, Global};

@@ -15,7 +15,7 @@ use crate::parts::is_done;
 use crate::replies::reply;
 use crate::words::after;
 use itoa::Buffer;
-use office_core::Entry;
+use office_words::Entry;
 use std::alloc::{AllocError, Global};
 
 /// The entry of a line.

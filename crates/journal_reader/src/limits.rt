@@ -14,7 +14,7 @@ use crate::numbers::{group_in, is};
 use crate::words::{after, fraction, named_number, named_place, number, place, word};
 use clearance_rules::Limit;
 use influence_line::Frac;
-use office_core::Cause;
+use office_words::Cause;
 use restriction_log::Change;
 
 /// A change.

@@ -10,7 +10,7 @@ use crate::entries::{entry, is_end};
 use crate::numbers::is;
 use crate::parts::line;
 use crate::refusal::JournalRefusal;
-use office_core::Entry;
+use office_words::Entry;
 use std::alloc::Global;
 
 /// The history that the bytes are the journal of, or the first line such that no journal begins with the lines up to it;

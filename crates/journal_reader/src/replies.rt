@@ -12,7 +12,7 @@ use crate::calls::days;
 use crate::limits::{cause, limit};
 use crate::numbers::is;
 use crate::words::{day, named_number, named_numbers, named_place, named_places, number, word};
-use office_core::Reply;
+use office_words::Reply;
 use permit_book::Status;
 use std::alloc::{AllocError, Global};
 

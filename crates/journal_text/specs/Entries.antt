@@ -11,12 +11,12 @@ use Rattle.trip_analysis.specs.declared.finding.What.{What}
 use Rattle.trip_analysis.specs.declared.finding.What.TheVariants as what
 use Rattle.permit_book.specs.declared.permit.Status.{Status}
 use Rattle.permit_book.specs.declared.permit.Status.TheVariants as status
-use Rattle.office_core.specs.declared.entry.Call.{Call}
-use Rattle.office_core.specs.declared.entry.Call.TheVariants as call
-use Rattle.office_core.specs.declared.entry.Cause.{Cause}
-use Rattle.office_core.specs.declared.entry.Cause.TheVariants as cause
-use Rattle.office_core.specs.declared.entry.Reply.{Reply}
-use Rattle.office_core.specs.declared.entry.Reply.TheVariants as reply
+use Rattle.office_words.specs.declared.entry.Call.{Call}
+use Rattle.office_words.specs.declared.entry.Call.TheVariants as call
+use Rattle.office_words.specs.declared.entry.Cause.{Cause}
+use Rattle.office_words.specs.declared.entry.Cause.TheVariants as cause
+use Rattle.office_words.specs.declared.entry.Reply.{Reply}
+use Rattle.office_words.specs.declared.entry.Reply.TheVariants as reply
 use Rattle.journal_text.specs.Words.{Words, group, index, numbers_words, places_words}
 
 -- a flag is 0 or 1

@@ -3,7 +3,7 @@ use Rattle.std.specs.Prelude.{ℕ, List, [], ◌∷◌, ◌++◌, length, flat_m
 use Rattle.std.specs.Fmt.{decimal}
 use Rattle.journal_text.specs.Words.{index, spaced}
 use Rattle.journal_text.specs.Entries.{call_words, reply_words}
-use Rattle.office_core.specs.declared.entry.Entry.{Entry}
+use Rattle.office_words.specs.declared.entry.Entry.{Entry}
 
 -- a line with its line feed
 abbrev pub ended : List ℕ → List ℕ

@@ -7,7 +7,7 @@ ghost use Rattle.journal_text.specs.Entries.{application_words, asked_words, cal
 
 use crate::limits::change;
 use crate::words::{day, named, named_place, named_places, word};
-use office_core::Call;
+use office_words::Call;
 use permit_days::Day;
 use std::alloc::AllocError;
 use trip_analysis::{Application, What};

@@ -9,7 +9,7 @@ ghost use Rattle.journal_text.specs.Entries.{IsOfSpan, cause_words, change_words
 use crate::words::{named, named_fraction, named_group, named_place, word};
 use clearance_rules::Limit;
 use influence_line::Frac;
-use office_core::Cause;
+use office_words::Cause;
 use restriction_log::Change;
 use std::alloc::AllocError;
 

@@ -6,8 +6,8 @@ ghost use Rattle.journal_text.specs.Journals.{ended, journal_of, line_of};
 use crate::calls::call;
 use crate::replies::reply;
 use crate::words::{digits, index_digits, word};
-use office_core::Entry;
-use office_io::NoMemory;
+use names::NoMemory;
+use office_words::Entry;
 use std::alloc::{AllocError, Global};
 
 /// The text of a history: a line for each entry, between a first line and an end that counts them. `NoMemory` where no

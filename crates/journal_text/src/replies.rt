@@ -9,7 +9,7 @@ use crate::calls::days;
 use crate::limits::{cause, limit};
 use crate::words::{named, named_day, named_numbers, named_place, named_places, word};
 use clearance_rules::Limit;
-use office_core::{Cause, Reply};
+use office_words::{Cause, Reply};
 use permit_book::Status;
 use std::alloc::AllocError;
 

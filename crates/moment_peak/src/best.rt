@@ -13,7 +13,7 @@ use axle_train::Train;
 
 /// An axle and a run: the run's greatest moment under that axle is `value` pounds times inches over four times the run's
 /// weight and the span.
-#[derive(Clone, Copy, Debug)]
+#[derive(Clone, Copy)]
 pub struct Candidate {
     pub value: u128,
     pub axle: usize,

@@ -12,7 +12,7 @@ use crate::run::{Run, Sums};
 use axle_train::Train;
 
 /// A run, one of its axles, and the sums of the run's axles in front of that one.
-#[derive(Clone, Copy, Debug)]
+#[derive(Clone, Copy)]
 pub struct Pair {
     pub run: Run,
     pub axle: usize,

@@ -9,7 +9,7 @@ use axle_train::{Axle, Train};
 
 /// What the vertices of some axles are made of: their weight in pounds, and their weight times place in pounds times
 /// inches behind the train's first axle.
-#[derive(Clone, Copy, Debug)]
+#[derive(Clone, Copy)]
 pub struct Sums {
     pub weight: u64,
     pub moment: u64,
@@ -61,7 +61,7 @@ impl Sums {
 }
 
 /// The axles `first` to `last`, and their sums.
-#[derive(Clone, Copy, Debug)]
+#[derive(Clone, Copy)]
 pub struct Run {
     pub first: usize,
     pub last: usize,

@@ -6,7 +6,8 @@ ghost use Rattle.notice_desk.specs.Memory.{new_notice, tell_fails};
 ghost use Rattle.notice_desk.specs.Notices.{told_more};
 
 use crate::notice::{Notice, Recall};
-use office_io::{Failed, NoMemory, is_failing};
+use names::NoMemory;
+use office_io::{Failed, is_failing};
 use std::alloc::Global;
 use std::marker::Model;
 

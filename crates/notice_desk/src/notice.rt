@@ -5,7 +5,8 @@ ghost use Rattle.office_io.specs.Causes.{HasCause};
 ghost use Rattle.notice_desk.specs.declared.notice.Recall.{Recall};
 ghost use Rattle.notice_desk.specs.Notices.{is_for, told_more};
 
-use office_io::{Failed, Name};
+use names::Name;
+use office_io::Failed;
 
 /// A permit that a posting recalled: its number, the version of that posting, and the carrier of its truck.
 #[derive(Clone, Copy, Debug, PartialEq, Eq)]
@@ -16,7 +17,7 @@ pub struct Recall {
 }
 
 /// Whose recalls an object is told.
-#[derive(Clone, Copy, Debug, PartialEq, Eq)]
+#[derive(Clone, Copy, PartialEq, Eq)]
 pub enum Whom {
     All,
     Carrier(Name),

@@ -11,13 +11,13 @@ use Rattle.trip_analysis.specs.declared.finding.Failing.{Failing}
 use Rattle.trip_analysis.specs.declared.finding.What.{What}
 use Rattle.trip_analysis.specs.Bases.{BaseLists}
 use Rattle.trip_analysis.specs.Findings.{limit_for, first_on, first_meeting, leaving}
-use Rattle.office_core.specs.declared.entry.Call.{Call}
-use Rattle.office_core.specs.declared.entry.Reply.{Reply}
+use Rattle.office_words.specs.declared.entry.Call.{Call}
+use Rattle.office_words.specs.declared.entry.Reply.{Reply}
 use Rattle.office_core.specs.Replies.{route_reply, fails_reply, refused_or, cut_reply, what_reply, is_late, is_free, early_reply, apply_reply, day_reply, surrender_reply, shown, show_reply, is_full}
 use Rattle.office_core.specs.Machine.{Machine, version_of, state_in, reply_in, posted_reply, IsAnswer}
-use Rattle.office_core.specs.declared.entry.Call.TheVariants as call
-use Rattle.office_core.specs.declared.entry.Reply.TheVariants as reply
-use Rattle.office_core.specs.declared.entry.Cause.TheVariants as cause
+use Rattle.office_words.specs.declared.entry.Call.TheVariants as call
+use Rattle.office_words.specs.declared.entry.Reply.TheVariants as reply
+use Rattle.office_words.specs.declared.entry.Cause.TheVariants as cause
 use Rattle.trip_analysis.specs.declared.finding.What.TheVariants as what
 use Rattle.office_core.proofs.Lists.{pick}
 

@@ -8,8 +8,8 @@ use Rattle.trip_analysis.specs.declared.finding.What.{What}
 use Rattle.trip_analysis.specs.Bases.{BaseLists}
 use Rattle.trip_analysis.specs.Applications.{Sound}
 use Rattle.trip_analysis.specs.Findings.{HoldsIn, IsFinding}
-use Rattle.office_core.specs.declared.entry.Call.TheVariants as call
-use Rattle.office_core.specs.declared.entry.Reply.{Reply}
+use Rattle.office_words.specs.declared.entry.Call.TheVariants as call
+use Rattle.office_words.specs.declared.entry.Reply.{Reply}
 use Rattle.office_core.specs.Replies.{is_free, is_late, is_outdated}
 use Rattle.office_core.specs.Machine.{IsAnswer, IsFound, Machine, reply_in, state_in, version_of}
 use Rattle.office_core.proofs.Cases.{Cases, apply_found, none_early}

@@ -2,11 +2,11 @@
 use Rattle.std.proofs.Common.{◌≡◌, ◌∷◌, [], List, ℕ, ap, refl, ◌∙◌}
 use Rattle.restriction_log.specs.declared.change.Change.{Change}
 use Rattle.trip_analysis.specs.Bases.{BaseLists}
-use Rattle.office_core.specs.declared.entry.Call.{Call}
-use Rattle.office_core.specs.declared.entry.Call.TheVariants as call
-use Rattle.office_core.specs.declared.entry.Reply.{Reply}
-use Rattle.office_core.specs.declared.entry.Reply.TheVariants as reply
-use Rattle.office_core.specs.declared.entry.Entry.{Entry}
+use Rattle.office_words.specs.declared.entry.Call.{Call}
+use Rattle.office_words.specs.declared.entry.Call.TheVariants as call
+use Rattle.office_words.specs.declared.entry.Reply.{Reply}
+use Rattle.office_words.specs.declared.entry.Reply.TheVariants as reply
+use Rattle.office_words.specs.declared.entry.Entry.{Entry}
 use Rattle.office_core.specs.Machine.{IsAnswer, IsLegal, IsLegalFrom, Machine, after, after_all, after_entry, machine_of, opened, with_day, with_posting, with_surrender}
 use Rattle.office_core.specs.Happened.{day_after, day_by}
 use Rattle.office_core.proofs.Fitting.{Fits, fits}

@@ -12,16 +12,16 @@ use Rattle.permit_book.specs.declared.permit.Status.{Status}
 use Rattle.permit_book.specs.Permits.{permit_of, no_permit, is_issued, marked, in_force, is_in_force, status_of, status_by}
 use Rattle.trip_analysis.specs.declared.application.Application.{Application}
 use Rattle.trip_analysis.specs.Bases.{BaseLists}
-use Rattle.office_core.specs.declared.entry.Call.{Call}
-use Rattle.office_core.specs.declared.entry.Reply.{Reply}
-use Rattle.office_core.specs.declared.entry.Entry.{Entry}
+use Rattle.office_words.specs.declared.entry.Call.{Call}
+use Rattle.office_words.specs.declared.entry.Reply.{Reply}
+use Rattle.office_words.specs.declared.entry.Entry.{Entry}
 use Rattle.office_core.specs.Recalls.{recalled_if}
 use Rattle.office_core.specs.Replies.{surrender_reply}
 use Rattle.office_core.specs.Machine.{Machine, opened, version_of, IsAnswer, with_permit, with_posting, with_day, with_surrender, after, after_entry, after_all, IsLegalFrom, IsLegal, machine_of}
 use Rattle.permit_book.specs.declared.permit.Status.TheVariants as status
 use Rattle.permit_book.specs.declared.permit.Mark.TheVariants as mark
-use Rattle.office_core.specs.declared.entry.Call.TheVariants as call
-use Rattle.office_core.specs.declared.entry.Reply.TheVariants as reply
+use Rattle.office_words.specs.declared.entry.Call.TheVariants as call
+use Rattle.office_words.specs.declared.entry.Reply.TheVariants as reply
 use Rattle.office_core.proofs.DayOrders.{before_on}
 use Rattle.office_core.proofs.Forces.{Advances, day_advances}
 use Rattle.office_core.proofs.Lists.{pick}

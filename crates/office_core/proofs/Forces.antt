@@ -9,15 +9,15 @@ use Rattle.permit_book.specs.declared.permit.Mark.{Mark}
 use Rattle.permit_book.specs.Permits.{is_in_force, status_of, status_by, is_live}
 use Rattle.trip_analysis.specs.declared.application.Application.{Application}
 use Rattle.trip_analysis.specs.Bases.{BaseLists}
-use Rattle.office_core.specs.declared.entry.Call.{Call}
-use Rattle.office_core.specs.declared.entry.Reply.{Reply}
+use Rattle.office_words.specs.declared.entry.Call.{Call}
+use Rattle.office_words.specs.declared.entry.Reply.{Reply}
 use Rattle.office_core.specs.Recalls.{InForceMeet, MeetsIfInForce, is_recalled, recalled_if}
 use Rattle.office_core.specs.Replies.{day_reply}
 use Rattle.office_core.specs.Machine.{Machine, version_of, state_in, reply_in, IsAnswer, with_permit, with_posting, with_day, with_surrender, after}
 use Rattle.permit_book.specs.declared.permit.Status.TheVariants as status
 use Rattle.permit_book.specs.declared.permit.Mark.TheVariants as mark
-use Rattle.office_core.specs.declared.entry.Call.TheVariants as call
-use Rattle.office_core.specs.declared.entry.Reply.TheVariants as reply
+use Rattle.office_words.specs.declared.entry.Call.TheVariants as call
+use Rattle.office_words.specs.declared.entry.Reply.TheVariants as reply
 use Rattle.office_core.proofs.DayOrders.{not_before}
 use Rattle.office_core.proofs.Lists.{pick, All-map, All-weaker}
 use Rattle.office_core.proofs.Replies.{IssuedMeets, apply_meets, none_fails}

@@ -17,15 +17,15 @@ use Rattle.trip_analysis.specs.declared.finding.What.{What}
 use Rattle.trip_analysis.specs.Bases.{BaseLists}
 use Rattle.trip_analysis.specs.Applications.{Sound}
 use Rattle.trip_analysis.specs.Findings.{InRange, first_on}
-use Rattle.office_core.specs.declared.entry.Call.{Call}
-use Rattle.office_core.specs.declared.entry.Reply.{Reply}
-use Rattle.office_core.specs.declared.entry.Entry.{Entry}
+use Rattle.office_words.specs.declared.entry.Call.{Call}
+use Rattle.office_words.specs.declared.entry.Reply.{Reply}
+use Rattle.office_words.specs.declared.entry.Entry.{Entry}
 use Rattle.office_core.specs.Recalls.{MeetsIfInForce, is_recalled, recalled_if, IsRanged}
 use Rattle.office_core.specs.Replies.{early_reply}
 use Rattle.office_core.specs.Machine.{Machine, opened, version_of, state_in, state_at, reply_in, MayAsk, IsAnswer, with_permit, with_posting, with_day, with_surrender, after, Step, after_entry, after_all, IsLegalFrom, IsLegal, machine_of, IsGood}
 use Rattle.permit_book.specs.declared.permit.Mark.TheVariants as mark
-use Rattle.office_core.specs.declared.entry.Call.TheVariants as call
-use Rattle.office_core.specs.declared.entry.Reply.TheVariants as reply
+use Rattle.office_words.specs.declared.entry.Call.TheVariants as call
+use Rattle.office_words.specs.declared.entry.Reply.TheVariants as reply
 use Rattle.trip_analysis.proofs.Found.{found_in_range}
 use Rattle.office_core.proofs.Cases.{apply_found, none_early}
 use Rattle.office_core.proofs.Lists.{pick, All-map}

@@ -10,9 +10,9 @@ use Rattle.std.proofs.lemmas.List.Sums.{fold-append}
 use Rattle.std.proofs.lemmas.Option.{slice_get-get_or}
 use Rattle.trip_analysis.specs.Bases.{BaseLists}
 use Rattle.trip_analysis.proofs.Found.{is_in_from_among}
-use Rattle.office_core.specs.declared.entry.Reply.{Reply}
-use Rattle.office_core.specs.declared.entry.Reply.TheVariants as reply
-use Rattle.office_core.specs.declared.entry.Entry.{Entry}
+use Rattle.office_words.specs.declared.entry.Reply.{Reply}
+use Rattle.office_words.specs.declared.entry.Reply.TheVariants as reply
+use Rattle.office_words.specs.declared.entry.Entry.{Entry}
 use Rattle.office_core.specs.Offices.{entry}
 use Rattle.office_core.specs.Happened.{Day, History, Stands}
 use Rattle.office_core.specs.Promises.{KeepsPromises}

@@ -6,13 +6,13 @@ use Rattle.restriction_log.specs.declared.change.Change.{Change}
 use Rattle.restriction_log.specs.States.{state_of}
 use Rattle.trip_analysis.specs.Bases.{BaseLists}
 use Rattle.trip_analysis.specs.Findings.{IsFinding}
-use Rattle.office_core.specs.declared.entry.Call.{Call}
-use Rattle.office_core.specs.declared.entry.Reply.{Reply}
-use Rattle.office_core.specs.declared.entry.Entry.{Entry}
+use Rattle.office_words.specs.declared.entry.Call.{Call}
+use Rattle.office_words.specs.declared.entry.Reply.{Reply}
+use Rattle.office_words.specs.declared.entry.Entry.{Entry}
 use Rattle.office_core.specs.Machine.{Machine, opened, IsFound, MayAsk, with_posting, with_day, with_surrender, after, after_entry, after_all, machine_of}
 use Rattle.office_core.specs.Offices.{Opened, HasPlace, IsFull, grown, machine_in}
-use Rattle.office_core.specs.declared.entry.Call.TheVariants as call
-use Rattle.office_core.specs.declared.entry.Reply.TheVariants as reply
+use Rattle.office_words.specs.declared.entry.Call.TheVariants as call
+use Rattle.office_words.specs.declared.entry.Reply.TheVariants as reply
 use Rattle.office_core.proofs.Prefixes.{after_all-append}
 
 -- the postings go on

@@ -1,7 +1,7 @@
 -- Fronts and ends of histories.
 use Rattle.std.proofs.Common.{◌≡◌, ◌∷◌, ◌++◌, [], List, refl}
 use Rattle.trip_analysis.specs.Bases.{BaseLists}
-use Rattle.office_core.specs.declared.entry.Entry.{Entry}
+use Rattle.office_words.specs.declared.entry.Entry.{Entry}
 use Rattle.office_core.specs.Machine.{Machine, after_entry, after_all, IsLegalFrom}
 
 pub legal_later : (base : BaseLists) (m : Machine) (es more : List Entry) → IsLegalFrom base m (es ++ more) → IsLegalFrom base (after_all base m es) more

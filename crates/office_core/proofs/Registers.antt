@@ -23,7 +23,7 @@ use Rattle.trip_analysis.specs.declared.finding.Proposal.{Proposal}
 use Rattle.trip_analysis.specs.Followers.{GoesOn}
 use Rattle.trip_analysis.proofs.Following.{goes_on_posted}
 use Rattle.office_core.specs.declared.register.Register.TheInside.{Inside}
-use Rattle.office_core.specs.declared.entry.Reply.TheVariants as reply
+use Rattle.office_words.specs.declared.entry.Reply.TheVariants as reply
 use Rattle.office_core.specs.Recalls.{AreLive, AreVerdicts, IsRanged, marked_all, recalled_by, recalled_now}
 use Rattle.office_core.specs.Users.{IsIndexed, IsUser, users_of}
 use Rattle.office_core.specs.Machine.{IsGood, Machine, machine_at, posted_reply, state_with, with_posting}

@@ -8,9 +8,9 @@ use Rattle.trip_analysis.specs.declared.finding.Failing.{Failing}
 use Rattle.trip_analysis.specs.declared.finding.What.{What}
 use Rattle.trip_analysis.specs.Bases.{BaseLists}
 use Rattle.trip_analysis.specs.Findings.{limit_for, is_passable, first_on, first_or}
-use Rattle.office_core.specs.declared.entry.Reply.{Reply}
+use Rattle.office_words.specs.declared.entry.Reply.{Reply}
 use Rattle.office_core.specs.Machine.{Machine, version_of, state_in, reply_in}
-use Rattle.office_core.specs.declared.entry.Reply.TheVariants as reply
+use Rattle.office_words.specs.declared.entry.Reply.TheVariants as reply
 use Rattle.office_core.proofs.Cases.{apply_cases}
 
 -- of a reply that issues a route, that none of it fails

@@ -12,8 +12,8 @@ use Rattle.trip_analysis.specs.declared.finding.What.{What}
 use Rattle.trip_analysis.specs.declared.finding.What.TheVariants as what
 use Rattle.trip_analysis.specs.Bases.{BaseLists, truck_of}
 use Rattle.trip_analysis.specs.Findings.{first_meeting, first_on, first_or, is_passable, leaving, leaving_from, limit_for}
-use Rattle.office_core.specs.declared.entry.Call.{Call}
-use Rattle.office_core.specs.declared.entry.Call.TheVariants as call
+use Rattle.office_words.specs.declared.entry.Call.{Call}
+use Rattle.office_words.specs.declared.entry.Call.TheVariants as call
 use Rattle.office_core.specs.Costs.{IsCost}
 use Rattle.office_core.specs.Machine.{Machine}
 use Rattle.office_core.specs.Retests.{IsWithin, changed_on, is_changed}

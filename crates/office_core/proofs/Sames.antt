@@ -4,12 +4,12 @@ use Rattle.restriction_log.specs.States.{InForce}
 use Rattle.trip_analysis.specs.declared.application.Application.{Application}
 use Rattle.trip_analysis.specs.declared.finding.What.{What}
 use Rattle.trip_analysis.specs.Bases.{BaseLists}
-use Rattle.office_core.specs.declared.entry.Call.{Call}
-use Rattle.office_core.specs.declared.entry.Reply.{Reply}
+use Rattle.office_words.specs.declared.entry.Call.{Call}
+use Rattle.office_words.specs.declared.entry.Reply.{Reply}
 use Rattle.office_core.specs.Replies.{what_reply, early_reply, apply_reply, day_reply, surrender_reply, show_reply}
 use Rattle.office_core.specs.Machine.{Machine, version_of, state_in, reply_in, posted_reply, IsHeld, IsAnswer}
-use Rattle.office_core.specs.declared.entry.Call.TheVariants as call
-use Rattle.office_core.specs.declared.entry.Reply.TheVariants as reply
+use Rattle.office_words.specs.declared.entry.Call.TheVariants as call
+use Rattle.office_words.specs.declared.entry.Reply.TheVariants as reply
 use Rattle.trip_analysis.proofs.OneFinding.{one_finding}
 
 one : {N M : Type 0} (x r s : Reply) → (r ≡ x) ⊎ ((r ≡ reply.NoMemory) × N) → (s ≡ x) ⊎ ((s ≡ reply.NoMemory) × M) → r ≢ reply.NoMemory → s ≢ reply.NoMemory → r ≡ s

@@ -2,9 +2,9 @@
 use Rattle.std.specs.Prelude.{◌≡◌, ◌≤◌, ◌<◌, ◌++◌, ◌∷◌, [], ℕ, List, length, All, vec_capacity}
 use Rattle.snapshot_store.specs.Stores.{Stored}
 use Rattle.trip_analysis.specs.Bases.{BaseLists}
-use Rattle.office_core.specs.declared.entry.Call.{Call}
-use Rattle.office_core.specs.declared.entry.Reply.{Reply}
-use Rattle.office_core.specs.declared.entry.Entry.{Entry}
+use Rattle.office_words.specs.declared.entry.Call.{Call}
+use Rattle.office_words.specs.declared.entry.Reply.{Reply}
+use Rattle.office_words.specs.declared.entry.Entry.{Entry}
 use Rattle.office_core.specs.declared.office.Office.TheInside.{Inside}
 use Rattle.office_core.specs.Machine.{IsLegal, Machine, Step, machine_of, stored_of}
 

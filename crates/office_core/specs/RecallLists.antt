@@ -5,9 +5,9 @@ use Rattle.std.specs.Option.{option_or}
 use Rattle.notice_desk.specs.declared.notice.Recall.{Recall}
 use Rattle.trip_analysis.specs.declared.application.Application.{Application}
 use Rattle.trip_analysis.specs.Bases.{BaseLists, truck_of}
-use Rattle.office_core.specs.declared.entry.Call.{Call}
-use Rattle.office_core.specs.declared.entry.Reply.{Reply}
-use Rattle.office_core.specs.declared.entry.Reply.TheVariants as reply
+use Rattle.office_words.specs.declared.entry.Call.{Call}
+use Rattle.office_words.specs.declared.entry.Reply.{Reply}
+use Rattle.office_words.specs.declared.entry.Reply.TheVariants as reply
 use Rattle.office_core.specs.Offices.{entry}
 use Rattle.office_core.specs.Happened.{History, Numbers, Route, Stands, application_in}
 use Rattle.office_core.specs.Became.{IssuesAt, RecallsAt}

@@ -11,9 +11,9 @@ use Rattle.trip_analysis.specs.declared.finding.What.{What}
 use Rattle.trip_analysis.specs.Bases.{BaseLists}
 use Rattle.trip_analysis.specs.Findings.{HoldsIn, IsFinding, first_meeting, leaving}
 use Rattle.trip_analysis.specs.Followers.{GoesOn}
-use Rattle.office_core.specs.declared.entry.Call.{Call}
-use Rattle.office_core.specs.declared.entry.Reply.{Reply}
-use Rattle.office_core.specs.declared.entry.Reply.TheVariants as reply
+use Rattle.office_words.specs.declared.entry.Call.{Call}
+use Rattle.office_words.specs.declared.entry.Reply.{Reply}
+use Rattle.office_words.specs.declared.entry.Reply.TheVariants as reply
 use Rattle.office_core.specs.declared.register.Register.TheInside.{Inside}
 use Rattle.office_core.specs.Recalls.{InForceMeetElsewhere, is_recalled, recalled_by}
 use Rattle.office_core.specs.Replies.{is_issue, what_reply}

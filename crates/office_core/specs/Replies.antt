@@ -11,9 +11,9 @@ use Rattle.trip_analysis.specs.declared.finding.What.{What}
 use Rattle.trip_analysis.specs.declared.finding.What.TheVariants as what
 use Rattle.trip_analysis.specs.Bases.{BaseLists}
 use Rattle.trip_analysis.specs.Findings.{first_meeting, first_on, leaving, limit_for, needs_none}
-use Rattle.office_core.specs.declared.entry.Cause.TheVariants as cause
-use Rattle.office_core.specs.declared.entry.Reply.{Reply}
-use Rattle.office_core.specs.declared.entry.Reply.TheVariants as reply
+use Rattle.office_words.specs.declared.entry.Cause.TheVariants as cause
+use Rattle.office_words.specs.declared.entry.Reply.{Reply}
+use Rattle.office_words.specs.declared.entry.Reply.TheVariants as reply
 
 -- the answer to a route, by the first segment on it that fails: the permit of the next number, or that segment's limit
 abbrev pub route_reply : ℕ → ℕ → List ℕ → Option Failing → Reply

@@ -13,10 +13,10 @@ use Rattle.trip_analysis.specs.declared.finding.Proposal.{Proposal}
 use Rattle.trip_analysis.specs.declared.finding.What.{What}
 use Rattle.trip_analysis.specs.declared.finding.What.TheVariants as what
 use Rattle.trip_analysis.specs.Findings.{is_in, limit_for}
-use Rattle.office_core.specs.declared.entry.Call.{Call}
-use Rattle.office_core.specs.declared.entry.Call.TheVariants as call
-use Rattle.office_core.specs.declared.entry.Cause.{Cause}
-use Rattle.office_core.specs.declared.entry.Cause.TheVariants as cause
+use Rattle.office_words.specs.declared.entry.Call.{Call}
+use Rattle.office_words.specs.declared.entry.Call.TheVariants as call
+use Rattle.office_words.specs.declared.entry.Cause.{Cause}
+use Rattle.office_words.specs.declared.entry.Cause.TheVariants as cause
 use Rattle.office_core.specs.Clearances.{MeetsTruck}
 use Rattle.office_core.specs.Passages.{IsPassableWalk, IsRoadWalk, IsShortest, LeadsOut}
 use Rattle.office_core.specs.Happened.{Day, History, Route, application_in, day_after, issued_in}

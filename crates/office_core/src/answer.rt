@@ -3,8 +3,8 @@
 ghost use Rattle.std.specs.Prelude.{◌≡◌, true, false, IfOk, OnErr};
 ghost use Rattle.office_core.specs.Replies.{has_list, list_of};
 
-use crate::entry::Reply;
-use office_io::NoMemory;
+use names::NoMemory;
+use office_words::Reply;
 use std::marker::Model;
 
 /// A reply in two copies, one for the history and one for the caller. A reply may hold a list, and its copy must not fail
@@ -19,7 +19,7 @@ pub(crate) struct Answer {
 
 impl Model for Answer {
     ghost use Rattle.std.specs.Prelude.{◌≡◌};
-    ghost use Rattle.office_core.specs.declared.entry.Reply.{Reply};
+    ghost use Rattle.office_words.specs.declared.entry.Reply.{Reply};
 
     ghost Value = { Reply };
 

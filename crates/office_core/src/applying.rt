@@ -4,17 +4,17 @@ ghost use Rattle.std.specs.Prelude.{◌≡◌, ◌+◌, ◌<◌, ◌≤◌, ◌&
 ghost use Rattle.trip_analysis.specs.declared.finding.What.TheVariants as what;
 ghost use Rattle.trip_analysis.specs.Applications.{Sound};
 ghost use Rattle.trip_analysis.specs.Findings.{AreRising, InRange, first_on as first_in, is_passable, limit_for};
-ghost use Rattle.office_core.specs.declared.entry.Call.TheVariants.{Held, Submit};
-ghost use Rattle.office_core.specs.declared.entry.Reply.TheVariants as reply;
+ghost use Rattle.office_words.specs.declared.entry.Call.TheVariants.{Held, Submit};
+ghost use Rattle.office_words.specs.declared.entry.Reply.TheVariants as reply;
 ghost use Rattle.office_core.specs.Replies.{early_reply};
 ghost use Rattle.office_core.specs.Machine.{HasRoom, IsFound, version_of};
 ghost use Rattle.office_core.specs.Registers.{Gives, HeldAt, IsFoundNow, IsReplyTo, IsRetested, Issues, Leaves, MayLack, Permits, changed_out, found_reply, has_changed, least_out, next_issue, state_now, state_seen};
 
 use crate::answer::Answer;
-use crate::entry::{Cause, Reply};
 use crate::register::Register;
 use clearance_rules::{Limit, Steps};
-use office_io::NoMemory;
+use names::NoMemory;
+use office_words::{Cause, Reply};
 use permit_book::BookRefusal;
 use permit_days::Day;
 use road_graph::Numbers;

@@ -1,6 +1,6 @@
 // The calls of one caller, of whatever office they are.
 
-use crate::entry::Reply;
+use office_words::Reply;
 use permit_days::Day;
 use restriction_log::Change;
 use snapshot_store::Snapshot;
@@ -24,7 +24,7 @@ pub enum Looked {
 pub trait OfficeCalls {
     ghost use Rattle.office_core.specs.Calls.{Answered, Calling, Looks, machine_seen};
     ghost use Rattle.office_core.specs.Machine.{MayAsk};
-    ghost use Rattle.office_core.specs.declared.entry.Call.TheVariants as call;
+    ghost use Rattle.office_words.specs.declared.entry.Call.TheVariants as call;
 
     /// What the calls belong to. No value of it is made.
     type Place;

@@ -4,7 +4,7 @@ ghost use Rattle.std.specs.Prelude.{◌≡◌, ◌<◌, ◌≤◌, All, IfOk, If
 ghost use Rattle.std.specs.Arc.{arc_value};
 ghost use Rattle.restriction_log.specs.States.{AreOf};
 ghost use Rattle.permit_book.specs.Permits.{is_issued, permit_of};
-ghost use Rattle.office_core.specs.declared.entry.Reply.TheVariants as reply;
+ghost use Rattle.office_words.specs.declared.entry.Reply.TheVariants as reply;
 ghost use Rattle.office_core.specs.Replies.{is_full};
 ghost use Rattle.office_core.specs.Machine.{IsLegal, MayAsk, state_in, version_of};
 ghost use Rattle.office_core.specs.Costs.{IsCost};
@@ -12,10 +12,10 @@ ghost use Rattle.office_core.specs.Offices.{HasPlace, IsFull, IsStep, entry, gro
 ghost use Rattle.office_core.specs.Promises.{KeepsPromises};
 ghost use Rattle.office_core.specs.RecallLists.{RecalledWereIssued};
 
-use crate::entry::{Call, Entry, Reply};
 use crate::register::Register;
 use clearance_rules::Steps;
-use office_io::NoMemory;
+use names::NoMemory;
+use office_words::{Call, Entry, Reply};
 use permit_book::Permit;
 use permit_days::Day;
 use restriction_log::State;

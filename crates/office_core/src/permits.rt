@@ -1,14 +1,14 @@
 // Answers to a day, a look at a permit and a surrender.
 
 ghost use Rattle.std.specs.Prelude.{◌≡◌};
-ghost use Rattle.office_core.specs.declared.entry.Call.TheVariants as call;
+ghost use Rattle.office_words.specs.declared.entry.Call.TheVariants as call;
 ghost use Rattle.office_core.specs.Replies.{day_reply, show_reply, shown};
 ghost use Rattle.office_core.specs.Machine.{with_day};
 ghost use Rattle.office_core.specs.Registers.{Gives, Leaves};
 
 use crate::answer::Answer;
-use crate::entry::Reply;
 use crate::register::Register;
+use office_words::Reply;
 use permit_book::Permit;
 use permit_days::Day;
 

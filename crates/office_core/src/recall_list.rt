@@ -8,9 +8,9 @@ ghost use Rattle.std.specs.Ordering.{nat_cmp};
 ghost use Rattle.office_core.specs.Happened.{application_in};
 ghost use Rattle.office_core.specs.RecallLists.{HasTrucks, IsThere, RecalledWereIssued, recall_of, recalls_by, recalls_in, truck_by, truck_in};
 
-use crate::entry::{Call, Entry, Reply};
+use names::NoMemory;
 use notice_desk::Recall;
-use office_io::NoMemory;
+use office_words::{Call, Entry, Reply};
 use std::alloc::Global;
 use std::collections::BTreeMap;
 use trip_analysis::{Application, Base};

@@ -12,9 +12,9 @@ ghost use Rattle.office_core.specs.Machine.{HasRoom, IsAnswer, MayAsk, opened, v
 ghost use Rattle.office_core.specs.Registers.{Costs, Gives, Leaves, MayLack, state_now, stored_now};
 
 use crate::answer::Answer;
-use crate::entry::{Call, Reply};
 use clearance_rules::{Limit, Steps};
-use office_io::NoMemory;
+use names::NoMemory;
+use office_words::{Call, Reply};
 use permit_book::{Book, Permit};
 use permit_days::Day;
 use recall_index::Index;

@@ -1,14 +1,14 @@
 // The calls of one caller, of an office on one thread.
 
 ghost use Rattle.std.specs.Prelude.{◌≡◌, ◌<◌, MatchOption, false};
-ghost use Rattle.office_core.specs.declared.entry.Reply.TheVariants as reply;
+ghost use Rattle.office_words.specs.declared.entry.Reply.TheVariants as reply;
 ghost use Rattle.office_core.specs.Replies.{is_full};
 
 use crate::calls::{Looked, OfficeCalls};
-use crate::entry::{Call, Reply};
 use crate::office::Office;
 use clearance_rules::Steps;
-use office_io::NoMemory;
+use names::NoMemory;
+use office_words::{Call, Reply};
 use permit_days::Day;
 use restriction_log::Change;
 use std::marker::Brand;
@@ -27,7 +27,7 @@ pub struct OneSeat<'a> {
 
 impl<'a> OneSeat<'a> {
     ghost use Rattle.std.specs.Prelude.{IfErr, OnOk};
-    ghost use Rattle.office_core.specs.declared.entry.Call.TheVariants as call;
+    ghost use Rattle.office_words.specs.declared.entry.Call.TheVariants as call;
     ghost use Rattle.office_core.specs.Machine.{MayAsk, version_of};
     ghost use Rattle.office_core.specs.Offices.{machine_in};
     ghost use Rattle.office_core.specs.Calls.{Answered};

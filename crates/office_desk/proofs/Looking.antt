@@ -1,8 +1,8 @@
 -- A look at the office.
 use Rattle.std.proofs.Common.{◌≡◌, ℕ, inl, inr, ap, sym, subst, ◌∙◌, arith}
-use Rattle.office_core.specs.declared.entry.Call.TheVariants as call
-use Rattle.office_core.specs.declared.entry.Reply.{Reply}
-use Rattle.office_core.specs.declared.entry.Reply.TheVariants as reply
+use Rattle.office_words.specs.declared.entry.Call.TheVariants as call
+use Rattle.office_words.specs.declared.entry.Reply.{Reply}
+use Rattle.office_words.specs.declared.entry.Reply.TheVariants as reply
 use Rattle.office_core.specs.Machine.{IsAnswer, IsLegal, Machine, version_of}
 use Rattle.office_core.specs.Offices.{Opened, entry, grown, machine_in}
 use Rattle.office_core.proofs.Histories.{last_step}

@@ -1,7 +1,7 @@
 -- The office that a turn finds.
 use Rattle.std.proofs.Common.{◌≡◌, List, Option, Some, unwrap_or, ap, sym, subst}
-use Rattle.office_core.specs.declared.entry.Call.{Call}
-use Rattle.office_core.specs.declared.entry.Entry.{Entry}
+use Rattle.office_words.specs.declared.entry.Call.{Call}
+use Rattle.office_words.specs.declared.entry.Entry.{Entry}
 use Rattle.office_core.specs.Machine.{MayAsk, machine_of}
 use Rattle.office_core.specs.Offices.{Opened, machine_in}
 use Rattle.office_core.proofs.Later.{asked_later}

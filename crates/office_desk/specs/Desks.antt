@@ -2,8 +2,8 @@
 use Rattle.std.specs.Prelude.{◌≡◌, ℕ, List, [], Option, Some, None, if◌then◌else◌, unwrap_or}
 use Rattle.road_graph.specs.Roads.{no_roads}
 use Rattle.trip_analysis.specs.Bases.{BaseLists}
-use Rattle.office_core.specs.declared.entry.Call.{Call}
-use Rattle.office_core.specs.declared.entry.Entry.{Entry}
+use Rattle.office_words.specs.declared.entry.Call.{Call}
+use Rattle.office_words.specs.declared.entry.Entry.{Entry}
 use Rattle.office_core.specs.declared.calls.Looked.{Looked}
 use Rattle.office_core.specs.declared.calls.Looked.TheVariants as looked
 use Rattle.office_core.specs.Machine.{MayAsk}

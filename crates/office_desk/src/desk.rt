@@ -4,16 +4,17 @@ ghost use Rattle.std.specs.Prelude.{◌≡◌, ◌<◌, ◌≤◌, All, IfOk, So
 ghost use Rattle.std.specs.Arc.{arc_value};
 ghost use Rattle.office_turn.specs.Story.{StartsWith};
 ghost use Rattle.office_turn.specs.Told.{HasReceipt, IsReady, admitted_by, after_admit, after_join, opening_root};
-ghost use Rattle.office_core.specs.declared.entry.Call.TheVariants as calls;
+ghost use Rattle.office_words.specs.declared.entry.Call.TheVariants as calls;
 ghost use Rattle.office_core.specs.Machine.{IsLegal, entries_by};
 ghost use Rattle.office_core.specs.Calls.{Answered, Looks};
 ghost use Rattle.office_core.specs.Promises.{KeepsPromises};
 ghost use Rattle.office_desk.specs.Desks.{MayAskWith, calls_of, terms_of};
 
 use crate::desked::Desked;
-use office_core::{Call, Looked, Office, Reply};
-use office_io::NoMemory;
+use names::NoMemory;
+use office_core::{Looked, Office};
 use office_turn::{Turn, Worn};
+use office_words::{Call, Reply};
 use permit_days::Day;
 use restriction_log::Change;
 use std::alloc::Global;

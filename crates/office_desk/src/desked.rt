@@ -1,17 +1,18 @@
 // An office under a lock.
 
 ghost use Rattle.std.specs.Prelude.{◌≡◌, ◌<◌, false};
-ghost use Rattle.office_core.specs.declared.entry.Call.TheVariants as calls;
-ghost use Rattle.office_core.specs.declared.entry.Reply.TheVariants as reply;
+ghost use Rattle.office_words.specs.declared.entry.Call.TheVariants as calls;
+ghost use Rattle.office_words.specs.declared.entry.Reply.TheVariants as reply;
 ghost use Rattle.office_core.specs.Replies.{is_full};
 ghost use Rattle.office_core.specs.Machine.{IsLegal, MayAsk, version_of};
 ghost use Rattle.office_core.specs.Offices.{HasPlace, entry, grown, machine_in};
 ghost use Rattle.office_desk.specs.Desks.{HandsOut};
 
 use clearance_rules::Steps;
-use office_core::{Call, Entry, Looked, Office, Reply};
-use office_io::NoMemory;
+use names::NoMemory;
+use office_core::{Looked, Office};
 use office_turn::Storied;
+use office_words::{Call, Entry, Reply};
 use permit_days::Day;
 use std::marker::Brand;
 use std::sync::ledger::{Blank, Ledger};

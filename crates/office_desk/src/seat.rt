@@ -4,7 +4,8 @@ ghost use Rattle.std.specs.Prelude.{◌≡◌};
 ghost use Rattle.office_turn.specs.Told.{IsReady};
 
 use crate::desk::{Desk, Pass};
-use office_core::{Looked, OfficeCalls, Reply};
+use office_core::{Looked, OfficeCalls};
+use office_words::Reply;
 use permit_days::Day;
 use restriction_log::Change;
 use std::sync::Wait;

@@ -1,4 +1,4 @@
-//! Where bytes come from and go to, and the names that they hold.
+//! Where bytes come from and go to.
 //!
 //! A `Source` and a `Sink` tell what they have left and what they hold, as far as they know it, and count their
 //! faults. A fault is answered only where that count rose, so a caller that hands one on can show where it came from.
@@ -7,15 +7,13 @@
 #![tactic(auto)]
 
 mod memory;
-mod name;
 mod refusal;
 mod sink;
 mod source;
 mod standard;
 
 pub use memory::{MemorySink, MemorySource, is_failing};
-pub use name::{BadName, Name};
-pub use refusal::{Failed, NoMemory};
+pub use refusal::Failed;
 pub use sink::{Sink, WriteFault, write_all};
 pub use source::{ReadRefusal, Source, read_all};
 pub use standard::{StdSink, StdSource};

@@ -5,9 +5,10 @@ ghost use Rattle.std.specs.Io.KnownBytes.{ReadConsumes, WriteAppends};
 ghost use Rattle.office_io.specs.Causes.{HasCause, counted};
 ghost use Rattle.office_io.specs.Memory.{is_failing, new_sink, new_source, read_fails, write_fails};
 
-use crate::refusal::{Failed, NoMemory};
+use crate::refusal::Failed;
 use crate::sink::Sink;
 use crate::source::Source;
+use names::NoMemory;
 use std::alloc::Global;
 use std::marker::Model;
 

@@ -4,7 +4,7 @@ ghost use Rattle.trip_analysis.specs.Applications.{Sound};
 ghost use Rattle.office_core.specs.Replies.{is_full};
 ghost use Rattle.office_core.specs.Seats.{calls_of};
 ghost use Rattle.analyst_pool.specs.Interrupted.{Interrupts};
-ghost use Rattle.office_core.specs.Commands.{MayCarryOut};
+ghost use Rattle.office_words.specs.Commands.{MayCarryOut};
 ghost use Rattle.analyst_pool.specs.Ran.{IsReady};
 
 use crate::fixtures::named;
@@ -13,7 +13,8 @@ use analyst_pool::{
 };
 use axle_train::{Axle, Train};
 use clearance_rules::Load;
-use office_core::{Command, Looked, Office, OfficeCalls, OneSeat, Reply};
+use office_core::{Looked, Office, OfficeCalls, OneSeat};
+use office_words::{Command, Reply};
 use permit_days::Day;
 use restriction_log::Change;
 use road_graph::{Network, What};

@@ -1,6 +1,6 @@
 ghost use Rattle.std.specs.Prelude.{IfOk};
 ghost use Rattle.trip_analysis.specs.Applications.{Sound};
-ghost use Rattle.office_core.specs.declared.entry.Call.TheVariants as calls;
+ghost use Rattle.office_words.specs.declared.entry.Call.TheVariants as calls;
 ghost use Rattle.office_core.specs.Machine.{MayAsk};
 ghost use Rattle.office_core.specs.Offices.{machine_in};
 
@@ -9,7 +9,8 @@ use crate::fixtures::named;
 use crate::many::{long_train, submit_copies};
 use axle_train::{Axle, Train};
 use clearance_rules::{Limit, Load};
-use office_core::{Call, Cause, Office, Reply};
+use office_core::Office;
+use office_words::{Call, Cause, Reply};
 use restriction_log::Change;
 use road_graph::Network;
 use std::alloc::Global;
@@ -28,7 +29,7 @@ struct Line {
 }
 
 // A name of a letter and a number of at most four digits.
-fn numbered(rt: &impl Abort, letter: u8, number: u32) -> office_io::Name {
+fn numbered(rt: &impl Abort, letter: u8, number: u32) -> names::Name {
     let mut name = [letter, 0, 0, 0, 0];
     let mut left = number;
     for i in 0..4usize {

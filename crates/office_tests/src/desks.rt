@@ -3,8 +3,9 @@ ghost use Rattle.std.specs.Prelude.{◌≡◌, ◌≤◌, IfOk};
 ghost use Rattle.office_turn.specs.Told.{IsReady, opening_root};
 
 use crate::fixtures::named;
-use office_core::{Looked, Office, OfficeCalls, Reply};
+use office_core::{Looked, Office, OfficeCalls};
 use office_desk::{Desk, Pass, Root, Seat};
+use office_words::Reply;
 use permit_days::Day;
 use restriction_log::Change;
 use road_graph::Network;

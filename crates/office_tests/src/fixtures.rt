@@ -1,6 +1,6 @@
 // What the tests of this crate share.
 
-use office_io::Name;
+use names::Name;
 use std::process::Abort;
 
 // A name of these bytes, which are one.

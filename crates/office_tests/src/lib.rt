@@ -18,3 +18,5 @@ mod fixtures;
 mod many;
 #[cfg(test)]
 mod notices;
+#[cfg(test)]
+mod turns;

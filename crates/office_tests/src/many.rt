@@ -1,6 +1,6 @@
 ghost use Rattle.std.specs.Prelude.{◌≡◌, ◌<◌, ◌≤◌, IfOk};
 ghost use Rattle.trip_analysis.specs.Applications.{Sound};
-ghost use Rattle.office_core.specs.declared.entry.Call.TheVariants as calls;
+ghost use Rattle.office_words.specs.declared.entry.Call.TheVariants as calls;
 ghost use Rattle.office_core.specs.Machine.{MayAsk};
 ghost use Rattle.office_core.specs.Offices.{machine_in};
 
@@ -8,7 +8,8 @@ use crate::calls::{Found, answer, base, march, roads};
 use crate::fixtures::named;
 use axle_train::{Axle, Train};
 use clearance_rules::Load;
-use office_core::{Call, Office, Reply};
+use office_core::Office;
+use office_words::{Call, Reply};
 use restriction_log::Change;
 use road_graph::{Network, Numbers};
 use std::alloc::Global;

@@ -2,8 +2,8 @@ ghost use Rattle.std.specs.Prelude.{OnOk};
 ghost use Rattle.notice_desk.specs.Standings.{AreNew, AreWithin, standings};
 ghost use Rattle.notice_desk.specs.Deliveries.{EachToldAll};
 
+use names::{Name, NoMemory};
 use notice_desk::{MemoryNotice, Notice, NoticeFault, Recall, Returned, Subscribers, Whom};
-use office_io::{Name, NoMemory};
 use std::alloc::Global;
 use std::process::Abort;
 use std::test::Fail;

@@ -19,12 +19,11 @@ mod pass;
 mod plays;
 mod steps;
 mod story;
-#[cfg(test)]
-mod tests;
 mod turn;
 mod view;
 
 pub use held::Held;
+pub use notes::{Notes, note_once};
 pub use pass::{Pass, Root};
 pub use story::Storied;
 pub use turn::{NoMemory, Turn, Worn};

@@ -11,7 +11,7 @@ use std::marker::Model;
 const MOST_PERMITS: usize = 1000000;
 
 /// The permits that were issued, in the order of their numbers. The first is number 1.
-#[derive(Debug, Drop)]
+#[derive(Drop)]
 pub struct Book {
     permits: Vec<Permit>,
 }

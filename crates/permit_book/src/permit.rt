@@ -31,7 +31,7 @@ pub enum Status {
 }
 
 /// A permit for one trip.
-#[derive(Debug, Drop)]
+#[derive(Drop)]
 pub struct Permit {
     /// Its number, from 1 on.
     pub number: u32,

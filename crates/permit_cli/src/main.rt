@@ -2,26 +2,10 @@
 //! output, and tells standard error of each permit that a day recalled.
 #![tactic(auto)]
 
-ghost use Rattle.notice_desk.specs.Standings.{AreNew, standings};
-
-#[cfg(test)]
-mod days;
-#[cfg(test)]
-mod made_days;
-#[cfg(test)]
-mod meetings;
-mod notices;
-mod output;
-mod run;
-mod task;
-#[cfg(test)]
-mod tests;
-
 use analyst_pool::OpenGate;
-use notice_desk::{Notice, Subscribers, Whom};
-use notices::LineNotice;
+use notice_desk::Subscribers;
 use office_io::{StdSink, StdSource};
-use run::{refuse_words, run};
+use permit_program::{LineNotice, add_listener, refuse_words, run};
 use std::alloc::AllocFailed;
 use std::io::ErrorKind;
 use std::process::ExitCode;
@@ -35,7 +19,7 @@ fn main(rt: HostRuntime) -> ExitCode {
     let mut sink = StdSink::new(rt.stdout());
     let mut notices = Subscribers::new(rt.alloc());
     let is_added = match Box::new(rt.alloc(), LineNotice::new(StdSink::new(rt.stderr()))) {
-        Ok(notice) => add(&mut notices, notice),
+        Ok(notice) => add_listener(&mut notices, notice),
         Err(_) => false,
     };
     let status = match words_of(&rt) {
@@ -51,15 +35,6 @@ fn main(rt: HostRuntime) -> ExitCode {
         Ok(_) | Err(WordsFault::NoMemory) => 7,
     };
     ExitCode::from(status)
-}
-
-// Adds an object that is told of all recalls to those who are through with none: whether there was memory for it.
-#[tactic(auto, using(notice_desk::proofs::Ready::added_new))]
-fn add(notices: &mut Subscribers, notice: Box<dyn Notice>) -> bool
-    requires { AreNew (standings list notices.old) }
-    ensures { AreNew (standings list notices.new) }
-{
-    notices.add(Whom::All, notice).is_ok()
 }
 
 // Why there are no words.

@@ -11,7 +11,7 @@ use std::marker::Model;
 use std::{fmt, str};
 
 /// A day of the calendar. Contracts see it as its text, ten bytes.
-#[derive(Clone, Copy, Debug)]
+#[derive(Clone, Copy)]
 pub struct Day {
     bytes: [u8; 10],
 }

@@ -5,7 +5,7 @@ ghost use Rattle.std.specs.List.Sorted.{IsStrictlyIncreasing};
 ghost use Rattle.recall_index.specs.Uses.{AreBelow, IsAdded, IsRemoved, IsTakenOut, IsThere, unused, using_in};
 
 use crate::users::Users;
-use office_io::NoMemory;
+use names::NoMemory;
 use road_graph::Numbers;
 use std::alloc::Global;
 use std::marker::Model;
@@ -13,7 +13,7 @@ use std::marker::Model;
 /// For each segment the numbers whose route holds it.
 ///
 /// Contracts see these lists, in the order of the segments.
-#[derive(Debug, Drop)]
+#[derive(Drop)]
 pub struct Index {
     users: Vec<Users>,
 }

@@ -4,12 +4,12 @@ ghost use Rattle.std.specs.Prelude.{◌≡◌, ◌≤◌, [], All, OnOk, OnErr};
 ghost use Rattle.std.specs.List.Sorted.{IsStrictlyIncreasing};
 ghost use Rattle.recall_index.specs.Uses.{is_in, with_last, without};
 
-use office_io::NoMemory;
+use names::NoMemory;
 use std::alloc::Global;
 use std::marker::Model;
 
 /// The numbers that use one segment, rising.
-#[derive(Debug, Drop)]
+#[derive(Drop)]
 pub(crate) struct Users {
     numbers: Vec<u32>,
 }

@@ -5,7 +5,7 @@ use Rattle.std.specs.Char.{is_ascii_digit}
 use Rattle.std.specs.Str.{bytes_eq}
 use Rattle.std.specs.Str.Parse.{digits_value}
 use Rattle.csv.specs.Records.{field_at}
-use Rattle.office_io.specs.Names.{is_name}
+use Rattle.names.specs.Names.{is_name}
 use Rattle.axle_train.specs.declared.axle.Axle.{Axle}
 use Rattle.road_graph.specs.declared.values.What.{What}
 use Rattle.permit_days.specs.Days.{reading_of}

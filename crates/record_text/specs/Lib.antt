@@ -1,4 +1,4 @@
 pub mod Fields
 pub mod Causes
 pub mod Records
-pub use Rattle.office_io.specs.Names
+pub use Rattle.names.specs.Names

@@ -7,7 +7,7 @@ ghost use Rattle.csv.specs.Records.{fields_of};
 ghost use Rattle.record_text.specs.Fields.{day_of, field_of, name_of, number_of};
 
 use csv::StringRecord;
-use office_io::Name;
+use names::Name;
 use permit_days::{Day, DayRefusal};
 
 /// The field at a place, counted from 0; empty where there is none.

@@ -5,7 +5,7 @@ ghost use Rattle.record_text.specs.Fields.{route_of};
 
 use crate::fields::parse_name;
 use crate::split::split_at_spaces;
-use office_io::Name;
+use names::Name;
 use std::alloc::{AllocError, Global};
 use std::marker::Model;
 

@@ -5,7 +5,7 @@ ghost use Rattle.std.specs.String.{string_bytes};
 ghost use Rattle.refusal_text.specs.Laws.{RefusalLinesDiffer};
 ghost use Rattle.refusal_text.specs.Lines.{bad_word, kind_word, number_of, refusal_line_of, status_of, word_of};
 
-use office_io::NoMemory;
+use names::NoMemory;
 use record_text::{Cause, Kind, RecordCause};
 use std::alloc::Global;
 

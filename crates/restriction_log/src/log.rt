@@ -5,7 +5,7 @@ ghost use Rattle.restriction_log.specs.Changes.{AreTaken, is_touched};
 
 use crate::change::{Change, takes, touched};
 use crate::refusal::PostRefusal;
-use office_io::NoMemory;
+use names::NoMemory;
 use road_graph::Network;
 use std::alloc::Global;
 use std::marker::Model;
@@ -16,7 +16,7 @@ const MOST_POSTINGS: usize = 1000000;
 /// The changes that were posted, in order. The first is number 1, and the version is the number of the last.
 ///
 /// A log is of one network: the one with which it was started is handed to each call that takes one.
-#[derive(Debug, Drop)]
+#[derive(Drop)]
 pub struct Log {
     changes: Vec<Change>,
 }

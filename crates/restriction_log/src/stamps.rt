@@ -2,7 +2,7 @@
 
 use crate::page::PAGE;
 use crate::pages::Pages;
-use office_io::NoMemory;
+use names::NoMemory;
 use road_graph::Network;
 use std::alloc::Global;
 use std::marker::Model;

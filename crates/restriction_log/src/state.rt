@@ -3,7 +3,7 @@
 use crate::change::Change;
 use crate::lists::{base_ratings, base_values, replaced};
 use crate::pages::Pages;
-use office_io::NoMemory;
+use names::NoMemory;
 use road_graph::{Network, Values};
 use std::alloc::Global;
 use std::marker::Model;

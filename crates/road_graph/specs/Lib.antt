@@ -3,4 +3,4 @@ pub mod Roads
 pub mod Adding
 pub mod Lists
 pub mod Kept
-pub use Rattle.office_io.specs.Names
+pub use Rattle.names.specs.Names

@@ -10,7 +10,7 @@ use crate::lists::{push_at, reserve_at};
 use crate::segment::{Arrival, Segment, Span};
 use crate::values::What;
 use indexmap::IndexSet;
-use office_io::Name;
+use names::Name;
 use std::alloc::{AllocError, Global};
 
 /// The number of a name.

@@ -5,7 +5,7 @@ use crate::refusal::AddRefusal;
 use crate::segment::{Arrival, Segment, Span};
 use crate::values::{Values, What};
 use indexmap::IndexSet;
-use office_io::Name;
+use names::Name;
 use std::alloc::Global;
 use std::marker::Model;
 

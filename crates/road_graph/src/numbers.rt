@@ -2,7 +2,7 @@
 
 ghost use Rattle.std.specs.Prelude.{◌≡◌, IfOk};
 
-use office_io::NoMemory;
+use names::NoMemory;
 use std::alloc::{AllocError, Global};
 use std::marker::Model;
 

@@ -4,10 +4,10 @@ ghost use Rattle.std.specs.Prelude.{◌≡◌, ◌&&◌};
 ghost use Rattle.road_graph.specs.Ranges.{is_feet, is_inches, is_rating};
 
 use crate::values::Values;
-use office_io::Name;
+use names::Name;
 
 /// A directed segment of road.
-#[derive(Clone, Copy, Debug, PartialEq, Eq)]
+#[derive(Clone, Copy, PartialEq, Eq)]
 pub struct Segment {
     /// Its name.
     pub name: Name,
@@ -22,7 +22,7 @@ pub struct Segment {
 }
 
 /// A simple bridge span on a segment.
-#[derive(Clone, Copy, Debug, PartialEq, Eq)]
+#[derive(Clone, Copy, PartialEq, Eq)]
 pub struct Span {
     /// Its name.
     pub name: Name,

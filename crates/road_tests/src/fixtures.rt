@@ -1,6 +1,6 @@
 // What the tests of this crate share.
 
-use office_io::Name;
+use names::Name;
 use road_graph::Network;
 use std::alloc::Global;
 use std::fmt::Debug;

@@ -1,5 +1,5 @@
 use crate::fixtures::{named, same};
-use office_io::Name;
+use names::Name;
 use road_graph::{AddRefusal, Arrival, Network, Numbers, Segment, Span, Values, What};
 use std::alloc::Global;
 use std::process::Abort;

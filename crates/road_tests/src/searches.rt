@@ -3,7 +3,7 @@ ghost use Rattle.route_search.specs.Founds.{IsFound};
 ghost use Rattle.route_search.specs.Heights.{AreHeights};
 
 use crate::fixtures::{named, number};
-use office_io::Name;
+use names::Name;
 use road_graph::Network;
 use route_search::{
     Found, Heights, Potentials, Shortest, cuts_hold, findings_are_one, potentials,

@@ -2,7 +2,7 @@ ghost use Rattle.std.specs.Prelude.{◌≡◌};
 ghost use Rattle.restriction_log.specs.States.{AreOf};
 
 use crate::fixtures::{named, number, roads};
-use office_io::NoMemory;
+use names::NoMemory;
 use restriction_log::{Change, PostRefusal, State};
 use road_graph::Network;
 use snapshot_store::{Snapshot, Store};

@@ -14,7 +14,7 @@ use crate::reach::{listed, reach};
 use crate::settle::{settle, settle_all};
 use crate::shortest::Shortest;
 use crate::waiting::Waiting;
-use office_io::NoMemory;
+use names::NoMemory;
 use road_graph::{Network, Numbers};
 use std::alloc::{AllocError, Global};
 

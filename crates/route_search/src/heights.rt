@@ -4,7 +4,7 @@ ghost use Rattle.std.specs.Prelude.{◌≡◌, ◌<◌, ◌≤◌, length, IfOk}
 ghost use Rattle.route_search.specs.Heights.{AreLengths, AreLevel, AreZeros, IsColumn, IsLeastFall, IsRaised, height_of};
 
 use crate::settle::settle_all;
-use office_io::NoMemory;
+use names::NoMemory;
 use road_graph::Network;
 use std::alloc::{AllocError, Global};
 use std::marker::Model;

@@ -2,7 +2,7 @@
 
 use crate::next::Next;
 use crate::snapshot::Snapshot;
-use office_io::NoMemory;
+use names::NoMemory;
 use restriction_log::{Change, Log, PostRefusal, Stamps, State, takes, touched};
 use road_graph::Network;
 use std::alloc::Global;

@@ -11,7 +11,7 @@ pub struct Effects {
 }
 
 /// The effects of a truck on a span, and those of the design truck there.
-#[derive(Clone, Copy, Debug, PartialEq, Eq)]
+#[derive(Clone, Copy, PartialEq, Eq)]
 pub struct Study {
     pub truck: Effects,
     pub design: Effects,

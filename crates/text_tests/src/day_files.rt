@@ -1,6 +1,6 @@
 use crate::fixtures::same;
 use day_text::{DayFile, DayFileRefusal, Kind, Order, RecordCause, read_check, read_day};
-use office_core::Command;
+use office_words::Command;
 use std::alloc::Global;
 use std::process::Abort;
 use std::test::Fail;

@@ -3,7 +3,7 @@
 use clearance_rules::Limit;
 use influence_line::Frac;
 use journal_text::print;
-use office_core::{Call, Cause, Entry, Reply};
+use office_words::{Call, Cause, Entry, Reply};
 use permit_book::Status;
 use permit_days::Day;
 use restriction_log::Change;

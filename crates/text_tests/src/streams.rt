@@ -1,9 +1,10 @@
 ghost use Rattle.std.specs.Prelude.{◌≤◌};
 
 use crate::fixtures::same;
+use names::{BadName, Name};
 use office_io::{
-    BadName, Failed, MemorySink, MemorySource, Name, ReadRefusal, Sink, Source, StdSink, StdSource,
-    WriteFault, read_all, write_all,
+    Failed, MemorySink, MemorySource, ReadRefusal, Sink, Source, StdSink, StdSource, WriteFault,
+    read_all, write_all,
 };
 use std::alloc::Global;
 use std::process::Abort;

@@ -11,7 +11,7 @@ use crate::base::Base;
 use crate::finding::{Proposal, What};
 use crate::passing::{first_on, flags};
 use clearance_rules::Steps;
-use office_io::NoMemory;
+use names::NoMemory;
 use restriction_log::State;
 use road_graph::{Network, Numbers};
 use route_search::{Heights, Shortest, shortest_walk};

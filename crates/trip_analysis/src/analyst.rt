@@ -17,7 +17,7 @@ use crate::base::Base;
 use crate::finding::What;
 use crate::passing::{flags, is_passable};
 use clearance_rules::Steps;
-use office_io::NoMemory;
+use names::NoMemory;
 use restriction_log::State;
 use road_graph::Network;
 use route_search::{Heights, Potentials, Shortest, potentials, shortest_walk, shortest_walk_by};

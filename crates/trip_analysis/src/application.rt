@@ -5,14 +5,14 @@ ghost use Rattle.trip_analysis.specs.Applications.{AreThere, AreAskedThere, IsCa
 
 use crate::base::Base;
 use crate::refusal::ApplicationRefusal;
-use office_io::NoMemory;
+use names::NoMemory;
 use permit_days::Day;
 use road_graph::{Network, Numbers};
 use std::alloc::Global;
 
 /// An application for a permit: the number of the truck, the nodes where the trip begins and ends, the segments of the
 /// route that is asked for, if one is, and the first and the last day.
-#[derive(Debug, Drop)]
+#[derive(Drop)]
 pub struct Application {
     truck: u32,
     from: u32,

@@ -5,7 +5,7 @@ ghost use Rattle.axle_train.specs.Bounds.{IsTrain};
 
 use clearance_rules::Load;
 use hs20_truck::Kept;
-use office_io::{Name, NoMemory};
+use names::{Name, NoMemory};
 use road_graph::Network;
 use std::alloc::Global;
 use std::marker::Model;

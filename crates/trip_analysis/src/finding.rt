@@ -4,7 +4,7 @@ use clearance_rules::Limit;
 use road_graph::Numbers;
 
 /// A segment that fails a load, with its first failing limit.
-#[derive(Clone, Copy, Debug, Drop, PartialEq, Eq)]
+#[derive(Clone, Copy, Drop, PartialEq, Eq)]
 pub struct Failing {
     pub segment: u32,
     pub limit: Limit,
@@ -25,7 +25,7 @@ pub enum What {
 }
 
 /// What was found at a version.
-#[derive(Debug, Drop)]
+#[derive(Drop)]
 pub struct Proposal {
     pub seen: u32,
     pub what: What,

@@ -10,7 +10,7 @@ use crate::application::Application;
 use crate::base::Base;
 use crate::finding::Proposal;
 use clearance_rules::Steps;
-use office_io::NoMemory;
+use names::NoMemory;
 use snapshot_store::Snapshot;
 use std::alloc::Global;
 use std::marker::{Brand, Model};

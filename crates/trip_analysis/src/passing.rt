@@ -7,7 +7,7 @@ ghost use Rattle.trip_analysis.specs.Findings.{limit_for, first_on as first_in, 
 use crate::base::Base;
 use crate::finding::Failing;
 use clearance_rules::{Limit, Steps, first_failing, meets};
-use office_io::NoMemory;
+use names::NoMemory;
 use restriction_log::State;
 use std::alloc::Global;
 use std::sync::ledger::Ledger;

@@ -7,7 +7,7 @@ ghost use Rattle.trip_analysis.specs.Followers.{GoesOn, followed};
 
 use axle_train::{Axle, Train};
 use clearance_rules::{Limit, Load, Steps};
-use office_io::Name;
+use names::Name;
 use permit_days::Day;
 use restriction_log::{Change, State, takes};
 use road_graph::{Network, Numbers};

@@ -2,7 +2,7 @@
 
 use axle_limits::{Finding, Rule, findings, group_limit, worst};
 use axle_train::{Axle, Train};
-use office_io::NoMemory;
+use names::NoMemory;
 use std::alloc::Global;
 use std::process::Abort;
 

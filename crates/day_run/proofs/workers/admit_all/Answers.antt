@@ -3,7 +3,7 @@ use Rattle.std.proofs.lemmas.Grind.{common_steps}
 use Rattle.std.proofs.lemmas.Iterator.Adapters.{YieldsList-from_vec}
 use Rattle.std.proofs.lemmas.Iterator.Consumers.{YieldsList-end}
 use Rattle.std.specs.Global.{Global}
-use Rattle.office_core.specs.declared.entry.Command.{Command}
+use Rattle.office_words.specs.declared.entry.Command.{Command}
 use Rattle.day_run.specs.Workers.{AreFresh}
 use Rattle.day_run.proofs.Fresh.{fresh_push}
 use Rattle.day_run.proofs.workers.admit_all.Goals as goal

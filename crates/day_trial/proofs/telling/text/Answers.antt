@@ -1,6 +1,6 @@
 use Rattle.std.proofs.Common.{◌++◌, ap, ◌∙◌, ℕ, length}
 use Rattle.std.specs.Prelude.{codes, count_by, sum_by}
-use Rattle.office_core.specs.declared.entry.Entry.{Entry}
+use Rattle.office_words.specs.declared.entry.Entry.{Entry}
 use Rattle.day_trial.specs.Summaries.{is_no_road, is_not_needed, is_permit, is_refusal, recalled_by, told, version_after}
 use Rattle.day_trial.proofs.Lines.{seven_add}
 use Rattle.day_trial.proofs.telling.text.Goals as goal

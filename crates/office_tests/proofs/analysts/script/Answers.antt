@@ -1,6 +1,6 @@
 use Rattle.std.proofs.Common.{[], ◌∷◌, ◌++◌}
 use Rattle.std.proofs.lemmas.List.Elements.{All-push, All-same}
-use Rattle.office_core.specs.Commands.{MayCarryOut}
+use Rattle.office_words.specs.Commands.{MayCarryOut}
 use Rattle.office_tests.proofs.analysts.script.Goals as goal
 
 pub loop-kind-preserved : goal.loop-kind-preserved

@@ -1,5 +1,5 @@
 use Rattle.std.proofs.Common.{All}
-use Rattle.office_core.specs.Commands.{MayCarryOut}
+use Rattle.office_words.specs.Commands.{MayCarryOut}
 use Rattle.office_tests.proofs.analysts.script.Given as goal
 
 abbrev pub invariant-loop-kind : goal.invariant-loop-kind

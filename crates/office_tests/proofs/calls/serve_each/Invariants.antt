@@ -1,5 +1,5 @@
 use Rattle.std.proofs.Common.{IfSome}
-use Rattle.office_core.specs.declared.entry.Call.TheVariants as call
+use Rattle.office_words.specs.declared.entry.Call.TheVariants as call
 use Rattle.office_core.specs.Machine.{MayAsk}
 use Rattle.office_core.specs.Offices.{machine_in}
 use Rattle.office_tests.proofs.calls.serve_each.Given as goal

@@ -1,4 +1,4 @@
-use Rattle.office_core.specs.declared.entry.Call.TheVariants as calls
+use Rattle.office_words.specs.declared.entry.Call.TheVariants as calls
 use Rattle.office_tests.proofs.chains.submit_after.Goals as goal
 
 -- what was found may still be submitted after the posting

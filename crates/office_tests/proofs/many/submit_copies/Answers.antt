@@ -1,4 +1,4 @@
-use Rattle.office_core.specs.declared.entry.Call.TheVariants as call
+use Rattle.office_words.specs.declared.entry.Call.TheVariants as call
 use Rattle.office_tests.proofs.many.submit_copies.Goals as goal
 
 pub copies-preserved : goal.copies-preserved

@@ -1,4 +1,4 @@
-use Rattle.office_core.specs.declared.entry.Call.TheVariants as call
+use Rattle.office_words.specs.declared.entry.Call.TheVariants as call
 use Rattle.office_core.specs.Machine.{MayAsk}
 use Rattle.office_core.specs.Offices.{machine_in}
 use Rattle.office_tests.proofs.many.submit_copies.Given as goal

@@ -2,8 +2,8 @@ use Rattle.std.proofs.Common.{rules, ◌+◌, ◌<◌, ◌≡◌, ◌∷◌, [],
 use Rattle.std.specs.List.{All}
 use Rattle.std.proofs.lemmas.List.{length-append}
 use Rattle.std.proofs.lemmas.List.Elements.{All-append, All-cons, All-nil}
-use Rattle.office_core.specs.declared.entry.Entry.{Entry}
-use Rattle.office_core.specs.declared.entry.Reply.{Reply}
+use Rattle.office_words.specs.declared.entry.Entry.{Entry}
+use Rattle.office_words.specs.declared.entry.Reply.{Reply}
 use Rattle.office_core.specs.Costs.{IsCost}
 use Rattle.office_core.specs.Machine.{Machine, MayAsk}
 use Rattle.office_core.specs.Offices.{IsStep, Opened, entry, machine_in, seen_of}

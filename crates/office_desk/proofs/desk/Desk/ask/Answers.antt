@@ -1,5 +1,5 @@
 use Rattle.std.proofs.Common.{ap, sym, subst, ◌∙◌}
-use Rattle.office_core.specs.declared.entry.Entry.{Entry}
+use Rattle.office_words.specs.declared.entry.Entry.{Entry}
 use Rattle.office_core.specs.Machine.{MayAsk}
 use Rattle.office_core.specs.Offices.{Opened, entry, grown, machine_in}
 use Rattle.office_turn.specs.Told.{Passing}

@@ -1,4 +1,4 @@
-use Rattle.office_core.specs.declared.entry.Call.TheVariants as call
+use Rattle.office_words.specs.declared.entry.Call.TheVariants as call
 use Rattle.analyst_pool.proofs.Interrupting.{answered_as, asked_at, from_seat}
 use Rattle.office_tests.proofs.analysts.InterruptedOfficeCalls.submit.Goals as goal
 

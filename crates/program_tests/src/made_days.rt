@@ -1,0 +1,125 @@
+// Days that are made from a number, for the tests: run, and read back from their journals.
+
+use crate::runs::run_words;
+use day_text::{Order, read_day};
+use journal_reader::read;
+use journal_text::print;
+use office_words::{Call, Command, Entry, Reply};
+use std::alloc::Global;
+use std::process::Abort;
+use std::test::Fail;
+
+// Whether an entry can be one of those that carry out the command.
+fn carries_out(entry: &Entry, command: &Command) -> bool {
+    match (&entry.call, command) {
+        (Call::Snapshot, Command::Apply(_)) => true,
+        (Call::Submit { application, .. }, Command::Apply(wanted)) => {
+            application.truck() == wanted.truck()
+        }
+        (Call::Held { application }, Command::Apply(wanted)) => {
+            application.truck() == wanted.truck()
+        }
+        (Call::Post { change }, Command::Post(wanted)) => change == wanted,
+        _ => false,
+    }
+}
+
+// Whether an entry is the last of its command: no look at the roads, and no answer that is out of date.
+fn ends(entry: &Entry) -> bool {
+    !matches!(&entry.call, Call::Snapshot) && !matches!(&entry.reply, Reply::Outdated { .. })
+}
+
+// The place of the actor's first command in the list from this place on, or the list's length.
+fn next_of(orders: &[Order], actor: u32, from: usize) -> usize {
+    for at in from..orders.len() {
+        if orders[at].actor == actor {
+            return at;
+        }
+    }
+    orders.len()
+}
+
+// Whether the entries of the actor carry out its commands, each once and in their order.
+fn has_carried_out(history: &[Entry], orders: &[Order], actor: u32) -> bool {
+    let mut at = next_of(orders, actor, 0);
+    for entry in history {
+        if entry.caller == actor {
+            if at >= orders.len() || !carries_out(entry, &orders[at].command) {
+                return false;
+            }
+            if ends(entry) {
+                at = next_of(orders, actor, at + 1);
+            }
+        }
+    }
+    at == orders.len()
+}
+
+// Whether the first four actors have, and no other did anything.
+fn have_carried_out(history: &[Entry], orders: &[Order]) -> bool {
+    for actor in 0..4u32 {
+        if !has_carried_out(history, orders, actor) {
+            return false;
+        }
+    }
+    history.iter().all(|entry| entry.caller < 4)
+}
+
+// The history that a journal tells, which is printed again to the same bytes.
+fn read_back(rt: &impl Abort, alloc: Global, journal: &[u8]) -> Result<Vec<Entry>, Fail> {
+    let history = read(alloc, journal)?;
+    assert_eq!(rt; print(alloc, &history)?.as_slice(), journal);
+    Ok(history)
+}
+
+// A made day of 36 nodes, 120 segments, 30 spans, 4 trucks, three analysts, an engineer and 100 commands, run on threads: its
+// journal is read back and printed again, and in it each actor's commands stand once in their order.
+#[test]
+fn runs_a_made_day_and_reads_it_back(rt: HostRuntime) -> Result<(), Fail> {
+    let made = run_words(&rt, &["make", "--seed", "7", "--size", "5"], &[], &[], &[])?;
+    assert_eq!(rt; made.status, 0);
+    let ran = run_words(&rt, &["day"], made.text.as_slice(), &[], &[])?;
+    assert_eq!(rt; ran.status, 0);
+    let history = read_back(&rt, rt.alloc(), ran.text.as_slice())?;
+    let file = read_day(rt.alloc(), made.text.as_slice())?;
+    assert_eq!(rt; file.commands().len(), 100);
+    assert!(rt; have_carried_out(&history, file.commands()));
+    drop(file);
+    Ok(())
+}
+
+// How many records of this kind a day file has.
+fn records_of(text: &[u8], kind: &[u8]) -> usize {
+    let mut count = 0_usize;
+    for line in text.split(|byte| *byte == b'\n') {
+        if line.starts_with(kind) {
+            count = count.wrapping_add(1);
+        }
+    }
+    count
+}
+
+// On one thread nothing comes between a look at the roads and its submit: a posting is one entry and an application two.
+#[test]
+fn sums_up_a_made_day(rt: HostRuntime) -> Result<(), Fail> {
+    let day = run_words(&rt, &["make"], &[], &[], &[])?;
+    let summed = run_words(&rt, &["trial"], &[], &[], &[])?;
+    assert_eq!(rt; (day.status, summed.status), (0, 0));
+    let posts = records_of(day.text.as_slice(), b"post,");
+    let applies = records_of(day.text.as_slice(), b"apply,");
+    assert_eq!(rt; (posts <= 20, applies <= 20), (true, true));
+    let first = format!(in rt.alloc(); "entries {}\n", posts + 2 * applies)?;
+    assert!(rt; summed.text.starts_with(first.as_bytes()));
+    assert_eq!(rt; records_of(summed.text.as_slice(), b""), 8);
+    Ok(())
+}
+
+// A seed and a size of 1 are what no words ask for.
+#[test]
+fn sums_up_the_same_day(rt: HostRuntime) -> Result<(), Fail> {
+    let one = run_words(&rt, &["trial"], &[], &[], &[])?;
+    let other = run_words(&rt, &["trial", "--seed=1", "--size=1"], &[], &[], &[])?;
+    assert_eq!(rt; (one.status, other.status), (0, 0));
+    assert_eq!(rt; one.text.as_slice(), other.text.as_slice());
+    Ok(())
+}

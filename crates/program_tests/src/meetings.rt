@@ -1,0 +1,79 @@
+// Days of two actors who meet between what the one finds and its submit, for the tests.
+
+use crate::days::{MEETING, MET, OVERTAKEN, OVERTAKING};
+use crate::runs::run_at;
+use analyst_pool::Gate;
+use std::sync::atomic::{AtomicU64, Ordering};
+use std::test::Fail;
+use std::thread::yield_now;
+
+// A gate at which the second actor waits, ahead of each of its commands, until the first has found what to propose once more;
+// and the first, ahead of each submit, until the second has the reply to its next command, while it has one. A wait that is too
+// long marks the gate.
+#[derive(Drop)]
+struct Meeting {
+    // how many commands the second actor has
+    commands: u64,
+    found: AtomicU64,
+    answered: AtomicU64,
+    failed: AtomicU64,
+}
+
+impl Meeting {
+    fn new(commands: u64) -> Meeting {
+        Meeting {
+            commands,
+            found: AtomicU64::new(0),
+            answered: AtomicU64::new(0),
+            failed: AtomicU64::new(0),
+        }
+    }
+
+    // Waits until so many were told.
+    fn wait_for(&self, told: &AtomicU64, wanted: u64) {
+        for _ in 0..100_000_000u64 {
+            if told.load(Ordering::SeqCst) >= wanted {
+                return;
+            }
+            yield_now();
+        }
+        self.failed.store(1, Ordering::SeqCst);
+    }
+}
+
+impl Gate for Meeting {
+    fn before(&self, actor: u32, command: u32) {
+        if actor == 1 {
+            self.wait_for(&self.found, u64::from(command) + 1);
+        }
+    }
+
+    fn between(&self, actor: u32, _command: u32, attempt: u32) {
+        if actor == 0 {
+            let attempt = u64::from(attempt);
+            self.found.store(attempt, Ordering::SeqCst);
+            self.wait_for(&self.answered, attempt.min(self.commands));
+        }
+    }
+
+    fn answered(&self, actor: u32, command: u32) {
+        if actor == 1 {
+            self.answered
+                .store(u64::from(command) + 1, Ordering::SeqCst);
+        }
+    }
+}
+
+// Another posts between what an actor finds and its submit, which only actors at work at once can come to: once, and at each of
+// the eight attempts, after which the office finds a route itself.
+#[test]
+fn posts_while_another_analyses(rt: HostRuntime) -> Result<(), Fail> {
+    for (input, commands, output) in [(MEETING, 1, MET), (OVERTAKING, 8, OVERTAKEN)] {
+        let gate = Meeting::new(commands);
+        let ran = run_at(&rt, &["day"], input.as_bytes(), &[], &[], &gate)?;
+        assert_eq!(rt; ran.status, 0);
+        assert_eq!(rt; gate.failed.load(Ordering::SeqCst), 0);
+        assert_eq!(rt; ran.text.as_slice(), output.as_bytes());
+    }
+    Ok(())
+}
