@@ -1,6 +1,6 @@
 // The calls of one caller, of whatever office they are.
 
-use office_words::Reply;
+use office_words::{Call, Reply};
 use permit_days::Day;
 use restriction_log::Change;
 use snapshot_store::Snapshot;
@@ -21,6 +21,9 @@ pub enum Looked {
 ///
 /// Contracts see what the caller has seen of the office's history and which entries are its own. Each call adds one entry to
 /// both, unless the history holds the most that it may: then it answers `Full`, and nothing is added.
+///
+/// Whoever gives the calls of an office writes two: how a call is asked, and how a snapshot is handed out. Each of the others
+/// asks one call.
 pub trait OfficeCalls {
     ghost use Rattle.office_core.specs.Calls.{Answered, Calling, Looks, machine_seen};
     ghost use Rattle.office_core.specs.Machine.{MayAsk};
@@ -35,29 +38,55 @@ pub trait OfficeCalls {
     fn snapshot(&mut self) -> Looked
         ensures { Looks (view self.old) result (view self.new) };
 
+    /// Asks a call. What is found for an application was found at a version that the caller has seen.
+    fn ask(&mut self, asked: Call) -> Reply
+        requires { MayAsk (view self.old).who.base (machine_seen (view self.old)) asked }
+        ensures { Answered (view self.old) asked result (view self.new) };
+
     /// A permit, for what was found for the application at an earlier version, which the caller has seen.
     fn submit(&mut self, application: Application, proposal: Proposal) -> Reply
         requires { MayAsk (view self.old).who.base (machine_seen (view self.old)) (call.Submit application proposal) }
-        ensures { Answered (view self.old) (call.Submit application proposal) result (view self.new) };
+        ensures { Answered (view self.old) (call.Submit application proposal) result (view self.new) }
+    {
+        self.ask(Call::Submit {
+            application,
+            proposal,
+        })
+    }
 
     /// A permit, for what the office itself finds now.
     fn held(&mut self, application: Application) -> Reply
         requires { MayAsk (view self.old).who.base (machine_seen (view self.old)) (call.Held application) }
-        ensures { Answered (view self.old) (call.Held application) result (view self.new) };
+        ensures { Answered (view self.old) (call.Held application) result (view self.new) }
+    {
+        self.ask(Call::Held { application })
+    }
 
     /// That a change is posted.
     fn post(&mut self, change: Change) -> Reply
-        ensures { Answered (view self.old) (call.Post change) result (view self.new) };
+        ensures { Answered (view self.old) (call.Post change) result (view self.new) }
+    {
+        self.ask(Call::Post { change })
+    }
 
     /// That it is this day from now on.
     fn day(&mut self, day: Day) -> Reply
-        ensures { Answered (view self.old) (call.Day day) result (view self.new) };
+        ensures { Answered (view self.old) (call.Day day) result (view self.new) }
+    {
+        self.ask(Call::Day { day })
+    }
 
     /// That a permit is given back.
     fn surrender(&mut self, number: u32) -> Reply
-        ensures { Answered (view self.old) (call.Surrender number) result (view self.new) };
+        ensures { Answered (view self.old) (call.Surrender number) result (view self.new) }
+    {
+        self.ask(Call::Surrender { number })
+    }
 
     /// What a permit says.
     fn show(&mut self, number: u32) -> Reply
-        ensures { Answered (view self.old) (call.Show number) result (view self.new) };
+        ensures { Answered (view self.old) (call.Show number) result (view self.new) }
+    {
+        self.ask(Call::Show { number })
+    }
 }

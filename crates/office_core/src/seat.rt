@@ -9,11 +9,8 @@ use crate::office::Office;
 use clearance_rules::Steps;
 use names::NoMemory;
 use office_words::{Call, Reply};
-use permit_days::Day;
-use restriction_log::Change;
 use std::marker::Brand;
 use std::sync::ledger::{Blank, Ledger};
-use trip_analysis::{Application, Proposal};
 
 /// One caller of an office that nobody else calls meanwhile.
 ///
@@ -43,8 +40,8 @@ impl<'a> OneSeat<'a> {
         OneSeat { office, caller }
     }
 
-    // Makes a call. What it tests is counted for nobody.
-    fn ask(&mut self, call: Call) -> Reply
+    // Asks a call. What it tests is counted for nobody.
+    fn ask_uncounted(&mut self, call: Call) -> Reply
         requires { MayAsk self.old.office.now.base (machine_in self.old.office.now) call }
         ensures { Answered (calls_of self.old) call result (calls_of self.new) }
     {
@@ -70,7 +67,7 @@ impl<'a> OneSeat<'a> {
         ensures full { IfErr result (λ most.
             Answered (calls_of self.old) call.Snapshot (reply.Full most) (calls_of self.new)) }
     {
-        let reply = self.ask(Call::Snapshot);
+        let reply = self.ask_uncounted(Call::Snapshot);
         match full_entries(&reply) {
             Some(entries) => Err(entries),
             None => Ok(()),
@@ -105,30 +102,7 @@ impl<'a> OfficeCalls for OneSeat<'a> {
         }
     }
 
-    fn submit(&mut self, application: Application, proposal: Proposal) -> Reply {
-        self.ask(Call::Submit {
-            application,
-            proposal,
-        })
-    }
-
-    fn held(&mut self, application: Application) -> Reply {
-        self.ask(Call::Held { application })
-    }
-
-    fn post(&mut self, change: Change) -> Reply {
-        self.ask(Call::Post { change })
-    }
-
-    fn day(&mut self, day: Day) -> Reply {
-        self.ask(Call::Day { day })
-    }
-
-    fn surrender(&mut self, number: u32) -> Reply {
-        self.ask(Call::Surrender { number })
-    }
-
-    fn show(&mut self, number: u32) -> Reply {
-        self.ask(Call::Show { number })
+    fn ask(&mut self, asked: Call) -> Reply {
+        self.ask_uncounted(asked)
     }
 }

@@ -4,7 +4,6 @@ ghost use Rattle.std.specs.Prelude.{◌≡◌, ◌<◌, ◌≤◌, All, IfOk, So
 ghost use Rattle.std.specs.Arc.{arc_value};
 ghost use Rattle.office_turn.specs.Story.{StartsWith};
 ghost use Rattle.office_turn.specs.Told.{HasReceipt, IsReady, admitted_by, after_admit, after_join, opening_root};
-ghost use Rattle.office_words.specs.declared.entry.Call.TheVariants as calls;
 ghost use Rattle.office_core.specs.Machine.{IsLegal, entries_by};
 ghost use Rattle.office_core.specs.Calls.{Answered, Looks};
 ghost use Rattle.office_core.specs.Promises.{KeepsPromises};
@@ -16,11 +15,10 @@ use office_core::{Looked, Office};
 use office_turn::{Turn, Worn};
 use office_words::{Call, Reply};
 use permit_days::Day;
-use restriction_log::Change;
 use std::alloc::Global;
 use std::marker::Model;
 use std::sync::{Arc, Wait};
-use trip_analysis::{Application, Base, Proposal};
+use trip_analysis::Base;
 
 /// The right to call a desk, as one caller. It must be spent, in [`Desk::leave`].
 pub type Pass = office_turn::Pass<Desked>;
@@ -130,78 +128,9 @@ impl Desk {
         }
     }
 
-    /// A permit, for what was found for the application at an earlier version, which the pass has seen. It may wait.
-    pub fn submit<R: Wait>(
-        &self,
-        rt: &R,
-        pass: &mut Pass,
-        application: Application,
-        proposal: Proposal,
-    ) -> Reply
-        requires ready { IsReady self.now pass.old }
-        requires asked { MayAskWith pass.old (calls.Submit application proposal) }
-        ensures answered { Answered (calls_of pass.old) (calls.Submit application proposal) result
-            (calls_of pass.new) }
-        ensures ready { IsReady self.now pass.new }
-    {
-        self.ask(
-            rt,
-            pass,
-            Call::Submit {
-                application,
-                proposal,
-            },
-        )
-    }
-
-    /// A permit, for what the office itself finds now. It may wait.
-    pub fn held<R: Wait>(&self, rt: &R, pass: &mut Pass, application: Application) -> Reply
-        requires ready { IsReady self.now pass.old }
-        requires asked { MayAskWith pass.old (calls.Held application) }
-        ensures answered { Answered (calls_of pass.old) (calls.Held application) result (calls_of pass.new) }
-        ensures ready { IsReady self.now pass.new }
-    {
-        self.ask(rt, pass, Call::Held { application })
-    }
-
-    /// That a change is posted. It may wait.
-    pub fn post<R: Wait>(&self, rt: &R, pass: &mut Pass, change: Change) -> Reply
-        requires ready { IsReady self.now pass.old }
-        ensures answered { Answered (calls_of pass.old) (calls.Post change) result (calls_of pass.new) }
-        ensures ready { IsReady self.now pass.new }
-    {
-        self.ask(rt, pass, Call::Post { change })
-    }
-
-    /// That it is this day from now on. It may wait.
-    pub fn day<R: Wait>(&self, rt: &R, pass: &mut Pass, day: Day) -> Reply
-        requires ready { IsReady self.now pass.old }
-        ensures answered { Answered (calls_of pass.old) (calls.Day day) result (calls_of pass.new) }
-        ensures ready { IsReady self.now pass.new }
-    {
-        self.ask(rt, pass, Call::Day { day })
-    }
-
-    /// That a permit is given back. It may wait.
-    pub fn surrender<R: Wait>(&self, rt: &R, pass: &mut Pass, number: u32) -> Reply
-        requires ready { IsReady self.now pass.old }
-        ensures answered { Answered (calls_of pass.old) (calls.Surrender number) result (calls_of pass.new) }
-        ensures ready { IsReady self.now pass.new }
-    {
-        self.ask(rt, pass, Call::Surrender { number })
-    }
-
-    /// What a permit says. It may wait.
-    pub fn show<R: Wait>(&self, rt: &R, pass: &mut Pass, number: u32) -> Reply
-        requires ready { IsReady self.now pass.old }
-        ensures answered { Answered (calls_of pass.old) (calls.Show number) result (calls_of pass.new) }
-        ensures ready { IsReady self.now pass.new }
-    {
-        self.ask(rt, pass, Call::Show { number })
-    }
-
-    // A turn with one step.
-    fn ask<R: Wait>(&self, rt: &R, pass: &mut Pass, call: Call) -> Reply
+    /// Asks a call, in a turn with one step of the office. What is found for an application was found at a version that the pass
+    /// has seen. It may wait.
+    pub fn ask<R: Wait>(&self, rt: &R, pass: &mut Pass, call: Call) -> Reply
         requires ready { IsReady self.now pass.old }
         requires asked { MayAskWith pass.old call }
         ensures answered { Answered (calls_of pass.old) call result (calls_of pass.new) }

@@ -5,11 +5,8 @@ ghost use Rattle.office_turn.specs.Told.{IsReady};
 
 use crate::desk::{Desk, Pass};
 use office_core::{Looked, OfficeCalls};
-use office_words::Reply;
-use permit_days::Day;
-use restriction_log::Change;
+use office_words::{Call, Reply};
 use std::sync::Wait;
-use trip_analysis::{Application, Proposal};
 
 /// One caller at a desk. It ends in [`Seat::into_pass`].
 pub struct Seat<'a, R: Wait> {
@@ -54,28 +51,7 @@ impl<R: Wait> OfficeCalls for Seat<'_, R> {
         self.desk.snapshot(self.rt, &mut self.pass)
     }
 
-    fn submit(&mut self, application: Application, proposal: Proposal) -> Reply {
-        self.desk
-            .submit(self.rt, &mut self.pass, application, proposal)
-    }
-
-    fn held(&mut self, application: Application) -> Reply {
-        self.desk.held(self.rt, &mut self.pass, application)
-    }
-
-    fn post(&mut self, change: Change) -> Reply {
-        self.desk.post(self.rt, &mut self.pass, change)
-    }
-
-    fn day(&mut self, day: Day) -> Reply {
-        self.desk.day(self.rt, &mut self.pass, day)
-    }
-
-    fn surrender(&mut self, number: u32) -> Reply {
-        self.desk.surrender(self.rt, &mut self.pass, number)
-    }
-
-    fn show(&mut self, number: u32) -> Reply {
-        self.desk.show(self.rt, &mut self.pass, number)
+    fn ask(&mut self, asked: Call) -> Reply {
+        self.desk.ask(self.rt, &mut self.pass, asked)
     }
 }
