@@ -3,7 +3,7 @@
 ghost use Rattle.std.specs.Prelude.{◌≡◌};
 
 use crate::fleet::Fleet;
-use crate::names::Names;
+use crate::name_set::Names;
 use crate::orders::Orders;
 use permit_days::Day;
 use road_graph::Network;

@@ -18,7 +18,7 @@ mod draft;
 mod fleet;
 mod kind;
 mod members;
-mod names;
+mod name_set;
 mod orders;
 mod progress;
 mod refusal;

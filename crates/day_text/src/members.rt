@@ -6,7 +6,7 @@ ghost use Rattle.record_text.specs.Causes.{Grows};
 ghost use Rattle.day_text.specs.Fleets.{actors_of, fleet_of};
 
 use crate::fleet::Fleet;
-use crate::names::Names;
+use crate::name_set::Names;
 use crate::truck::{load_of, parse_truck};
 use csv::StringRecord;
 use record_text::{Kind, RecordCause, RecordRefusal, field, is_blank_from, parse_name};

@@ -12,7 +12,7 @@ use crate::draft::{Draft, Growing};
 use crate::fleet::Fleet;
 use crate::kind::{CommandKind, RecordKind, RoadKind, parse_kind};
 use crate::members::{add_actor, add_truck};
-use crate::names::Names;
+use crate::name_set::Names;
 use crate::orders::Orders;
 use crate::roads::add_road;
 use csv::StringRecord;
