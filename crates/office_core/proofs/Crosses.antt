@@ -28,7 +28,7 @@ use Rattle.trip_analysis.proofs.base.Base.TheSendSync as base
 use Rattle.trip_analysis.specs.contracts.analyst.Analyst as Analyst
 use Rattle.trip_analysis.specs.contracts.base.Base as Base
 use Rattle.trip_analysis.specs.contracts.follower.Follower as Follower
-use Rattle.office_core.specs.contracts.entry.Entry as Entry
+use Rattle.office_words.specs.contracts.entry.Entry as Entry
 use Rattle.office_core.specs.contracts.office.Office as Office
 use Rattle.office_core.specs.contracts.register.Register as Register
 use Rattle.office_core.specs.contracts.seat.OneSeat as OneSeat

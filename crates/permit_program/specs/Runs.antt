@@ -13,8 +13,8 @@ use Rattle.permit_program.specs.Headline.{Headline}
 use Rattle.record_text.specs.declared.refusal.Cause.{Cause}
 use Rattle.refusal_text.specs.Lines.{refusal_line_of, status_of}
 use Rattle.permit_program.specs.Outputs.{IsOutputOf, refusal_by}
-use Rattle.permit_program.specs.declared.run.Alone.{Alone}
-use Rattle.permit_program.specs.declared.run.Alone.TheVariants as alone
+use Rattle.permit_program.specs.declared.runs.Alone.{Alone}
+use Rattle.permit_program.specs.declared.runs.Alone.TheVariants as alone
 use Rattle.permit_program.specs.declared.task.Task.{Task}
 use Rattle.permit_program.specs.declared.task.Task.TheVariants.{Check, Day, Make, Trial}
 

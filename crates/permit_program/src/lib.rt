@@ -8,10 +8,10 @@
 
 mod notices;
 mod output;
-mod run;
+mod runs;
 mod task;
 
 pub use notices::{LineNotice, add_listener};
 pub use output::OutputRefusal;
-pub use run::{Alone, refuse_words, run, run_alone};
+pub use runs::{Alone, refuse_words, run, run_alone};
 pub use task::Task;

@@ -1,6 +1,6 @@
 use Rattle.std.proofs.Common.{List, ℕ, subst, ◌∙◌}
 use Rattle.permit_program.specs.Runs.{WroteLine, sink_at}
-use Rattle.permit_program.proofs.run.refuse_record.Goals as goal
+use Rattle.permit_program.proofs.runs.refuse_record.Goals as goal
 
 pub returns-in-Ok-clause-line : goal.returns-in-Ok-clause-line
 returns-in-Ok-clause-line g c =

@@ -6,7 +6,7 @@ use Rattle.std.specs.Io.KnownBytes.{Appends}
 use Rattle.notice_desk.specs.Deliveries.{Delivered, StoppedAt}
 use Rattle.notice_desk.specs.declared.notice.Recall.{Recall}
 use Rattle.permit_program.specs.Outputs.{IsDayOf, refusal_by}
-use Rattle.permit_program.proofs.run.perform_day.Goals as goal
+use Rattle.permit_program.proofs.runs.perform_day.Goals as goal
 
 pub returns-in-Err-TooLong : goal.returns-in-Err-TooLong
 returns-in-Err-TooLong g c =

@@ -2,7 +2,7 @@ use Rattle.std.proofs.Common.{Option, Some, sym, subst}
 use Rattle.permit_program.specs.Runs.{IsRun, Outside, desk_at, outside_of}
 use Rattle.permit_program.specs.declared.task.Task.{Task}
 use Rattle.permit_program.specs.declared.task.Task.TheVariants.{Day}
-use Rattle.permit_program.proofs.run.run.Goals as goal
+use Rattle.permit_program.proofs.runs.run.Goals as goal
 
 pub returns-in-Status : goal.returns-in-Status
 returns-in-Status g c =

@@ -3,11 +3,11 @@ use Rattle.std.specs.Prelude.{option_map}
 use Rattle.std.specs.String.{string_bytes}
 use Rattle.permit_program.specs.Runs.{IsAlone, outside_of}
 use Rattle.permit_program.specs.Tasks.{task_for, task_of}
-use Rattle.permit_program.specs.declared.run.Alone.TheVariants as alone
+use Rattle.permit_program.specs.declared.runs.Alone.TheVariants as alone
 use Rattle.permit_program.specs.declared.task.Task.{Task}
 use Rattle.permit_program.specs.declared.task.Task.TheVariants.{Check, Make, Trial}
 use Rattle.permit_program.proofs.Ends.{made_run, takes_none}
-use Rattle.permit_program.proofs.run.run_alone.Goals as goal
+use Rattle.permit_program.proofs.runs.run_alone.Goals as goal
 
 pub returns-in-Check : goal.returns-in-Check
 returns-in-Check g c = λ desk.

@@ -2,7 +2,7 @@ use Rattle.std.proofs.Common.{ℕ, Some, refl, sym, subst}
 use Rattle.permit_program.specs.Runs.{IsRun, outside_of}
 use Rattle.permit_program.specs.declared.task.Task.TheVariants.{Check}
 use Rattle.permit_program.proofs.Ends.{ends_with_too_many, many_left}
-use Rattle.permit_program.proofs.run.perform_check.Goals as goal
+use Rattle.permit_program.proofs.runs.perform_check.Goals as goal
 
 pub returns-in-Err-TooLong : goal.returns-in-Err-TooLong
 returns-in-Err-TooLong g c =
