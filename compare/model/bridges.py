@@ -9,12 +9,18 @@ vertices of all axles and all runs are tried here, each with the moment of all a
 import functools
 import math
 from bisect import bisect_left, bisect_right
+from collections.abc import Iterator
 from fractions import Fraction
+
+from .limits import Axles
+
+# axle, first and last of the run, scale, lead, section
+Vertex = tuple[int, int, int, int, int, int]
 
 HS20 = ((0, 8000), (168, 32000), (336, 32000))
 
 
-def moment(axles, span, scale, lead, section):
+def moment(axles: Axles, span: int, scale: int, lead: int, section: int) -> Fraction:
     """The moment at a section with the first axle at the lead, both in 1/scale inches from the left support."""
     end, total = scale * span, 0
     for place, weight in axles:
@@ -24,7 +30,7 @@ def moment(axles, span, scale, lead, section):
     return Fraction(total, scale * end)
 
 
-def vertices(axles, span):
+def vertices(axles: Axles, span: int) -> Iterator[Vertex]:
     """Each vertex whose section is on the span: axle, first and last of the run, scale, lead, section; in this order."""
     for axle, (place, _) in enumerate(axles):
         for first in range(len(axles)):
@@ -38,14 +44,15 @@ def vertices(axles, span):
                     yield axle, first, last, 2 * weight, lead, section
 
 
-def peak_moment(axles, span):
+def peak_moment(axles: Axles, span: int) -> tuple[Fraction, Vertex]:
     """The peak moment, and the first vertex that reaches it, its scale, lead and section as small as they go."""
     places = [place for place, _ in axles]
     weights, turns = [0], [0]
     for place, weight in axles:
         weights.append(weights[-1] + weight)
         turns.append(turns[-1] + weight * place)
-    most, scaled, where = -1, 1, None
+    # an axle at the middle of the span alone is a vertex, so there is one
+    most, scaled, where = -1, 1, (0, 0, 0, 1, 0, 0)
     for vertex in vertices(axles, span):
         axle, _, _, scale, lead, section = vertex
         end = scale * span
@@ -61,9 +68,9 @@ def peak_moment(axles, span):
     return Fraction(most, scaled * span), (axle, first, last, scale // common, lead // common, section // common)
 
 
-def peak_shear(axles, span):
+def peak_shear(axles: Axles, span: int) -> tuple[Fraction, tuple[int, str]]:
     """The peak end shear, and the lead and the support at which it is reached first: the left one, by the order of axles."""
-    most, where = Fraction(-1), None
+    most, where = Fraction(-1), (0, "left")
     for side in ("left", "right"):
         for at, _ in axles:
             lead = -at if side == "left" else span - at
@@ -75,12 +82,12 @@ def peak_shear(axles, span):
 
 
 @functools.lru_cache(maxsize=None)
-def design(span):
+def design(span: int) -> tuple[Fraction, Fraction]:
     """The peak moment and the peak end shear of HS20-44. Of the second spacings from 14 to 30 ft the least is the worst."""
     return peak_moment(HS20, span)[0], peak_shear(HS20, span)[0]
 
 
-def fit(effects, span, rating):
+def fit(effects: tuple[Fraction, Fraction], span: int, rating: int) -> str:
     """The first effect that is over so many thousandths of that of HS20-44, or `fits`."""
     for word, has, most in zip(("moment", "shear"), effects, design(span)):
         if 1000 * has > rating * most:
@@ -88,5 +95,5 @@ def fit(effects, span, rating):
     return "fits"
 
 
-def ratio(fraction):
+def ratio(fraction: Fraction) -> str:
     return "%d/%d" % (fraction.numerator, fraction.denominator)

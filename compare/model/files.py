@@ -4,9 +4,17 @@ A kind of record is a list of columns. A column knows the form of its field, whe
 range of its value. So the causes `field`, `same`, `unknown` and `range` are each one pass over the columns, in that order; what
 else may be wrong with a record follows them, and that there are too many of its kind comes last.
 """
+from collections.abc import Callable
+from typing import Any
+
 from . import forms
+from .limits import Axles
 from .records import MOST_BYTES, is_text, records
 from .trucks import Truck, broken_rule
+
+# The values of a record, each as the form of its column gives it.
+Values = list[Any]
+Bounds = tuple[int | None, int | None]
 
 MOST = {"nodes": 4096, "segments": 16384, "spans": 2048, "trucks": 64, "actors": 16, "commands": 4096, "probes": 64}
 MOST_SPANS_OF_SEGMENT = 16
@@ -15,7 +23,7 @@ MOST_SPANS_OF_SEGMENT = 16
 class Refused(Exception):
     """A file that is refused: the line that is written, and the status."""
 
-    def __init__(self, status, what):
+    def __init__(self, status: int, what: str) -> None:
         super().__init__(what)
         self.status, self.line = status, "refused: %s\n" % what
 
@@ -23,22 +31,24 @@ class Refused(Exception):
 class Column:
     """A field of a kind of record: its form, the kind of name that it defines or refers to, and the range of its number."""
 
-    def __init__(self, form, defines=None, refers=None, least=None, most=None):
+    def __init__(self, form: Callable[[bytes], Any], defines: str | None = None,
+                 refers: str | Callable[[Values], str] | None = None,
+                 least: int | Callable[[Values], Bounds] | None = None, most: int | None = None) -> None:
         self.form, self.defines, self.refers, self.least, self.most = form, defines, refers, least, most
 
-    def referred(self, record):
+    def referred(self, record: Values) -> str | None:
         """The kind of name that this field refers to, in this record."""
         return self.refers(record) if callable(self.refers) else self.refers
 
-    def names(self, value):
+    def names(self, value: Any) -> list[str]:
         """The names that the field holds."""
         return value if isinstance(value, list) else [value]
 
-    def range(self, record):
+    def range(self, record: Values) -> Bounds:
         """The least and the greatest value of this field, in this record; None where there is no limit."""
         return self.least(record) if callable(self.least) else (self.least, self.most)
 
-    def fits(self, value, record):
+    def fits(self, value: Any, record: Values) -> bool:
         """Whether the value is in its range, or is a day of the calendar."""
         if self.form is forms.day:
             return forms.is_day(value)
@@ -46,19 +56,19 @@ class Column:
         return (least is None or least <= value) and (most is None or value <= most)
 
 
-def defines(kind):
+def defines(kind: str) -> Column:
     return Column(forms.name, defines=kind)
 
 
-def refers(kind):
+def refers(kind: str) -> Column:
     return Column(forms.name, refers=kind)
 
 
-def number(least=None, most=None):
+def number(least: int | None = None, most: int | None = None) -> Column:
     return Column(forms.number, least=least, most=most)
 
 
-def value(what):
+def value(what: int) -> Column:
     """A value whose range is that of the limit in column `what` of the record."""
     return Column(forms.number, least=lambda record: forms.RANGES.get(record[what], (None, None)))
 
@@ -68,12 +78,12 @@ ITEM = Column(forms.name, refers=lambda record: "spans" if record[2] == "rating"
 ROUTE = Column(forms.route, refers="segments")
 TRUCK = [Column(forms.name), number(1, 999), number(1, 999), number(1, 9999), Column(forms.axles)]
 
-CHECK_KINDS = {
+CHECK_KINDS: dict[str, list[Column]] = {
     "truck": [Column(forms.name), *TRUCK],
     "probe": [number(1, 6000), number(0, 100000)],
     "end": [],
 }
-DAY_KINDS = {
+DAY_KINDS: dict[str, list[Column]] = {
     "day": [DAY],
     "node": [defines("nodes")],
     "segment": [defines("segments"), refers("nodes"), refers("nodes"), number(1, 10000000)],
@@ -93,12 +103,12 @@ COMMANDS = ("apply", "post", "setday", "surrender", "show")
 
 class File:
     """What some bytes say, record by record. `names` has the number of each name of each kind."""
-    kinds, first = {}, ""
+    kinds: dict[str, list[Column]] = {}
+    first = ""
 
-    def __init__(self, data):
-        if len(data) > MOST_BYTES:
-            raise Refused(6, "bytes")
-        self.names = {"nodes": {}, "segments": {}, "spans": {}, "trucks": {}, "actors": {}}
+    def __init__(self, data: bytes) -> None:
+        self.weigh(data)
+        self.names: dict[str, dict[str, int]] = {"nodes": {}, "segments": {}, "spans": {}, "trucks": {}, "actors": {}}
         self.row, self.ended = 0, False
         for record in records(data):
             self.row += 1
@@ -107,19 +117,24 @@ class File:
             self.row += 1
             self.refuse("end")
 
-    def refuse(self, cause, status=5):
+    def weigh(self, data: bytes) -> None:
+        """Whether there are too many bytes."""
+        if len(data) > MOST_BYTES:
+            raise Refused(6, "bytes")
+
+    def refuse(self, cause: str, status: int = 5) -> None:
         raise Refused(status, "record %d %s" % (self.row, cause))
 
-    def demand(self, holds, cause):
+    def demand(self, holds: bool, cause: str) -> None:
         if not holds:
             self.refuse(cause)
 
-    def room(self, kind, count):
+    def room(self, kind: str, count: int) -> None:
         """One more of this kind, where there are so many already."""
         if count >= MOST[kind]:
             self.refuse(kind, 6)
 
-    def take(self, record):
+    def take(self, record: list[bytes]) -> None:
         self.demand(len(record) == 8 and is_text(record), "fields")
         kind = record[0].decode()
         self.demand(kind in self.kinds, "kind")
@@ -133,14 +148,14 @@ class File:
         else:
             getattr(self, "add_" + kind)(*values)
 
-    def in_form(self, columns, fields):
-        values = []
+    def in_form(self, columns: list[Column], fields: list[bytes]) -> Values:
+        values: Values = []
         for at, (column, field) in enumerate(zip(columns, fields), 2):
             values.append(column.form(field))
             self.demand(values[-1] is not None, "field %d" % at)
         return values
 
-    def in_place(self, columns, values):
+    def in_place(self, columns: list[Column], values: Values) -> None:
         for column, it in zip(columns, values):
             self.demand(not column.defines or it not in self.names[column.defines], "same")
         for at, (column, it) in enumerate(zip(columns, values), 2):
@@ -149,7 +164,7 @@ class File:
         for at, (column, it) in enumerate(zip(columns, values), 2):
             self.demand(column.fits(it, values), "range %d" % at)
 
-    def truck_of(self, name, carrier, height, width, length, axles):
+    def truck_of(self, name: str, carrier: str, height: int, width: int, length: int, axles: Axles) -> Truck:
         broken = broken_rule(axles)
         self.demand(broken is None, "train %s" % broken)
         return Truck(name, carrier, height, width, length, axles)
@@ -158,15 +173,16 @@ class File:
 class CheckFile(File):
     """One truck and its probes, each the inches of a span and its rating."""
     kinds, first = CHECK_KINDS, "truck"
+    truck: Truck
 
-    def __init__(self, data):
-        self.truck, self.probes = None, []
+    def __init__(self, data: bytes) -> None:
+        self.probes: list[tuple[int, int]] = []
         super().__init__(data)
 
-    def add_truck(self, *values):
+    def add_truck(self, *values: Any) -> None:
         self.truck = self.truck_of(*values)
 
-    def add_probe(self, inches, rating):
+    def add_probe(self, inches: int, rating: int) -> None:
         self.room("probes", len(self.probes))
         self.probes.append((inches, rating))
 
@@ -178,33 +194,38 @@ class DayFile(File):
     each segment before anything is posted. A command is the number of its actor, its kind and what it asks for.
     """
     kinds, first = DAY_KINDS, "day"
+    day: str
 
-    def __init__(self, data):
-        self.day, self.segments, self.values, self.spans = None, [], [], []
-        self.trucks, self.actors, self.commands = [], 0, []
+    def __init__(self, data: bytes) -> None:
+        self.segments: list[tuple[int, int, int]] = []
+        self.values: list[dict[str, int]] = []
+        self.spans: list[tuple[int, int, int]] = []
+        self.trucks: list[Truck] = []
+        self.actors = 0
+        self.commands: list[tuple[int, str, Any]] = []
         super().__init__(data)
 
-    def add(self, kind, name):
+    def add(self, kind: str, name: str) -> None:
         numbers = self.names[kind]
         self.room(kind, len(numbers))
         numbers[name] = len(numbers)
 
-    def add_day(self, day):
+    def add_day(self, day: str) -> None:
         self.day = day
 
-    def add_node(self, name):
+    def add_node(self, name: str) -> None:
         self.add("nodes", name)
 
-    def add_segment(self, name, start, end, feet):
+    def add_segment(self, name: str, start: str, end: str, feet: int) -> None:
         self.add("segments", name)
         nodes = self.names["nodes"]
         self.segments.append((nodes[start], nodes[end], feet))
         self.values.append({what: 0 if what == "closed" else forms.RANGES[what][1] for what in forms.LIMITS})
 
-    def add_limit(self, segment, what, it):
+    def add_limit(self, segment: str, what: str, it: int) -> None:
         self.values[self.names["segments"][segment]][what] = it
 
-    def add_span(self, name, segment, inches, rating):
+    def add_span(self, name: str, segment: str, inches: int, rating: int) -> None:
         on = self.names["segments"][segment]
         self.room("spans", len(self.spans))
         if sum(span[0] == on for span in self.spans) >= MOST_SPANS_OF_SEGMENT:
@@ -212,20 +233,20 @@ class DayFile(File):
         self.add("spans", name)
         self.spans.append((on, inches, rating))
 
-    def add_truck(self, *values):
+    def add_truck(self, *values: Any) -> None:
         truck = self.truck_of(*values)
         self.add("trucks", truck.name)
         self.trucks.append(truck)
 
-    def add_actor(self, name):
+    def add_actor(self, name: str) -> None:
         self.add("actors", name)
         self.actors += 1
 
-    def command(self, actor, kind, what):
+    def command(self, actor: str, kind: str, what: Any) -> None:
         self.room("commands", len(self.commands))
         self.commands.append((self.names["actors"][actor], kind, what))
 
-    def add_apply(self, actor, truck, start, end, route, first, last):
+    def add_apply(self, actor: str, truck: str, start: str, end: str, route: list[str], first: str, last: str) -> None:
         nodes = self.names["nodes"]
         self.demand(start != end, "same-place")
         asked = [self.names["segments"][name] for name in route]
@@ -234,22 +255,22 @@ class DayFile(File):
         trip = (self.names["trucks"][truck], nodes[start], nodes[end], tuple(asked), first, last)
         self.command(actor, "apply", trip)
 
-    def is_walk(self, route, start, end):
+    def is_walk(self, route: list[int], start: int, end: int) -> bool:
         for number in route:
             if self.segments[number][0] != start:
                 return False
             start = self.segments[number][1]
         return start == end
 
-    def add_post(self, actor, item, what, it):
+    def add_post(self, actor: str, item: str, what: str, it: int) -> None:
         kind = "spans" if what == "rating" else "segments"
         self.command(actor, "post", (self.names[kind][item], what, it))
 
-    def add_setday(self, actor, day):
+    def add_setday(self, actor: str, day: str) -> None:
         self.command(actor, "setday", day)
 
-    def add_surrender(self, actor, permit):
+    def add_surrender(self, actor: str, permit: int) -> None:
         self.command(actor, "surrender", permit)
 
-    def add_show(self, actor, permit):
+    def add_show(self, actor: str, permit: int) -> None:
         self.command(actor, "show", permit)

@@ -10,22 +10,22 @@ RANGES = {
 }
 
 
-def name(field):
+def name(field: bytes) -> str | None:
     """1 to 16 letters, digits, `-` or `_`."""
     return field.decode() if re.fullmatch(rb"[A-Za-z0-9_-]{1,16}", field) else None
 
 
-def number(field):
+def number(field: bytes) -> int | None:
     """One to nine digits, zeros in front among them."""
     return int(field) if re.fullmatch(rb"[0-9]{1,9}", field) else None
 
 
-def day(field):
+def day(field: bytes) -> str | None:
     """YYYY-MM-DD, whether or not there is such a day. Of two days the earlier one has the lesser text."""
     return field.decode() if re.fullmatch(rb"[0-9]{4}-[0-9]{2}-[0-9]{2}", field) else None
 
 
-def is_day(text):
+def is_day(text: str) -> bool:
     """Whether the calendar has the day. Python's calendar is the Gregorian one from the year 1 to the year 9999."""
     try:
         datetime.date(int(text[:4]), int(text[5:7]), int(text[8:]))
@@ -34,30 +34,34 @@ def is_day(text):
     return True
 
 
-def axles(field):
+def axles(field: bytes) -> list[tuple[int, int]] | None:
     """Pairs PLACE:WEIGHT with one space between two."""
     pairs = []
     for pair in field.split(b" "):
         parts = [number(part) for part in pair.split(b":")]
-        if len(parts) != 2 or None in parts:
+        if len(parts) != 2:
             return None
-        pairs.append(tuple(parts))
+        place, weight = parts
+        if place is None or weight is None:
+            return None
+        pairs.append((place, weight))
     return pairs
 
 
-def route(field):
+def route(field: bytes) -> list[str] | None:
     """The names of the segments that are asked for, none where the field is empty: an empty list."""
     if not field:
         return []
-    names = [name(part) for part in field.split(b" ")]
-    return None if None in names else names
+    parts = field.split(b" ")
+    names = [made for made in map(name, parts) if made is not None]
+    return names if len(names) == len(parts) else None
 
 
-def limit(field):
+def limit(field: bytes) -> str | None:
     """What a `limit` record sets."""
     return field.decode() if field in [word.encode() for word in LIMITS] else None
 
 
-def posted(field):
+def posted(field: bytes) -> str | None:
     """What a `post` record sets."""
     return field.decode() if field in [word.encode() for word in POSTED] else None

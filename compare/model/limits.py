@@ -3,24 +3,30 @@
 A group is a run of axles next to each other, a single axle among them. Its spread is the distance in whole inches from its first
 axle to its last.
 """
+from collections.abc import Sequence
+
+Axles = Sequence[tuple[int, int]]
+# the first and the last axle from 0 on, the weight, the limit and its rule
+Group = tuple[int, int, int, int, str]
+
 SINGLE, TANDEM, GROSS = 20000, 34000, 80000
 SINGLE_SPREAD, TANDEM_SPREAD = 40, 96
 TWO_TANDEM, TWO_TANDEM_SPREAD = 68000, 432
 LEGAL_WIDTH, LEGAL_HEIGHT = 102, 162
 
 
-def formula(spread, count):
+def formula(spread: int, count: int) -> int:
     """W = 500 (L N / (N - 1) + 12 N + 36) with L in feet, to the nearest 500 lb; of two that are as near the lesser one."""
     over, base = spread * count, 12 * (count - 1)
     nearest = (2 * over - base + 2 * base - 1) // (2 * base)
     return 500 * (nearest + 12 * count + 36)
 
 
-def is_tandem(axles):
+def is_tandem(axles: Axles) -> bool:
     return SINGLE_SPREAD < axles[-1][0] - axles[0][0] <= TANDEM_SPREAD
 
 
-def group_limit(axles):
+def group_limit(axles: Axles) -> tuple[int, str]:
     """The limit of a group, and the rule that gives it. The exception for two tandems counts where it gives more."""
     spread = axles[-1][0] - axles[0][0]
     if spread <= SINGLE_SPREAD:
@@ -34,13 +40,13 @@ def group_limit(axles):
     return limit, "formula"
 
 
-def groups(axles):
+def groups(axles: Axles) -> list[Group]:
     """All groups, by first and then by last axle: both places, the weight, the limit and its rule."""
     return [(i, j, sum(weight for _, weight in axles[i:j + 1]), *group_limit(axles[i:j + 1]))
             for i in range(len(axles)) for j in range(i, len(axles))]
 
 
-def findings(axles):
+def findings(axles: Axles) -> list[Group]:
     """The groups over their limits, and then the gross weight over its own."""
     found = [group for group in groups(axles) if group[2] > group[3]]
     gross = sum(weight for _, weight in axles)
@@ -49,10 +55,10 @@ def findings(axles):
     return found
 
 
-def worst(axles):
+def worst(axles: Axles) -> Group:
     """The first group than which none has a weight that is a greater part of its limit."""
-    greatest = None
-    for group in groups(axles):
-        if greatest is None or group[2] * greatest[3] > greatest[2] * group[3]:
+    greatest, *others = groups(axles)
+    for group in others:
+        if group[2] * greatest[3] > greatest[2] * group[3]:
             greatest = group
     return greatest

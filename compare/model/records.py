@@ -6,18 +6,19 @@ field. A quote that is never closed runs to the end of the text, and that is no 
 return or both. A line with nothing in it is no record.
 """
 import re
+from collections.abc import Iterator
 
 MARK = b"\xef\xbb\xbf"
 MOST_BYTES = 4194304
 PLAIN, QUOTED, CLOSED = range(3)
 
 
-def unmarked(data):
+def unmarked(data: bytes) -> bytes:
     """The text behind the byte order mark, where it begins with one."""
     return data[len(MARK):] if data.startswith(MARK) else data
 
 
-def records(data):
+def records(data: bytes) -> list[list[bytes]]:
     """The records of some bytes, each a list of fields of bytes."""
     data = unmarked(data)
     if b'"' not in data:
@@ -25,9 +26,10 @@ def records(data):
     return list(quoted_records(data))
 
 
-def quoted_records(data):
+def quoted_records(data: bytes) -> Iterator[list[bytes]]:
     """The same where quotes stand in the text, byte by byte."""
-    fields, field, how, begun = [], bytearray(), PLAIN, False
+    fields: list[bytes] = []
+    field, how, begun = bytearray(), PLAIN, False
     for at in range(len(data)):
         byte = data[at:at + 1]
         if how == QUOTED:
@@ -54,7 +56,7 @@ def quoted_records(data):
         yield fields + [bytes(field)]
 
 
-def is_text(record):
+def is_text(record: list[bytes]) -> bool:
     """Whether each field is UTF-8."""
     try:
         for field in record:

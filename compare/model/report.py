@@ -1,9 +1,11 @@
 """What `check` writes for a check file."""
 from .bridges import design, fit, ratio
+from .files import CheckFile
 from .limits import LEGAL_HEIGHT, LEGAL_WIDTH
+from .trucks import Truck
 
 
-def report(file):
+def report(file: CheckFile) -> str:
     truck = file.truck
     lines = ["truck %s axles %d gross %d" % (truck.name, len(truck.axles), truck.gross)]
     broken = ["over %d-%d %d %d %s" % (i + 1, j + 1, weight, limit, rule) for i, j, weight, limit, rule in truck.findings()]
@@ -17,7 +19,7 @@ def report(file):
     return "".join(line + "\n" for line in lines)
 
 
-def probe(truck, span, rating):
+def probe(truck: Truck, span: int, rating: int) -> list[str]:
     """The five lines of a probe."""
     moment, (axle, first, last, scale, lead, section) = truck.moment(span)
     shear, (shear_lead, side) = truck.shear(span)
