@@ -20,16 +20,21 @@ def unmarked(data: bytes) -> bytes:
 
 def records(data: bytes) -> list[list[bytes]]:
     """The records of some bytes, each a list of fields of bytes."""
+    return [fields for _, fields in placed_records(data)]
+
+
+def placed_records(data: bytes) -> Iterator[tuple[int, list[bytes]]]:
+    """The same, each with the place of its first byte in the text behind the byte order mark."""
     data = unmarked(data)
     if b'"' not in data:
-        return [line.split(b",") for line in re.split(b"[\r\n]+", data) if line]
-    return list(quoted_records(data))
+        return ((line.start(), line[0].split(b",")) for line in re.finditer(b"[^\r\n]+", data))
+    return quoted_records(data)
 
 
-def quoted_records(data: bytes) -> Iterator[list[bytes]]:
+def quoted_records(data: bytes) -> Iterator[tuple[int, list[bytes]]]:
     """The same where quotes stand in the text, byte by byte."""
     fields: list[bytes] = []
-    field, how, begun = bytearray(), PLAIN, False
+    field, how, begun, first = bytearray(), PLAIN, False, 0
     for at in range(len(data)):
         byte = data[at:at + 1]
         if how == QUOTED:
@@ -47,13 +52,13 @@ def quoted_records(data: bytes) -> Iterator[list[bytes]]:
             field, how, begun = bytearray(), PLAIN, True
         elif byte in b"\r\n":
             if begun:
-                yield fields + [bytes(field)]
-            fields, field, how, begun = [], bytearray(), PLAIN, False
+                yield first, fields + [bytes(field)]
+            fields, field, how, begun, first = [], bytearray(), PLAIN, False, at + 1
         else:
             field += byte
             how, begun = PLAIN, True
     if begun:
-        yield fields + [bytes(field)]
+        yield first, fields + [bytes(field)]
 
 
 def is_text(record: list[bytes]) -> bool:

@@ -1,0 +1,83 @@
+"""Words, files and the one line of a fault, for all three programs.
+
+A fault ends a program with one line on standard error and a status: 2 where the words ask for nothing or a package is
+missing, 3 where a file cannot be read, 4 where the output cannot be written, 5 where a file is not what it has to be.
+"""
+import argparse
+import os
+import sys
+from collections.abc import Callable, Sequence
+from typing import BinaryIO
+
+from . import VERSION
+
+USAGE, UNREAD, UNWRITTEN, BAD = 2, 3, 4, 5
+
+
+class Fault(Exception):
+    """What is wrong and what to do, in one line, and the status."""
+
+    def __init__(self, status: int, line: str) -> None:
+        super().__init__(line)
+        self.status = status
+
+
+def missing(name: str, package: str) -> Fault:
+    """A package that is not installed."""
+    return Fault(USAGE, f"{name} is not installed: install the Debian package {package}")
+
+
+def parser(name: str, text: str) -> argparse.ArgumentParser:
+    """A parser of words with the options that all three have."""
+    made = argparse.ArgumentParser(prog=name, description=text, formatter_class=argparse.RawDescriptionHelpFormatter)
+    made.add_argument("--version", action="version", version=f"{name} {VERSION}, not proved")
+    return made
+
+
+def read(path: str) -> bytes:
+    """All bytes of a file, or of standard input where the path is `-`."""
+    try:
+        if path == "-":
+            return sys.stdin.buffer.read()
+        with open(path, "rb") as file:
+            return file.read()
+    except OSError as fault:
+        raise Fault(UNREAD, f"{shown_path(path)} cannot be read: {fault.strerror}") from fault
+
+
+def write(path: str | None, data: bytes) -> None:
+    """Writes to a file, or to standard output where there is no path. Nothing is written before all of it is there."""
+    try:
+        if path is None:
+            sys.stdout.buffer.write(data)
+            sys.stdout.buffer.flush()
+            return
+        with open(path, "wb") as file:
+            file.write(data)
+    except OSError as fault:
+        shown = shown_path(path or "standard output")
+        raise Fault(UNWRITTEN, f"{shown} cannot be written: {fault.strerror}") from fault
+
+
+def shown_path(path: str) -> str:
+    """A path as it may be shown: what a terminal would obey is escaped."""
+    return "standard input" if path == "-" else printable(path)
+
+
+def printable(text: str) -> str:
+    """A text in which nothing is left that a terminal would obey."""
+    return "".join(letter if letter.isprintable() else letter.encode("unicode_escape", "backslashreplace").decode()
+                   for letter in text)
+
+
+def run(main: Callable[[Sequence[str]], int], name: str) -> int:
+    """Runs a program, and says its fault in one line. A reader of the output who has gone is no fault."""
+    try:
+        return main(sys.argv[1:])
+    except Fault as fault:
+        print(f"{name}: {printable(str(fault))}", file=sys.stderr)
+        return fault.status
+    except BrokenPipeError:
+        sink: BinaryIO = open(os.devnull, "wb")
+        os.dup2(sink.fileno(), sys.stdout.fileno())
+        return UNWRITTEN

@@ -1,0 +1,241 @@
+"""A check file or a day file that is read on behind each record that is refused.
+
+The proved program stops at the first refused record. Here each record is judged by what the records above it define,
+where a refused record counts as mended: the name that it was to define is there. So no record is named only since one
+above it is bad. The first cause of each record is the one that the second program's reader gives, which is compared
+with the proved program's.
+"""
+from dataclasses import dataclass, field
+from typing import Any
+
+from model import forms
+from model.files import CHECK_KINDS, DAY_KINDS, CheckFile, DayFile, File, Refused, Values
+from model.records import MOST_BYTES, is_text, placed_records, unmarked
+from model.trucks import broken_rule
+
+WHOLE_RECORD = ("fields", "kind", "order")
+
+
+@dataclass(frozen=True)
+class Refusal:
+    """One thing for which a record is refused: its row, its line in an editor, and the cause in the program's word."""
+    row: int
+    line: int
+    cause: str
+    status: int
+    record: list[bytes] = field(hash=False)
+
+    @property
+    def kind(self) -> str:
+        return kind_of(self.record)
+
+    @property
+    def column(self) -> int | None:
+        """The number of the field that is at fault, counted from 1, where it is one field."""
+        word, _, number = self.cause.partition(" ")
+        if word in ("field", "unknown", "range"):
+            return int(number)
+        if word == "extra":
+            used = len(kinds_of_all()[self.kind]) + 1
+            return next(at for at, text in enumerate(self.record, 1) if at > used and text)
+        return {"kind": 1, "same": 2, "train": 7, "same-place": 5, "broken-route": 6, "day-order": 8}.get(word)
+
+    @property
+    def field_text(self) -> bytes:
+        return self.record[self.column - 1] if self.column and self.column <= len(self.record) else b""
+
+
+@dataclass(frozen=True)
+class Accepted:
+    """A record that is accepted, with the values of its fields."""
+    row: int
+    line: int
+    kind: str
+    values: Values = field(hash=False)
+    record: list[bytes] = field(hash=False)
+
+
+def kinds_of_all() -> dict[str, list[Any]]:
+    return {**CHECK_KINDS, **DAY_KINDS}
+
+
+def kind_of(record: list[bytes]) -> str:
+    """The kind of a record, or the first word of a line that is no record."""
+    return record[0].decode("utf-8", "replace") if record else ""
+
+
+class Lenient(File):
+    """A file that is read on: its refusals and its accepted records, in the order of the rows."""
+
+    def __init__(self, data: bytes) -> None:
+        self.refusals: list[Refusal] = []
+        self.accepted: list[Accepted] = []
+        self.rows: dict[tuple[str, str], int] = {}
+        # names that a record of no kind may have meant to define, and segments of which the ends are not known
+        self.doubted: set[str] = set()
+        self.astray: set[int] = set()
+        self.opened = False
+        text = unmarked(data)
+        self.places = [place for place, _ in placed_records(data)]
+        self.lines = line_numbers(text, self.places)
+        try:
+            super().__init__(data)
+        except Refused as refused:
+            self.note(refused, [])
+
+    def weigh(self, data: bytes) -> None:
+        if len(data) > MOST_BYTES:
+            self.refusals.append(Refusal(0, 0, "bytes", 6, [b"%d" % len(data)]))
+
+    def note(self, refused: Refused, record: list[bytes], cause: str | None = None) -> None:
+        """Keeps a refusal of the record at which the file is."""
+        cause = cause or cause_of(refused)
+        line = self.lines[self.row - 1] if self.row <= len(self.lines) else 0
+        self.refusals.append(Refusal(self.row, line, cause, refused.status, record))
+
+    def take(self, record: list[bytes]) -> None:
+        kind, row = kind_of(record), self.row
+        if kind == self.first and not self.opened and row > 1:
+            # what stands above is refused, and the file begins here
+            self.row = 1
+        try:
+            super().take(record)
+        except Refused as refused:
+            self.row = row
+            for cause in self.causes(record, cause_of(refused)):
+                self.note(refused, record, cause)
+            self.mend(record, cause_of(refused))
+        else:
+            self.row = row
+            self.keep(record)
+        self.opened = self.opened or kind == self.first
+
+    def keep(self, record: list[bytes]) -> None:
+        """Keeps an accepted record."""
+        kind = kind_of(record)
+        columns = self.kinds[kind]
+        values = [column.form(text) for column, text in zip(columns, record[1:])]
+        self.accepted.append(Accepted(self.row, self.lines[self.row - 1], kind, values, record))
+        for column, value in zip(columns, values):
+            if column.defines:
+                self.rows[column.defines, value] = self.row
+
+    def causes(self, record: list[bytes], first: str) -> list[str]:
+        """All that is wrong with a record, the program's own cause first; none where it only names what may be
+        there."""
+        word = first.split(" ")[0]
+        if word in WHOLE_RECORD:
+            return [first]
+        found = [first] + [cause for cause in self.column_causes(record) if cause != first]
+        return [cause for cause in found if not self.is_doubted(record, cause)]
+
+    def column_causes(self, record: list[bytes]) -> list[str]:
+        """What is wrong with each field on its own."""
+        columns = self.kinds[kind_of(record)]
+        values = [column.form(text) for column, text in zip(columns, record[1:])]
+        found = []
+        for at, (column, value) in enumerate(zip(columns, values), 2):
+            if value is None:
+                found.append(f"field {at}")
+                continue
+            kind = column.referred(values)
+            hidden = kind_of(record) == "post" and at == 3 and values[2] is None
+            if kind and not hidden and not all(name in self.names[kind] for name in column.names(value)):
+                found.append(f"unknown {at}")
+            elif not column.fits(value, values):
+                found.append(f"range {at}")
+            elif column.form is forms.axles and broken_rule(value):
+                found.append(f"train {broken_rule(value)}")
+        return found
+
+    def is_doubted(self, record: list[bytes], cause: str) -> bool:
+        """Whether a name is unknown only since the record that was to define it is refused."""
+        word, _, number = cause.partition(" ")
+        if word != "unknown":
+            return False
+        column = self.kinds[kind_of(record)][int(number) - 2]
+        kind = column.referred([it.form(text) for it, text in zip(self.kinds[kind_of(record)], record[1:])])
+        names = column.names(column.form(record[int(number) - 1]))
+        return kind is not None and all(name in self.names[kind] or name in self.doubted for name in names)
+
+    def mend(self, record: list[bytes], cause: str) -> None:
+        """Takes a refused record as mended: what it was to define is there."""
+        kind = kind_of(record)
+        if kind.strip().lower().startswith("end") and cause != "order":
+            self.ended = True
+        name = forms.name(record[1]) if len(record) > 1 else None
+        if name is None or not is_text(record):
+            return
+        if kind not in self.kinds:
+            self.doubted.add(name)
+        elif self.kinds[kind] and self.kinds[kind][0].defines:
+            self.define(kind, name, record)
+
+    def define(self, kind: str, name: str, record: list[bytes]) -> None:
+        """A name of a refused record."""
+        numbers = self.names[kind + "s"]
+        if name in numbers:
+            return
+        numbers[name] = len(numbers)
+        self.rows[kind + "s", name] = self.row
+        if isinstance(self, DayFile):
+            if kind == "segment":
+                nodes = self.names["nodes"]
+                ends = [nodes.get(text.decode("utf-8", "replace"), -1) for text in (record + [b""] * 4)[2:4]]
+                if -1 in ends:
+                    self.astray.add(numbers[name])
+                self.segments.append((ends[0], ends[1], 1))
+                self.values.append({what: 0 for what in forms.LIMITS})
+            elif kind == "span":
+                segment = record[2].decode("utf-8", "replace") if len(record) > 2 else ""
+                self.spans.append((self.names["segments"].get(segment, -1), 1, 0))
+            elif kind == "actor":
+                self.actors += 1
+
+
+class CheckSheet(Lenient, CheckFile):
+    """A check file that is read on."""
+
+
+class DaySheet(Lenient, DayFile):
+    """A day file that is read on."""
+
+    def is_walk(self, route: list[int], start: int, end: int) -> bool:
+        """A route over a segment whose ends are not known may be a walk."""
+        return any(number in self.astray for number in route) or super().is_walk(route, start, end)
+
+
+def cause_of(refused: Refused) -> str:
+    """The cause in the line of a refusal: what stands behind `refused: record ROW`."""
+    words = refused.line.split()
+    return " ".join(words[3:]) if words[1] == "record" else words[1]
+
+
+def line_numbers(text: bytes, places: list[int]) -> list[int]:
+    """The number of the line in which each record begins, counted as an editor counts: a return with its feed is one
+    end."""
+    numbers, line, at = [], 1, 0
+    for place in places:
+        part = text[at:place]
+        line += part.count(b"\n") + part.count(b"\r") - part.count(b"\r\n")
+        at = place
+        numbers.append(line)
+    return numbers
+
+
+def is_check(data: bytes) -> bool:
+    """Whether a file says that it is a check file: its first record is a truck."""
+    first = next(iter(placed_records(data[:4096])), (0, [b""]))[1]
+    return first[0] == b"truck"
+
+
+def read_sheet(data: bytes, check: bool) -> Lenient:
+    return CheckSheet(data) if check else DaySheet(data)
+
+
+def first_line(sheet: Lenient) -> str | None:
+    """The line with which the proved program would refuse the file, or nothing where it takes it."""
+    if not sheet.refusals:
+        return None
+    first = sheet.refusals[0]
+    return "refused: bytes" if first.cause == "bytes" else f"refused: record {first.row} {first.cause}"
