@@ -66,8 +66,10 @@ def shown_path(path: str) -> str:
 
 def printable(text: str) -> str:
     """A text in which nothing is left that a terminal would obey."""
-    return "".join(letter if letter.isprintable() else letter.encode("unicode_escape", "backslashreplace").decode()
-                   for letter in text)
+    return "".join(
+        letter if letter.isprintable() else letter.encode("unicode_escape", "backslashreplace").decode()
+        for letter in text
+    )
 
 
 def run(main: Callable[[Sequence[str]], int], name: str) -> int:

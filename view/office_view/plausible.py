@@ -25,8 +25,11 @@ LIMITS = {
     "width": (96, 999, "a width is in inches, and nearly all trucks are wider"),
     "length": (300, 9_999, "a length is in inches, and nearly all trucks are longer"),
     "gross": (6_000, 2_000_000, "a gross weight is in pounds; were tons or kips written?"),
-    "allowance": (1_000, 10_000,
-                  "an allowance is in thousandths of the federal limits, so that 1,000 is what every truck may have"),
+    "allowance": (
+        1_000,
+        10_000,
+        "an allowance is in thousandths of the federal limits, so that 1,000 is what every truck may have",
+    ),
     "rating": RATING,
 }
 LEAST_AXLE, MOST_AXLE, LEAST_SPACING = 2_000, 60_000, 36
@@ -114,13 +117,16 @@ class Warnings:
         if truck.is_legal() and truck.length > LONG:
             yield self.at(record, 6) + (
                 f"the truck is {feet_text(truck.length)} long and else legal (weights, {LEGAL_HEIGHT} in high, "
-                f"{LEGAL_WIDTH} in wide): the office asks for no permit where a truck is only too long")
+                f"{LEGAL_WIDTH} in wide): the office asks for no permit where a truck is only too long"
+            )
         yield from self.axles(record, truck)
 
     def axles(self, record: Accepted, truck: Truck) -> Iterator[str]:
         for number, (_, weight) in enumerate(truck.axles, 1):
             if weight > MOST_AXLE:
-                yield self.at(record, 7) + f"axle {number} weighs {weight:,} lb; a digit too many, or a group of axles?"
+                yield self.at(
+                    record, 7
+                ) + f"axle {number} weighs {weight:,} lb; a digit too many, or a group of axles?"
             elif weight < LEAST_AXLE:
                 yield self.at(record, 7) + f"axle {number} weighs {weight:,} lb; were kips written?"
         places = [place for place, _ in truck.axles]
@@ -151,9 +157,12 @@ class Warnings:
         number: Any = record.values[1]
         if self.actors > 1:
             yield self.at(record, 3) + (
-                f"{self.actors} actors work at once, so which permit has number {number} rests on who comes first")
+                f"{self.actors} actors work at once, so which permit has number {number} rests on who comes first"
+            )
         elif not 1 <= number <= self.applications:
-            yield self.at(record, 3) + f"no permit has this number by then: above are {self.applications} applications"
+            yield self.at(
+                record, 3
+            ) + f"no permit has this number by then: above are {self.applications} applications"
 
     def of_surrender(self, record: Accepted) -> Iterator[str]:
         yield from self.permit(record)

@@ -11,16 +11,37 @@ from .sheet import WHOLE_RECORD, Lenient, Refusal, kinds_of_all
 COLUMNS = {
     "day": ("an opening day",),
     "node": ("the name of a node",),
-    "segment": ("the name of a segment", "the node where a segment begins", "the node where a segment ends",
-                "a length in feet"),
+    "segment": (
+        "the name of a segment",
+        "the node where a segment begins",
+        "the node where a segment ends",
+        "a length in feet",
+    ),
     "limit": ("a segment", "what is limited", "the value of a limit"),
-    "span": ("the name of a span", "the segment of a span", "the length of a span in inches",
-             "a rating in thousandths"),
-    "truck": ("the name of a truck", "a carrier", "a height in inches", "a width in inches", "a length in inches",
-              "the list of axles"),
+    "span": (
+        "the name of a span",
+        "the segment of a span",
+        "the length of a span in inches",
+        "a rating in thousandths",
+    ),
+    "truck": (
+        "the name of a truck",
+        "a carrier",
+        "a height in inches",
+        "a width in inches",
+        "a length in inches",
+        "the list of axles",
+    ),
     "actor": ("the name of an actor",),
-    "apply": ("an actor", "a truck", "the node where a trip begins", "the node where a trip ends", "a route",
-              "a first day", "a last day"),
+    "apply": (
+        "an actor",
+        "a truck",
+        "the node where a trip begins",
+        "the node where a trip ends",
+        "a route",
+        "a first day",
+        "a last day",
+    ),
     "post": ("an actor", "what a posting is on", "what is posted", "the value of a posting"),
     "setday": ("an actor", "a new day"),
     "surrender": ("an actor", "the number of a permit"),
@@ -38,8 +59,11 @@ TRAINS = {
     6: "the last axle is at most 3,000 in behind the first",
 }
 MAGIC = (
-    (b"PK\x03\x04", "this is a workbook of a spreadsheet (xlsx, ods) or another ZIP archive: save it as CSV, with "
-                    "commas, in UTF-8"),
+    (
+        b"PK\x03\x04",
+        "this is a workbook of a spreadsheet (xlsx, ods) or another ZIP archive: save it as CSV, with "
+        "commas, in UTF-8",
+    ),
     (b"\xd0\xcf\x11\xe0", "this is a workbook of an old spreadsheet (xls): save it as CSV, with commas, in UTF-8"),
     (b"\x1f\x8b", "this is a file compressed by gzip: unpack it"),
     (b"\xff\xfe", "the text is in UTF-16, not in UTF-8: save it as CSV in UTF-8"),
@@ -145,8 +169,10 @@ def unknown_text(refusal: Refusal, sheet: Lenient) -> str:
     below = sheet.rows.get((kind, name))
     if below is not None and below > refusal.row:
         return f"the {SINGULAR[kind]} {name} is defined further below, in row {below}: put that row above this one"
-    return (f"no {SINGULAR[kind]} above is called {name}: capitals count, and names are defined above the rows that use "
-            "them")
+    return (
+        f"no {SINGULAR[kind]} above is called {name}: capitals count, and names are defined above the rows that use "
+        "them"
+    )
 
 
 def range_text(refusal: Refusal) -> str:
@@ -198,7 +224,9 @@ def kind_text(refusal: Refusal, check: bool) -> str:
 def order_text(refusal: Refusal, sheet: Lenient, check: bool) -> str:
     if refusal.row == 1:
         if not check and refusal.kind == "truck":
-            return "a day file begins with its day; one that begins with a truck is a check file: judge it with --check"
+            return (
+                "a day file begins with its day; one that begins with a truck is a check file: judge it with --check"
+            )
         return f"the first row of the file is the {sheet.first}, and this is the kind {refusal.kind}"
     if refusal.kind == sheet.first:
         return f"the {sheet.first} stands once, in row 1"
@@ -240,10 +268,11 @@ def text_of(refusal: Refusal, sheet: Lenient, data: bytes, check: bool) -> str:
     return {
         "same-place": "a trip leads to another node than that where it begins",
         "broken-route": "the route is no walk from the one node to the other: segments have a direction, and each "
-                        "begins where the one before it ends",
+        "begins where the one before it ends",
         "day-order": "the last day is before the first day: exchange them",
-        "end": "the last row is missing: write end into column A below all others" if sheet.places else
-               "the file is empty: is it the right one?",
+        "end": "the last row is missing: write end into column A below all others"
+        if sheet.places
+        else "the file is empty: is it the right one?",
     }[word]
 
 

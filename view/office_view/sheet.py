@@ -19,6 +19,7 @@ WHOLE_RECORD = ("fields", "kind", "order")
 @dataclass(frozen=True)
 class Refusal:
     """One thing for which a record is refused: its row, its line in an editor, and the cause in the program's word."""
+
     row: int
     line: int
     cause: str
@@ -48,6 +49,7 @@ class Refusal:
 @dataclass(frozen=True)
 class Accepted:
     """A record that is accepted, with the values of its fields."""
+
     row: int
     line: int
     kind: str
