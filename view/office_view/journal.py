@@ -1,4 +1,5 @@
-"""The journal, read back. The grammar is that of docs/FORMATS.md, "The grammar of the journal"; numbers begin at 0 here.
+"""The journal, read back. The grammar is that of docs/FORMATS.md, "The grammar of the journal"; numbers begin at 0
+here.
 
 A text that is no journal has a first bad line, and that is what is said of it.
 """

@@ -1,0 +1,50 @@
+"""The places of nodes in the drawing of roads. Nodes of a day file have none, so they are laid out by graphviz."""
+import shutil
+import subprocess
+
+from model.files import DayFile
+
+from .command import Fault, USAGE, missing
+
+MOST_NODES, MOST_SEGMENTS, MANY = 400, 1700, 120
+SECONDS = 60
+Places = list[tuple[float, float]]
+
+
+def can_be_drawn(file: DayFile) -> bool:
+    return len(file.names["nodes"]) <= MOST_NODES and len(file.segments) <= MOST_SEGMENTS
+
+
+def places_of(file: DayFile) -> Places | None:
+    """The place of each node, or nothing where the network is too large to be drawn."""
+    nodes = len(file.names["nodes"])
+    if not nodes or not can_be_drawn(file):
+        return None
+    program = "neato" if nodes <= MANY else "sfdp"
+    if shutil.which(program) is None:
+        raise missing("graphviz", "graphviz")
+    pairs = sorted({(min(start, end), max(start, end)) for start, end, _ in file.segments if start != end})
+    lines = [f"n{node};" for node in range(nodes)] + [f"n{a} -- n{b};" for a, b in pairs]
+    text = "graph { graph [start=7]; node [shape=point]; " + "\n".join(lines) + " }"
+    try:
+        ran = subprocess.run(
+            [program, "-Tplain"], input=text, capture_output=True, text=True, timeout=SECONDS, check=True
+        )
+    except (OSError, subprocess.SubprocessError) as fault:
+        raise Fault(USAGE, f"{program} of graphviz fails: {fault}") from fault
+    found: dict[int, tuple[float, float]] = {}
+    for line in ran.stdout.split("\n"):
+        words = line.split()
+        if words[:1] == ["node"]:
+            found[int(words[1][1:])] = float(words[2]), float(words[3])
+    return scaled([found[node] for node in range(nodes)])
+
+
+def scaled(places: Places) -> Places:
+    """The places such that near nodes are some 90 units apart, from 0 on, the first axis rightwards and the second
+    one down."""
+    left, top = min(x for x, _ in places), max(y for _, y in places)
+    wide, high = max(x for x, _ in places) - left, top - min(y for _, y in places)
+    unit = max(wide, high) or 1.0
+    size = 130.0 * max(2.0, len(places) ** 0.5) / unit
+    return [(round((x - left) * size, 1), round((top - y) * size, 1)) for x, y in places]
