@@ -24,6 +24,7 @@ from .replay import EXPIRED, IN_FORCE, RECALLED, SURRENDERED, Answer, Permit, Po
 from .wording import STATUS, UNITS, Words
 
 HERE = pathlib.Path(__file__).resolve().parent
+MANY_ROWS = 200
 STATES = {IN_FORCE: "inforce", RECALLED: "recalled", SURRENDERED: "surrendered", EXPIRED: "expired"}
 ANSWERS = {"refused": "Refused", "noroad": "No road", "late": "Too late", "notneeded": "No permit needed"}
 OPEN = {what: 0 if what == "closed" else forms.RANGES[what][1] for what in forms.LIMITS}
@@ -61,13 +62,14 @@ def cells(row: Iterable[tuple[str, str]]) -> str:
     return "".join(made + [f'<td role="cell" data-label="{e(label)}">{markup}</td>' for label, markup in rest])
 
 
-def table(name: str, caption: str, heads: Iterable[str], rows: Iterable[str]) -> str:
+def table(name: str, caption: str, heads: Iterable[str], rows: list[str]) -> str:
     """A table that stays one for screen readers where it is shown as blocks on a narrow screen."""
     head = "".join(f'<th scope="col" role="columnheader">{e(text)}</th>' for text in heads)
+    kind = "rows long" if len(rows) > MANY_ROWS else "rows"
     return (
-        f'<table class="rows" id="{name}" role="table"><caption>{e(caption)}</caption>'
-        '<thead role="rowgroup"><tr role="row">'
-        f'{head}</tr></thead><tbody role="rowgroup">\n{"".join(rows)}</tbody></table>'
+        f'<table class="{kind}" id="{name}" role="table"><caption>{e(caption)}</caption>'
+        f'<thead role="rowgroup"><tr role="row">{head}</tr></thead>\n'
+        f'<tbody role="rowgroup">\n{"".join(rows)}</tbody></table>'
     )
 
 
@@ -140,7 +142,10 @@ class Page:
     def permits(self) -> str:
         heads = ("Permit", "How it stands", "Carrier", "Truck", "Days", "From, to and route", "Issued")
         return table(
-            "permit-rows", "Each permit, as it stands at the end", heads, map(self.permit_row, self.made.permits)
+            "permit-rows",
+            "Each permit, as it stands at the end",
+            heads,
+            list(map(self.permit_row, self.made.permits)),
         )
 
     def permit_row(self, permit: Permit) -> str:
@@ -175,9 +180,9 @@ class Page:
         )
 
     def answers(self) -> str:
-        heads = ("Application", "Answer", "Carrier", "Truck", "Days", "From and to", "Asked by")
+        heads = ("Number", "Answer", "Carrier", "Truck", "Days", "From and to", "Asked by")
         caption = "Each application that was answered otherwise; a refusal with the limit that stands in the way"
-        return table("answer-rows", caption, heads, map(self.answer_row, self.made.answers))
+        return table("answer-rows", caption, heads, list(map(self.answer_row, self.made.answers)))
 
     def answer_row(self, answer: Answer) -> str:
         truck, name = self.trucks[answer.trip.truck], f"answer-{answer.number}"
@@ -185,7 +190,7 @@ class Page:
         version = f" (at version {answer.version})" if answer.reply == "refused" else ""
         shown = choose(name, f"answer {answer.number}") if answer.reply in ("refused", "noroad") else ""
         row = (
-            ("Application", f'<a href="#{name}">Answer {answer.number}</a>'),
+            ("Number", f'<a href="#{name}">Answer {answer.number}</a>'),
             (
                 "Answer",
                 f'<span class="state">{e(ANSWERS[answer.reply])}</span> {e(self.words.answer(answer) + version)}',
@@ -204,7 +209,7 @@ class Page:
     def postings(self) -> str:
         heads = ("Posting", "What is posted", "Before", "Posted by", "Recalled by it")
         caption = "Each posting in its order; posting N makes version N"
-        return table("posting-rows", caption, heads, map(self.posting_row, self.made.postings))
+        return table("posting-rows", caption, heads, list(map(self.posting_row, self.made.postings)))
 
     def posting_row(self, posting: Posting) -> str:
         recalled = ", ".join(link("permit", number) for number in posting.recalled) or "nothing"

@@ -95,7 +95,7 @@ def side_view(axes: Axes, truck: Truck, report: Report, brackets: list[Over]) ->
     last = truck.axles[-1][0]
     axes.set_xlim(-0.06 * last - 6, 1.06 * last + 6)
     rows = TRUCK_HEIGHT / BRACKET_HEIGHT
-    axes.set_ylim(-0.55 * rows, 0.45 * rows + len(brackets))
+    axes.set_ylim(-0.65 * rows, 0.45 * rows + len(brackets))
     axes.plot([0, last], [0.75, 0.75], color=INK, linewidth=5, solid_capstyle="butt", gid="deck")
     for number, (place, weight) in enumerate(truck.axles, 1):
         axes.plot(
@@ -125,7 +125,7 @@ def side_view(axes: Axes, truck: Truck, report: Report, brackets: list[Over]) ->
     if len(brackets) < len(report.over):
         axes.annotate(
             f"{len(report.over) - len(brackets)} more are over their limits: see the report",
-            (0, -0.5 * rows),
+            (0, -0.6 * rows),
             fontsize=8,
             color=OVER_COLOR,
             gid="more",

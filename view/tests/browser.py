@@ -29,9 +29,20 @@ class Browser:
         self.folder = tempfile.TemporaryDirectory()
         read_theirs, self.to_browser = os.pipe()
         self.from_browser, write_theirs = os.pipe()
-        words = [program, "--headless=new", "--remote-debugging-pipe", f"--user-data-dir={self.folder.name}",
-                 "--no-first-run", "--disable-gpu", "--disable-extensions", "--hide-scrollbars", "--disable-dev-shm-usage",
-                 "--disable-background-networking", "--disable-sync", "--no-default-browser-check"]
+        words = [
+            program,
+            "--headless=new",
+            "--remote-debugging-pipe",
+            f"--user-data-dir={self.folder.name}",
+            "--no-first-run",
+            "--disable-gpu",
+            "--disable-extensions",
+            "--hide-scrollbars",
+            "--disable-dev-shm-usage",
+            "--disable-background-networking",
+            "--disable-sync",
+            "--no-default-browser-check",
+        ]
         if os.geteuid() == 0:
             words.append("--no-sandbox")
 
@@ -41,8 +52,14 @@ class Browser:
             os.dup2(103, 3)
             os.dup2(104, 4)
 
-        self.process = subprocess.Popen(words, preexec_fn=pipes, close_fds=False, stdin=subprocess.DEVNULL,
-                                        stdout=subprocess.DEVNULL, stderr=subprocess.DEVNULL)
+        self.process = subprocess.Popen(
+            words,
+            preexec_fn=pipes,
+            close_fds=False,
+            stdin=subprocess.DEVNULL,
+            stdout=subprocess.DEVNULL,
+            stderr=subprocess.DEVNULL,
+        )
         os.close(read_theirs)
         os.close(write_theirs)
         self.kept, self.last, self.session = b"", 0, ""
@@ -92,7 +109,9 @@ class Browser:
 
     def wide(self, width: int, height: int = 900) -> None:
         """Sets the width of the screen."""
-        self.call("Emulation.setDeviceMetricsOverride", width=width, height=height, deviceScaleFactor=1, mobile=width < 600)
+        self.call(
+            "Emulation.setDeviceMetricsOverride", width=width, height=height, deviceScaleFactor=1, mobile=width < 600
+        )
 
     def open(self, path: pathlib.Path, anchor: str = "") -> float:
         """Opens a file, and gives the seconds until its script is done and the page is painted."""
@@ -117,12 +136,22 @@ class Browser:
     def press(self, key: str, code: int, text: str = "") -> None:
         """Presses a key."""
         for kind in ("keyDown", "keyUp"):
-            self.call("Input.dispatchKeyEvent", type=kind, key=key, code=key, windowsVirtualKeyCode=code,
-                      text=text if kind == "keyDown" else "")
+            self.call(
+                "Input.dispatchKeyEvent",
+                type=kind,
+                key=key,
+                code=key,
+                windowsVirtualKeyCode=code,
+                text=text if kind == "keyDown" else "",
+            )
 
     def requests(self) -> list[str]:
         """The addresses that were asked for."""
-        return [event["params"]["request"]["url"] for event in self.events if event["method"] == "Network.requestWillBeSent"]
+        return [
+            event["params"]["request"]["url"]
+            for event in self.events
+            if event["method"] == "Network.requestWillBeSent"
+        ]
 
     def faults(self) -> list[str]:
         """What was said on the console, and each fault of a script."""
