@@ -14,6 +14,19 @@ from . import VERSION
 USAGE, UNREAD, UNWRITTEN, BAD = 2, 3, 4, 5
 
 
+INSTALLED = "permit-view-"
+
+
+def own_name() -> str:
+    """The name by which the program was started."""
+    return os.path.basename(sys.argv[0])
+
+
+def other_name(name: str) -> str:
+    """The name of another of the three programs, where it is installed and in the repository."""
+    return (INSTALLED if own_name().startswith(INSTALLED) else "view/") + name
+
+
 class Fault(Exception):
     """What is wrong and what to do, in one line, and the status."""
 

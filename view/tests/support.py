@@ -29,17 +29,20 @@ def check_examples() -> list[pathlib.Path]:
 def made_day(seed: int, size: int) -> bytes:
     from model.making import made_day as make
 
-    return make(seed, size).encode()
+    return str(make(seed, size)).encode()  # type: ignore[no-untyped-call]
 
 
 def journal_of(day: bytes) -> bytes:
-    """A journal of a day: that of the program, where PERMIT_PROGRAM names it, or that of one thread, by the second program."""
+    """A journal of a day: the program's, where PERMIT_PROGRAM names it, or that of one thread by the second program."""
     if PROGRAM:
-        return subprocess.run([PROGRAM, "day"], input=day, stdout=subprocess.PIPE, stderr=subprocess.DEVNULL, check=True).stdout
+        return subprocess.run(
+            [PROGRAM, "day"], input=day, stdout=subprocess.PIPE, stderr=subprocess.DEVNULL, check=True
+        ).stdout
     from model.files import DayFile
     from model.journal import serial, text_of
 
-    return text_of(serial(DayFile(day))[1]).encode()
+    entries = serial(DayFile(day))[1]  # type: ignore[no-untyped-call]
+    return str(text_of(entries)).encode()  # type: ignore[no-untyped-call]
 
 
 def names(day: bytes, kind: str) -> list[str]:
@@ -50,14 +53,26 @@ def names(day: bytes, kind: str) -> list[str]:
 def said_by(journal: str) -> dict[str, Any]:
     """What a journal says, taken from its lines by plain patterns, with no reader of this package: permits with their
     routes, who was recalled by which posting, who was surrendered, the other answers, and the postings."""
-    said: dict[str, Any] = {"permits": {}, "recalled": {}, "surrendered": set(), "answers": [], "postings": [], "days": []}
+    said: dict[str, Any] = {
+        "permits": {},
+        "recalled": {},
+        "surrendered": set(),
+        "answers": [],
+        "postings": [],
+        "days": [],
+    }
     for line in journal.split("\n"):
         call, _, reply = line.partition(" = ")
         if found := re.match(r"issued (\d+) at (\d+) route ([\d,]+)", reply):
             trip = re.search(r"truck (\d+) from (\d+) to (\d+) .*days (\S+) (\S+)", call)
             assert trip is not None
-            said["permits"][int(found[1])] = {"version": int(found[2]), "route": list(map(int, found[3].split(","))),
-                                              "truck": int(trip[1]), "days": (trip[4], trip[5]), "actor": int(line.split()[0])}
+            said["permits"][int(found[1])] = {
+                "version": int(found[2]),
+                "route": list(map(int, found[3].split(","))),
+                "truck": int(trip[1]),
+                "days": (trip[4], trip[5]),
+                "actor": int(line.split()[0]),
+            }
         elif found := re.match(r"posted (\d+) recalled (\S+)", reply):
             recalled = [] if found[2] == "-" else list(map(int, found[2].split(",")))
             said["postings"].append(recalled)

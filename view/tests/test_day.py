@@ -1,4 +1,4 @@
-"""Tests of view/day that need no browser: what stands on a page, compared with the lines of the journal, and each bad input."""
+"""Tests of view/day that need no browser: a page compared with the lines of its journal, and each bad input."""
 import hashlib
 import html.parser
 import json
@@ -88,7 +88,9 @@ class Content(unittest.TestCase):
                 last = max([said_day for said_day in said["days"]] + [day.decode().split(",")[1]])
                 self.assertEqual(row[1], "Expired" if wanted["days"][1] < last else "In force")
         recalls = [row[4] for name, row in shown.rows.items() if name.startswith("posting-")]
-        self.assertEqual(recalls, [", ".join(f"permit {number}" for number in it) or "nothing" for it in said["postings"]])
+        self.assertEqual(
+            recalls, [", ".join(f"permit {number}" for number in it) or "nothing" for it in said["postings"]]
+        )
         words = {"refused": "Refused", "noroad": "No road", "late": "Too late", "notneeded": "No permit needed"}
         answers = [row[1] for name, row in shown.rows.items() if name.startswith("answer-")]
         self.assertEqual(len(answers), len(said["answers"]))
@@ -109,12 +111,16 @@ class Content(unittest.TestCase):
 
     def test_says_limits_in_words(self) -> None:
         shown = self.compare(DAY, JOURNAL)
-        self.assertEqual(shown.rows["answer-2"][1],
-                         "Refused US20-E, bridge MILL-BR: moment 6,752,109 lb·in, the bridge carries 6,747,000 at a rating of "
-                         "1,250 (at version 1)")
-        self.assertEqual(shown.rows["permit-1"][1],
-                         "Recalled by posting 1: bridge MILL-BR on US20-E has a rating of 1,250; the truck's moment is "
-                         "6,752,109 lb·in, the bridge carries 6,747,000")
+        self.assertEqual(
+            shown.rows["answer-2"][1],
+            "Refused US20-E, bridge MILL-BR: moment 6,752,109 lb·in, the bridge carries 6,747,000 at a rating of "
+            "1,250 (at version 1)",
+        )
+        self.assertEqual(
+            shown.rows["permit-1"][1],
+            "Recalled by posting 1: bridge MILL-BR on US20-E has a rating of 1,250; the truck's moment is "
+            "6,752,109 lb·in, the bridge carries 6,747,000",
+        )
         self.assertEqual(shown.rows["permit-2"][1], "Recalled by posting 2: RING-E is closed")
         self.assertEqual(shown.rows["posting-1"][2], "1,300")
 
@@ -140,9 +146,19 @@ class Content(unittest.TestCase):
 
 class Hostile(unittest.TestCase):
     def test_names_of_all_letters_that_a_name_may_have(self) -> None:
-        made = {b"DEPOT": b"__proto__", b"CREEK": b"constructor", b"PLANT": b"-", b"ACME": b"0", b"LOWBOY": b"toString",
-                b"ann": b"abcdefghijklm_-9", b"MILL-BR": b"ABCDEFGHIJKLMNOP", b"US20-E": b"hasOwnProperty", b"US20-W": b"QRSTUVWXYZ",
-                b"RING-E": b"nopqrstuvwxyz", b"VAN": b"012345678"}
+        made = {
+            b"DEPOT": b"__proto__",
+            b"CREEK": b"constructor",
+            b"PLANT": b"-",
+            b"ACME": b"0",
+            b"LOWBOY": b"toString",
+            b"ann": b"abcdefghijklm_-9",
+            b"MILL-BR": b"ABCDEFGHIJKLMNOP",
+            b"US20-E": b"hasOwnProperty",
+            b"US20-W": b"QRSTUVWXYZ",
+            b"RING-E": b"nopqrstuvwxyz",
+            b"VAN": b"012345678",
+        }
         day = DAY
         for name, hostile in made.items():
             day = re.sub(rb"(?<![A-Za-z0-9_-])" + name + rb"(?![A-Za-z0-9_-])", hostile, day)
@@ -184,10 +200,18 @@ class BadInput(unittest.TestCase):
         other = (EXAMPLES / "recall.journal").read_bytes()
         self.refuses(DAY, other, 5, "line 3, the application is not the actor's next command")
         self.refuses((EXAMPLES / "recall.csv").read_bytes(), JOURNAL, 5, "is not of")
-        self.refuses(DAY.replace(b"MILL-BR,rating,1250", b"MILL-BR,rating,1249"), JOURNAL, 5,
-                     "line 6, the posting is not the actor's next command")
-        self.refuses(DAY.replace(b"surrender,ann,4,,,,,\n", b""), JOURNAL, 5, "line 23, the actor's next command is show")
-        self.refuses(DAY.replace(b"end,", b"show,ann,4,,,,,\nend,"), JOURNAL, 5, "actor 1 has commands that are not there")
+        self.refuses(
+            DAY.replace(b"MILL-BR,rating,1250", b"MILL-BR,rating,1249"),
+            JOURNAL,
+            5,
+            "line 6, the posting is not the actor's next command",
+        )
+        self.refuses(
+            DAY.replace(b"surrender,ann,4,,,,,\n", b""), JOURNAL, 5, "line 23, the actor's next command is show"
+        )
+        self.refuses(
+            DAY.replace(b"end,", b"show,ann,4,,,,,\nend,"), JOURNAL, 5, "actor 1 has commands that are not there"
+        )
 
     def test_a_journal_that_does_not_hang_together(self) -> None:
         def changed(old: bytes, new: bytes) -> bytes:
@@ -198,11 +222,17 @@ class BadInput(unittest.TestCase):
         self.refuses(DAY, changed(b"posted 1 recalled 1", b"posted 2 recalled 1"), 5, "the next posting is 1")
         self.refuses(DAY, changed(b"posted 1 recalled 1", b"posted 1 recalled 2"), 5, "there is no permit 2")
         self.refuses(DAY, changed(b"posted 2 recalled 2", b"posted 2 recalled 1"), 5, "permit 1 is not in force")
-        self.refuses(DAY, changed(b"posted 1 recalled 1", b"posted 1 recalled -"), 5, "line 7, permit 1 stands otherwise")
+        self.refuses(
+            DAY, changed(b"posted 1 recalled 1", b"posted 1 recalled -"), 5, "line 7, permit 1 stands otherwise"
+        )
         self.refuses(DAY, changed(b"= surrendered", b"= notyours"), 5, "permit 4 is in force")
         self.refuses(DAY, changed(b"1 snapshot = at 1", b"1 snapshot = at 0"), 5, "the roads stand at version 1")
-        self.refuses(DAY, changed(b"route 1,3 = issued 1 at 0 route 1,3", b"route 1,3 = issued 1 at 0 route 3,1"), 5,
-                     "the route is no walk")
+        self.refuses(
+            DAY,
+            changed(b"route 1,3 = issued 1 at 0 route 1,3", b"route 1,3 = issued 1 at 0 route 3,1"),
+            5,
+            "the route is no walk",
+        )
 
     def test_what_is_no_journal(self) -> None:
         self.refuses(DAY, b"refused: record 2 kind\n", 5, "the line of a refusal: refused: record 2 kind")
@@ -212,14 +242,26 @@ class BadInput(unittest.TestCase):
     def test_names_the_first_bad_line(self) -> None:
         lines = JOURNAL.split(b"\n")
         cases = [
-            (b"", 1), (b"permit-journal 1", 1), (b"permit-journal 2\nend 0\n", 1), (b"permit-journal 1\nend 1\n", 2),
-            (b"permit-journal 1\nend 0\nx", 3), (b"permit-journal 1\nend 0\n\n", 3), (b"permit-journal 1\nend 0", 2),
-            (JOURNAL[:-1], 25), (b"\n".join(lines[:5]) + b"\n", 6), (JOURNAL.replace(b" = at 0", b"  = at 0", 1), 2),
-            (JOURNAL.replace(b"issued 1", b"issued 01", 1), 5), (JOURNAL.replace(b"54016875/8", b"108033750/16", 1), 9),
-            (JOURNAL.replace(b"recalled 1\n", b"recalled 1\r\n", 1), 6), (JOURNAL.replace(b"2026-03-04", b"2026-02-30", 1), 20),
-            (JOURNAL.replace(b"truck 2", b"truck 0", 1), 3), (JOURNAL.replace(b"truck 2", b"truck 65537", 1), 3),
-            (JOURNAL.replace(b"seen 0", b"seen 4294967296", 1), 3), (JOURNAL.replace(b"end 23", b"end 24"), 25),
-            (JOURNAL.replace(b"end 23", b"end 023"), 25), (JOURNAL.replace(b"\n1 snap", b"\n\xff snap", 1), 2),
+            (b"", 1),
+            (b"permit-journal 1", 1),
+            (b"permit-journal 2\nend 0\n", 1),
+            (b"permit-journal 1\nend 1\n", 2),
+            (b"permit-journal 1\nend 0\nx", 3),
+            (b"permit-journal 1\nend 0\n\n", 3),
+            (b"permit-journal 1\nend 0", 2),
+            (JOURNAL[:-1], 25),
+            (b"\n".join(lines[:5]) + b"\n", 6),
+            (JOURNAL.replace(b" = at 0", b"  = at 0", 1), 2),
+            (JOURNAL.replace(b"issued 1", b"issued 01", 1), 5),
+            (JOURNAL.replace(b"54016875/8", b"108033750/16", 1), 9),
+            (JOURNAL.replace(b"recalled 1\n", b"recalled 1\r\n", 1), 6),
+            (JOURNAL.replace(b"2026-03-04", b"2026-02-30", 1), 20),
+            (JOURNAL.replace(b"truck 2", b"truck 0", 1), 3),
+            (JOURNAL.replace(b"truck 2", b"truck 65537", 1), 3),
+            (JOURNAL.replace(b"seen 0", b"seen 4294967296", 1), 3),
+            (JOURNAL.replace(b"end 23", b"end 24"), 25),
+            (JOURNAL.replace(b"end 23", b"end 023"), 25),
+            (JOURNAL.replace(b"\n1 snap", b"\n\xff snap", 1), 2),
         ]
         for data, line in cases:
             with self.assertRaises(Fault) as caught:

@@ -1,6 +1,6 @@
 """Tests of the page of a day in Chromium: what is shown is compared with the journal, and nothing runs or is loaded.
 
-Each example and twenty made days are opened. Where PERMIT_PROGRAM names the program, the journals of made days are its own.
+Each example and twenty made days are opened. Where PERMIT_PROGRAM names the program, their journals are its own.
 """
 import os
 import pathlib
@@ -31,7 +31,8 @@ ACCESS = r"""(() => {
   if (document.querySelectorAll("h1").length !== 1) wrong.push("there is not one h1");
   if (!document.documentElement.lang || !document.title) wrong.push("no language or no title");
   for (const it of document.querySelectorAll("input,select,button,a[href]")) {
-    const name = it.getAttribute("aria-label") || (it.labels && it.labels[0] && it.labels[0].textContent) || it.textContent;
+    const label = it.labels && it.labels[0] && it.labels[0].textContent;
+    const name = it.getAttribute("aria-label") || label || it.textContent;
     if (!name.trim()) wrong.push("no name: " + it.outerHTML.slice(0, 80));
   }
   for (const it of document.querySelectorAll("[id]")) {
@@ -39,7 +40,8 @@ ACCESS = r"""(() => {
   }
   for (const it of document.querySelectorAll("table")) {
     if (!it.caption || !it.caption.textContent) wrong.push("a table without a caption");
-    if (![...it.querySelectorAll("thead th")].every((head) => head.scope === "col")) wrong.push("a column without its scope");
+    const heads = [...it.querySelectorAll("thead th")];
+    if (!heads.every((head) => head.scope === "col")) wrong.push("a column without its scope");
   }
   const light = (text) => {
     const [r, g, b] = text.match(/[\d.]+/g).map(Number).map((it) => it / 255)
@@ -102,8 +104,10 @@ class Pages(unittest.TestCase):
         self.assertLessEqual(asked - {"about:blank", "data:,"}, {path.resolve().as_uri()})
 
     def set(self, name: str, value: str, event: str) -> None:
-        self.browser.value(f"(() => {{ const it = document.getElementById('{name}'); it.value = {value!r}; "
-                           f"it.dispatchEvent(new Event('{event}', {{ bubbles: true }})); }})()")
+        self.browser.value(
+            f"(() => {{ const it = document.getElementById('{name}'); it.value = {value!r}; "
+            f"it.dispatchEvent(new Event('{event}', {{ bubbles: true }})); }})()"
+        )
 
     def compare(self, day: bytes, journal: bytes) -> None:
         """Compares what is shown with the lines of the journal."""
@@ -111,7 +115,9 @@ class Pages(unittest.TestCase):
         self.browser.open(path)
         said, rows = said_by(journal.decode()), self.browser.value(ROWS)
         segments, trucks = names(day, "segment"), names(day, "truck")
-        self.assertEqual({name for name in rows if name.startswith("permit-")}, {f"permit-{it}" for it in said["permits"]})
+        self.assertEqual(
+            {name for name in rows if name.startswith("permit-")}, {f"permit-{it}" for it in said["permits"]}
+        )
         for number, wanted in said["permits"].items():
             row = rows[f"permit-{number}"]
             self.assertEqual((row[3], row[4]), (trucks[wanted["truck"] - 1], " to ".join(wanted["days"])))
@@ -137,7 +143,7 @@ class Pages(unittest.TestCase):
         self.set("carrier", "", "change")
 
     def slider(self, day: bytes, said: dict[str, Any], journal: str) -> None:
-        """The slider shows at each of some versions just the segments that are closed then, and the route of a permit."""
+        """The slider shows at some versions just the segments that are closed then, and the route of a permit."""
         segments = [line.split(",") for line in day.decode().split("\n") if line.startswith("segment,")]
         closed = {line.split(",")[1] for line in day.decode().split("\n") if re.match(r"limit,[^,]*,closed,1", line)}
         posts = re.findall(r"post segment (\d+) closed ([01]) = posted (\d+)", journal)
@@ -158,7 +164,9 @@ class Pages(unittest.TestCase):
             self.assertIn(f"{len(now)} road", self.browser.value("saying.textContent"))
         for number, wanted in list(said["permits"].items())[:3]:
             self.set("choice", f"permit-{number}", "change")
-            got = self.browser.value("[...document.querySelectorAll('#frame path.route')].map((it) => Number(it.id.slice(5)))")
+            got = self.browser.value(
+                "[...document.querySelectorAll('#frame path.route')].map((it) => Number(it.id.slice(5)))"
+            )
             self.assertEqual(sorted(got), sorted(wanted["route"]))
             listed = self.browser.value("[...listed.tBodies[0].rows].map((row) => row.cells[0].textContent)")
             self.assertEqual(listed[: len(wanted["route"])], [segments[it - 1][1] for it in wanted["route"]])
@@ -189,8 +197,10 @@ class Pages(unittest.TestCase):
         path = self.page((EXAMPLES / "template.csv").read_bytes(), (EXAMPLES / "template.journal").read_bytes())
         self.browser.open(path, "#answer-3")
         # from DEPOT no further: US20-E fails by its bridge, and RING-E is closed
-        self.assertEqual(self.browser.value("[...document.querySelectorAll('#frame path.cut')].map((it) => it.id).sort()"),
-                         ["road-1", "road-5"])
+        self.assertEqual(
+            self.browser.value("[...document.querySelectorAll('#frame path.cut')].map((it) => it.id).sort()"),
+            ["road-1", "road-5"],
+        )
         self.assertEqual(self.browser.value("document.querySelectorAll('#frame .reached').length"), 1)
         self.assertIn("can reach 1 place", self.browser.value("note.textContent"))
 
@@ -202,7 +212,9 @@ class Pages(unittest.TestCase):
         self.assertEqual(self.browser.value("document.activeElement.id"), "search")
         for letter in "recalled":
             self.browser.press(letter, ord(letter.upper()), letter)
-        self.assertEqual([name for name in self.browser.value(ROWS) if name[:7] != "posting"], ["permit-1", "permit-2"])
+        self.assertEqual(
+            [name for name in self.browser.value(ROWS) if name[:7] != "posting"], ["permit-1", "permit-2"]
+        )
         self.assertEqual(self.browser.value("found.textContent"), "2 permits and 0 other answers shown")
         outline = self.browser.value("getComputedStyle(document.activeElement).outlineStyle")
         self.assertEqual(outline, "solid")
@@ -214,8 +226,10 @@ class Pages(unittest.TestCase):
     def test_every_control_is_reached_by_keyboard_in_its_order(self) -> None:
         path = self.page((EXAMPLES / "recall.csv").read_bytes(), (EXAMPLES / "recall.journal").read_bytes())
         self.browser.open(path)
-        wanted = self.browser.value("[...document.querySelectorAll('a[href],input,select,button,[tabindex=\"0\"]')]"
-                                    ".map((it) => it.outerHTML)")
+        wanted = self.browser.value(
+            "[...document.querySelectorAll('a[href],input,select,button,[tabindex=\"0\"]')]"
+            ".map((it) => it.outerHTML)"
+        )
         got = []
         for _ in wanted:
             self.browser.press("Tab", 9)
@@ -250,8 +264,10 @@ class Pages(unittest.TestCase):
             self.browser.wide(width)
             self.browser.open(path)
             self.assertLessEqual(self.browser.value("document.documentElement.scrollWidth"), width)
-            small = self.browser.value("[...document.querySelectorAll('input,select,button')]"
-                                       ".filter((it) => it.checkVisibility() && it.getBoundingClientRect().height < 24).length")
+            small = self.browser.value(
+                "[...document.querySelectorAll('input,select,button')]"
+                ".filter((it) => it.checkVisibility() && it.getBoundingClientRect().height < 24).length"
+            )
             self.assertEqual(small, 0)
 
     def test_print(self) -> None:
@@ -260,8 +276,10 @@ class Pages(unittest.TestCase):
         self.assertTrue(self.browser.printed().startswith(b"%PDF"))
         self.browser.call("Emulation.setEmulatedMedia", media="print")
         try:
-            hidden = self.browser.value("[...document.querySelectorAll('.controls,.screen,.skip')].filter((it) => "
-                                        "it.checkVisibility()).length")
+            hidden = self.browser.value(
+                "[...document.querySelectorAll('.controls,.screen,.skip')].filter((it) => "
+                "it.checkVisibility()).length"
+            )
             self.assertEqual(hidden, 0)
             self.assertEqual(len(self.browser.value(ROWS)), 11)
         finally:
@@ -281,12 +299,17 @@ class Pages(unittest.TestCase):
         self.assertIn("__proto__ to PLANT", self.browser.value(ROWS)["permit-1"][5])
         self.set("carrier", "toString", "change")
         self.assertEqual(len([name for name in self.browser.value(ROWS) if name[:7] == "permit-"]), 4)
-        self.assertIn("__proto__", self.browser.value("[...document.querySelectorAll('#frame text')].map((it) => it.textContent)"))
+        self.assertIn(
+            "__proto__",
+            self.browser.value("[...document.querySelectorAll('#frame text')].map((it) => it.textContent)"),
+        )
         self.quiet(path)
 
     def test_the_policy_stops_a_script_that_is_put_in(self) -> None:
         path = self.page((EXAMPLES / "recall.csv").read_bytes(), (EXAMPLES / "recall.journal").read_bytes())
-        data = path.read_text().replace("</header>", "<script>document.title='run'</script><img src=https://example.org/x></header>")
+        data = path.read_text().replace(
+            "</header>", "<script>document.title='run'</script><img src=https://example.org/x></header>"
+        )
         path.write_text(data)
         self.browser.open(path)
         self.assertEqual(self.browser.value("document.title"), "Permit office, 2026-03-02")
@@ -299,7 +322,9 @@ class Pages(unittest.TestCase):
         try:
             self.browser.call("Page.navigate", url=path.resolve().as_uri())
             time.sleep(1)
-            text = self.browser.call("Runtime.evaluate", expression="document.body.innerText", returnByValue=True)["result"]["value"]
+            text = self.browser.call("Runtime.evaluate", expression="document.body.innerText", returnByValue=True)[
+                "result"
+            ]["value"]
         finally:
             self.browser.call("Emulation.setScriptExecutionDisabled", value=False)
         self.assertIn("Recalled by posting 1: bridge MILL-BR on US20-E has a rating of 1,250", text)
@@ -313,14 +338,18 @@ class Pages(unittest.TestCase):
         journal = journal_of(day)
         path = self.page(day, journal, "large")
         took = min(self.browser.open(path) for _ in range(3))
-        print(f"\npages: {len(day):,} bytes of a day file and {len(journal):,} of its journal open in {took:.2f} seconds",
-              file=sys.stderr)
+        print(
+            f"\npages: {len(day):,} bytes of a day file and {len(journal):,} of its journal open in {took:.2f} seconds",
+            file=sys.stderr,
+        )
         self.assertLess(took, SECONDS)
         self.assertIn("are too many to be drawn", self.browser.value("frame.textContent"))
         said = said_by(journal.decode())
         number, wanted = max(said["permits"].items(), key=lambda it: len(it[1]["route"]))
         self.set("choice", f"permit-{number}", "change")
-        got = self.browser.value("[...document.querySelectorAll('#frame path.route')].map((it) => Number(it.id.slice(5)))")
+        got = self.browser.value(
+            "[...document.querySelectorAll('#frame path.route')].map((it) => Number(it.id.slice(5)))"
+        )
         self.assertEqual(got, wanted["route"])
         self.quiet(path)
 

@@ -36,19 +36,34 @@ class Refusals(unittest.TestCase):
     def test_names_a_carrier_with_a_space(self) -> None:
         status, said = sheet(GOOD.replace(b",ACME,", b",ACME Inc,"))
         self.assertEqual(status, 5)
-        self.assertEqual(said, [
-            'row 13, column C "ACME Inc": a carrier is a name: letters, digits, - and _, no spaces',
-            "warning: row 28, column G \"2026-03-03\": the office's day is 2026-03-04 by then, so that the answer will be "
-            "late",
-            "the office would write: refused: record 13 field 3",
-        ])
+        self.assertEqual(
+            said,
+            [
+                'row 13, column C "ACME Inc": a carrier is a name: letters, digits, - and _, no spaces',
+                'warning: row 28, column G "2026-03-03": the office\'s day is 2026-03-04 by then, so that the answer '
+                "will be late",
+                "the office would write: refused: record 13 field 3",
+            ],
+        )
 
     def test_names_every_row_and_every_column_that_is_bad(self) -> None:
-        data = GOOD.replace(b"26400", b'"26,400"').replace(b"480,1300", b"4800000,1300 ").replace(b"2026-03-06", b"3/6/26", 1)
+        data = (
+            GOOD.replace(b"26400", b'"26,400"')
+            .replace(b"480,1300", b"4800000,1300 ")
+            .replace(b"2026-03-06", b"3/6/26", 1)
+        )
         _, said = sheet(data, "--no-warnings")
-        self.assertEqual([line.split(":")[0] for line in said], [
-            'row 5, column E "26,400"', 'row 6, column E "26,400"', 'row 12, column E "1300 "', 'row 12, column D "4800000"',
-            'row 16, column H "3/6/26"', "the office would write"])
+        self.assertEqual(
+            [line.split(":")[0] for line in said],
+            [
+                'row 5, column E "26,400"',
+                'row 6, column E "26,400"',
+                'row 12, column E "1300 "',
+                'row 12, column D "4800000"',
+                'row 16, column H "3/6/26"',
+                "the office would write",
+            ],
+        )
         self.assertIn("has no separators: write 26400", said[0])
         self.assertIn("is 1 to 6,000", said[3])
         self.assertIn("YYYY-MM-DD", said[4])
@@ -118,14 +133,17 @@ class Warned(unittest.TestCase):
             "the truck is 100 ft long and else legal": GOOD.replace(b"160,102,636", b"160,102,1200"),
             "2 actors work at once": GOOD.replace(b"actor,ann,", b"actor,bob,,,,,,\nactor,ann,"),
             "no permit has this number by then": GOOD.replace(b"show,ann,1,", b"show,ann,9,"),
-            "row 10 sets the height of SR7-N too": GOOD.replace(b"limit,RING-E,gross,150000", b"limit,SR7-N,height,170"),
+            "row 10 sets the height of SR7-N too": GOOD.replace(
+                b"limit,RING-E,gross,150000", b"limit,SR7-N,height,170"
+            ),
             "nearly all trucks are higher": GOOD.replace(b"height,172", b"height,14"),
             "an allowance is in thousandths": GOOD.replace(b"gross,150000", b"allowance,150"),
             "does not go back": GOOD.replace(b"setday,ann,2026-03-04", b"setday,ann,2026-03-01"),
             "a permit of more than a year": GOOD.replace(b"2026-03-06", b"2028-03-06", 1),
             "the last axle stands 234 in behind the first": GOOD.replace(b"168,120,780", b"168,120,200"),
-            "the segment leads from a node to itself": GOOD.replace(b"RING-E,DEPOT,PLANT", b"LOOP,DEPOT,DEPOT").replace(
-                b"RING-E", b"LOOP"),
+            "the segment leads from a node to itself": GOOD.replace(
+                b"RING-E,DEPOT,PLANT", b"LOOP,DEPOT,DEPOT"
+            ).replace(b"RING-E", b"LOOP"),
         }
         for words, data in cases.items():
             self.assertIn(words, self.warned(data))
@@ -150,7 +168,9 @@ class Words(unittest.TestCase):
     def test_a_full_disk(self) -> None:
         if pathlib.Path("/dev/full").exists():
             with open("/dev/full", "wb") as full:
-                told = subprocess.run([VIEW / "sheet", EXAMPLES / "template.csv"], stdout=full, stderr=subprocess.PIPE)
+                told = subprocess.run(
+                    [VIEW / "sheet", EXAMPLES / "template.csv"], stdout=full, stderr=subprocess.PIPE
+                )
             self.assertEqual(told.returncode, 4)
             self.assertEqual(told.stderr, b"sheet: standard output cannot be written: No space left on device\n")
 

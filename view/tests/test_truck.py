@@ -79,6 +79,8 @@ def places(axes: list[tuple[float, float]], ends: tuple[float, float], xs: list[
 
 
 class Drawing(unittest.TestCase):
+    picture: Picture
+
     @classmethod
     def setUpClass(cls) -> None:
         told = drawn(LOWBOY, REPORT)
@@ -95,7 +97,9 @@ class Drawing(unittest.TestCase):
         self.near(places(self.picture.line("deck"), (0, 234), xs), [0, 180, 234])
 
     def test_weights_and_spacings_are_those_of_the_file(self) -> None:
-        self.assertEqual([self.picture.text(f"weight-{number}") for number in (1, 2, 3)], ["12,000", "30,000", "30,000"])
+        self.assertEqual(
+            [self.picture.text(f"weight-{number}") for number in (1, 2, 3)], ["12,000", "30,000", "30,000"]
+        )
         self.assertEqual([self.picture.text(f"spacing-{number}") for number in (1, 2)], ["180", "54"])
         self.assertIn("LOWBOY of ACME: 3 axles, 72,000 lb", self.picture.text("title"))
 
@@ -154,7 +158,7 @@ class Drawing(unittest.TestCase):
 
 class Loading(unittest.TestCase):
     def test_one_pair_by_hand(self) -> None:
-        # 10,000 lb 60 in in front of 20,000 lb on 240 in: at midspan the heavy one there, the other 60 in from the support
+        # 10,000 lb 60 in in front of 20,000 lb on 240 in; at midspan the heavy one there, the other 60 in from an end
         self.assertEqual(greatest_at([(0, 10000), (60, 20000)], 240, Fraction(120)), 20000 * 60 + 10000 * 30)
         # at 40 in: the heavy one there gives 20000 * 40 * 200 / 240, and the other is off the span
         one_way = greatest_at([(0, 10000), (60, 20000)], 240, Fraction(40))
@@ -198,7 +202,12 @@ class BadInput(unittest.TestCase):
 
     def test_a_report_of_another_file(self) -> None:
         self.refuses(LOWBOY, REPORT.replace(b"54016875/8", b"54016877/8", 1), 5, "line 10 is moment 54016877/8")
-        self.refuses(LOWBOY.replace(b"480,1251", b"480,1252"), REPORT, 5, "line 18 is rating 1251 fits, and would be rating 1252")
+        self.refuses(
+            LOWBOY.replace(b"480,1251", b"480,1252"),
+            REPORT,
+            5,
+            "line 18 is rating 1251 fits, and would be rating 1252",
+        )
         self.refuses(LOWBOY.replace(b"LOWBOY", b"HIGHBOY"), REPORT, 5, "line 1 is truck LOWBOY")
         self.refuses(LOWBOY.replace(b"probe,480,1251,,,,,\n", b""), REPORT, 5, "is not of")
 
@@ -218,9 +227,13 @@ class BadInput(unittest.TestCase):
         with tempfile.TemporaryDirectory() as folder:
             pathlib.Path(folder, "matplotlib.py").write_text("raise ImportError\n")
             pathlib.Path(folder, "check.csv").write_bytes(LOWBOY)
-            told = ran("truck", f"{folder}/check.csv", "-", data=REPORT, env={"PYTHONPATH": folder, "PATH": "/usr/bin"})
+            told = ran(
+                "truck", f"{folder}/check.csv", "-", data=REPORT, env={"PYTHONPATH": folder, "PATH": "/usr/bin"}
+            )
         self.assertEqual((told.returncode, told.stdout), (2, b""))
-        self.assertEqual(told.stderr, b"truck: matplotlib is not installed: install the Debian package python3-matplotlib\n")
+        self.assertEqual(
+            told.stderr, b"truck: matplotlib is not installed: install the Debian package python3-matplotlib\n"
+        )
 
     def test_words_that_ask_for_nothing(self) -> None:
         self.assertEqual(ran("truck").returncode, 2)
