@@ -78,7 +78,7 @@ def link(kind: str, number: int) -> str:
 
 
 def days(trip: Trip) -> str:
-    return f'<span class="day">{e(trip.first)} to</span> <span class="day">{e(trip.last)}</span>'
+    return f'<span class="whole">{e(trip.first)} to</span> <span class="whole">{e(trip.last)}</span>'
 
 
 def choose(name: str, text: str) -> str:
@@ -159,13 +159,19 @@ class Page:
             ("Days", days(permit.trip)),
             (
                 "Route",
-                f"{e(self.words.trip(permit.trip))}, by {e(self.words.route(permit.route))} "
+                f"{e(self.words.trip(permit.trip))}, by {self.route(permit.route)} "
                 f"{choose(name, f'permit {permit.number}')}",
             ),
             ("Issued", f"at version {permit.version}, by {e(self.words.actors[permit.caller])}"),
         )
         head = f'<tr id="{name}" class="{state}" role="row" data-state="{state}" data-carrier="{e(truck.carrier)}">'
         return f"{head}{cells(row)}</tr>\n"
+
+    def route(self, route: tuple[int, ...]) -> str:
+        """The names of a route; on a page of few permits none of them is broken at its end of a line."""
+        if len(self.made.permits) > MANY_ROWS:
+            return e(self.words.route(route))
+        return ", ".join(f'<span class="whole">{e(self.words.segments[segment])}</span>' for segment in route)
 
     def standing(self, permit: Permit) -> str:
         """How a permit stands; where it is recalled, by what and why."""

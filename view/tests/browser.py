@@ -163,6 +163,6 @@ class Browser:
         found = self.call("Page.captureScreenshot", format="png", captureBeyondViewport=whole)
         path.write_bytes(base64.b64decode(found["data"]))
 
-    def printed(self) -> bytes:
+    def printed(self, **parameters: Any) -> bytes:
         """The page as it is printed, a PDF."""
-        return base64.b64decode(self.call("Page.printToPDF", printBackground=True)["data"])
+        return base64.b64decode(self.call("Page.printToPDF", printBackground=True, **parameters)["data"])
