@@ -1,4 +1,4 @@
-# Completions of bash for permit_cli: its commands and its options.
+# Completions of bash for permit_cli: its commands, its options, and the names of files behind <.
 _permit_cli() {
     local word=${COMP_WORDS[COMP_CWORD]} before=${COMP_WORDS[COMP_CWORD - 1]} command='' other
     COMPREPLY=()
@@ -8,9 +8,10 @@ _permit_cli() {
         esac
     done
     case $before in
-        --seed | --size) return ;;
+        --seed | --size | *'<' | *'>') return ;;
     esac
     case $word in
+        '<'* | '>'*) return ;;
         -*)
             COMPREPLY=($(compgen -W '--seed --size' -- "$word"))
             return
@@ -21,4 +22,5 @@ _permit_cli() {
         make | trial) COMPREPLY=($(compgen -W '--seed --size' -- "$word")) ;;
     esac
 }
-complete -F _permit_cli permit_cli
+# Where the function offers nothing, names of files are.
+complete -o default -F _permit_cli permit_cli

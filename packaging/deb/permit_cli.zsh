@@ -1,0 +1,6 @@
+#compdef permit_cli
+# Completions of zsh for permit_cli: its commands and its options. The names of files behind < are zsh's own affair.
+_arguments \
+    '--seed=[the number that a day is made from]:a number from 0 to 65535: ' \
+    '--size=[the size of a day that is made]:a number from 1 to 40: ' \
+    '1:command:((check\:"judge one truck" day\:"run an office for a day" make\:"make a day file from a number" trial\:"run that day on one thread"))'
