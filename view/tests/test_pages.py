@@ -333,7 +333,7 @@ class Pages(unittest.TestCase):
 
     def test_a_large_day_opens_soon(self) -> None:
         if not LARGE:
-            self.skipTest("PERMIT_LARGE_DAY names no day file at the limits")
+            self.skipTest("no program is named that runs a day at the limits")
         day = pathlib.Path(LARGE).read_bytes()
         journal = journal_of(day)
         path = self.page(day, journal, "large")
