@@ -1,7 +1,10 @@
 // What the tests of this crate share.
 
+ghost use Rattle.restriction_log.specs.States.{AreOf};
+
 use names::Name;
-use road_graph::Network;
+use restriction_log::{Change, State, takes};
+use road_graph::{Network, What};
 use std::alloc::Global;
 use std::fmt::Debug;
 use std::process::Abort;
@@ -9,6 +12,11 @@ use std::process::Abort;
 // What is found is what a row of a table says.
 pub fn same<T: PartialEq + Debug>(rt: &impl Abort, row: usize, found: &T, wanted: &T) {
     assert_eq!(rt; found, wanted, "row {row}");
+}
+
+// What a line of a table says is so.
+pub fn holds(rt: &impl Abort, fact: bool, line: &str) {
+    assert!(rt; fact, "{line}");
 }
 
 // The number that a text writes, or 0.
@@ -40,4 +48,80 @@ pub fn roads(rt: &impl Abort, alloc: Global, inches: u32, ratings: [u32; 3]) -> 
             .expect(rt, "a span");
     }
     network
+}
+
+// Which limit of a segment is posted, or none for the rating of a span; the segment or the span; the value.
+pub type Posted = (Option<What>, u32, u32);
+
+pub const CLOSED: Option<What> = Some(What::Closed);
+
+pub const HEIGHT: Option<What> = Some(What::Height);
+
+pub const WIDTH: Option<What> = Some(What::Width);
+
+pub const LENGTH: Option<What> = Some(What::Length);
+
+pub const GROSS: Option<What> = Some(What::Gross);
+
+pub const ALLOWANCE: Option<What> = Some(What::Allowance);
+
+pub const RATING: Option<What> = None;
+
+// The change that is posted.
+pub fn change(posted: Posted) -> Change {
+    let (what, of, value) = posted;
+    match what {
+        Some(What::Closed) => Change::Closed {
+            segment: of,
+            closed: value == 1,
+        },
+        Some(What::Height) => Change::Height {
+            segment: of,
+            inches: value,
+        },
+        Some(What::Width) => Change::Width {
+            segment: of,
+            inches: value,
+        },
+        Some(What::Length) => Change::Length {
+            segment: of,
+            inches: value,
+        },
+        Some(What::Gross) => Change::Gross {
+            segment: of,
+            pounds: value,
+        },
+        Some(What::Allowance) => Change::Allowance {
+            segment: of,
+            permille: value,
+        },
+        None => Change::Rating {
+            span: of,
+            permille: value,
+        },
+    }
+}
+
+// The state of no posting.
+#[tactic(auto, using(restriction_log::proofs::Standing::base_is_of))]
+pub fn base_state(rt: &impl Abort, alloc: Global, network: &Network) -> State
+    ensures { AreOf network.now result }
+{
+    assert!(rt; network.segments() > 0);
+    State::base(alloc, network).expect(rt, "memory")
+}
+
+// The state after a change, which the network takes.
+pub fn after(
+    rt: &impl Abort,
+    alloc: Global,
+    network: &Network,
+    state: &State,
+    change: &Change,
+) -> State
+    requires { AreOf network.now state.now }
+    ensures { AreOf network.now result }
+{
+    assert!(rt; takes(network, change));
+    state.with(alloc, change).expect(rt, "memory")
 }

@@ -102,21 +102,19 @@ fn add_nodes(rt: &impl Abort, network: &mut Network, cases: &[(Node, Answer)]) {
     }
 }
 
+const NODES: [(Node, Answer); 5] = [
+    (b"a", Err(AddRefusal::SameName)),
+    (b"b", Err(AddRefusal::SameName)),
+    (b"c", Ok(2)),
+    (b"c", Err(AddRefusal::SameName)),
+    // a segment and a span may have the name of a node
+    (b"s", Ok(3)),
+];
+
 #[test]
 fn refuses_a_node_by_the_first_cause_that_applies(rt: HostRuntime) {
     let mut network = small(&rt, rt.alloc());
-    add_nodes(
-        &rt,
-        &mut network,
-        &[
-            (b"a", Err(AddRefusal::SameName)),
-            (b"b", Err(AddRefusal::SameName)),
-            (b"c", Ok(2)),
-            (b"c", Err(AddRefusal::SameName)),
-            // a segment and a span may have the name of a node
-            (b"s", Ok(3)),
-        ],
-    );
+    add_nodes(&rt, &mut network, &NODES);
     drop(network);
 }
 
@@ -126,22 +124,20 @@ fn add_segments(rt: &impl Abort, network: &mut Network, cases: &[(Road, Answer)]
     }
 }
 
+const SEGMENTS: [(Road, Answer); 7] = [
+    ((b"ab", 2, 2, 0), Err(AddRefusal::SameName)),
+    ((b"ba", 2, 0, 0), Err(AddRefusal::UnknownNode)),
+    ((b"ba", 0, 2, 0), Err(AddRefusal::UnknownNode)),
+    ((b"ba", 1, 0, 0), Err(AddRefusal::Range)),
+    ((b"ba", 1, 0, 10_000_001), Err(AddRefusal::Range)),
+    ((b"ba", 1, 0, 10_000_000), Ok(1)),
+    ((b"aa", 0, 0, 1), Ok(2)),
+];
+
 #[test]
 fn refuses_a_segment_by_the_first_cause_that_applies(rt: HostRuntime) {
     let mut network = small(&rt, rt.alloc());
-    add_segments(
-        &rt,
-        &mut network,
-        &[
-            ((b"ab", 2, 2, 0), Err(AddRefusal::SameName)),
-            ((b"ba", 2, 0, 0), Err(AddRefusal::UnknownNode)),
-            ((b"ba", 0, 2, 0), Err(AddRefusal::UnknownNode)),
-            ((b"ba", 1, 0, 0), Err(AddRefusal::Range)),
-            ((b"ba", 1, 0, 10_000_001), Err(AddRefusal::Range)),
-            ((b"ba", 1, 0, 10_000_000), Ok(1)),
-            ((b"aa", 0, 0, 1), Ok(2)),
-        ],
-    );
+    add_segments(&rt, &mut network, &SEGMENTS);
     drop(network);
 }
 
@@ -151,22 +147,20 @@ fn add_spans(rt: &impl Abort, network: &mut Network, cases: &[(Bridge, Answer)])
     }
 }
 
+const SPANS: [(Bridge, Answer); 7] = [
+    ((b"s", 1, 0, 0), Err(AddRefusal::SameName)),
+    ((b"t", 1, 0, 100_001), Err(AddRefusal::UnknownSegment)),
+    ((b"t", 0, 0, 0), Err(AddRefusal::Range)),
+    ((b"t", 0, 6_001, 0), Err(AddRefusal::Range)),
+    ((b"t", 0, 1, 100_001), Err(AddRefusal::Range)),
+    ((b"t", 0, 6_000, 100_000), Ok(1)),
+    ((b"u", 0, 1, 0), Ok(2)),
+];
+
 #[test]
 fn refuses_a_span_by_the_first_cause_that_applies(rt: HostRuntime) {
     let mut network = small(&rt, rt.alloc());
-    add_spans(
-        &rt,
-        &mut network,
-        &[
-            ((b"s", 1, 0, 0), Err(AddRefusal::SameName)),
-            ((b"t", 1, 0, 100_001), Err(AddRefusal::UnknownSegment)),
-            ((b"t", 0, 0, 0), Err(AddRefusal::Range)),
-            ((b"t", 0, 6_001, 0), Err(AddRefusal::Range)),
-            ((b"t", 0, 1, 100_001), Err(AddRefusal::Range)),
-            ((b"t", 0, 6_000, 100_000), Ok(1)),
-            ((b"u", 0, 1, 0), Ok(2)),
-        ],
-    );
+    add_spans(&rt, &mut network, &SPANS);
     drop(network);
 }
 
@@ -176,30 +170,28 @@ fn set_limits(rt: &impl Abort, network: &mut Network, cases: &[(Posted, Taken)])
     }
 }
 
+const LIMITS: [(Posted, Taken); 15] = [
+    ((1, What::Height, 0), Err(AddRefusal::UnknownSegment)),
+    ((0, What::Closed, 2), Err(AddRefusal::Range)),
+    ((0, What::Closed, 1), Ok(())),
+    ((0, What::Height, 0), Err(AddRefusal::Range)),
+    ((0, What::Height, 999), Ok(())),
+    ((0, What::Height, 1_000), Err(AddRefusal::Range)),
+    ((0, What::Width, 0), Err(AddRefusal::Range)),
+    ((0, What::Width, 1_000), Err(AddRefusal::Range)),
+    ((0, What::Length, 0), Err(AddRefusal::Range)),
+    ((0, What::Length, 9_999), Ok(())),
+    ((0, What::Length, 10_000), Err(AddRefusal::Range)),
+    ((0, What::Gross, 0), Err(AddRefusal::Range)),
+    ((0, What::Gross, 2_000_001), Err(AddRefusal::Range)),
+    ((0, What::Allowance, 0), Ok(())),
+    ((0, What::Allowance, 100_001), Err(AddRefusal::Range)),
+];
+
 #[test]
 fn refuses_a_limit_by_the_first_cause_that_applies(rt: HostRuntime) {
     let mut network = small(&rt, rt.alloc());
-    set_limits(
-        &rt,
-        &mut network,
-        &[
-            ((1, What::Height, 0), Err(AddRefusal::UnknownSegment)),
-            ((0, What::Closed, 2), Err(AddRefusal::Range)),
-            ((0, What::Closed, 1), Ok(())),
-            ((0, What::Height, 0), Err(AddRefusal::Range)),
-            ((0, What::Height, 999), Ok(())),
-            ((0, What::Height, 1_000), Err(AddRefusal::Range)),
-            ((0, What::Width, 0), Err(AddRefusal::Range)),
-            ((0, What::Width, 1_000), Err(AddRefusal::Range)),
-            ((0, What::Length, 0), Err(AddRefusal::Range)),
-            ((0, What::Length, 9_999), Ok(())),
-            ((0, What::Length, 10_000), Err(AddRefusal::Range)),
-            ((0, What::Gross, 0), Err(AddRefusal::Range)),
-            ((0, What::Gross, 2_000_001), Err(AddRefusal::Range)),
-            ((0, What::Allowance, 0), Ok(())),
-            ((0, What::Allowance, 100_001), Err(AddRefusal::Range)),
-        ],
-    );
+    set_limits(&rt, &mut network, &LIMITS);
     drop(network);
 }
 
@@ -218,23 +210,21 @@ fn find_each(rt: &impl Abort, network: &Network, cases: &[Numbered]) {
     }
 }
 
+const NAMES: [Numbered; 8] = [
+    (b"a", [Some(0), None, None]),
+    (b"b", [Some(1), None, None]),
+    (b"ab", [None, Some(0), None]),
+    (b"way-2", [None, Some(2), None]),
+    (b"loop", [None, Some(3), None]),
+    (b"s", [None, None, Some(0)]),
+    (b"u", [None, None, Some(2)]),
+    (b"way-3", [None, None, None]),
+];
+
 #[test]
 fn finds_each_name_among_its_kind(rt: HostRuntime) {
     let network = grown(&rt, rt.alloc());
-    find_each(
-        &rt,
-        &network,
-        &[
-            (b"a", [Some(0), None, None]),
-            (b"b", [Some(1), None, None]),
-            (b"ab", [None, Some(0), None]),
-            (b"way-2", [None, Some(2), None]),
-            (b"loop", [None, Some(3), None]),
-            (b"s", [None, None, Some(0)]),
-            (b"u", [None, None, Some(2)]),
-            (b"way-3", [None, None, None]),
-        ],
-    );
+    find_each(&rt, &network, &NAMES);
     drop(network);
 }
 
@@ -270,19 +260,17 @@ fn has_set(rt: &impl Abort, network: &Network, segment: u32, values: &Values) {
     same(rt, segment as usize, &network.segment(segment).base, values);
 }
 
+const SET: [(Posted, Taken); 4] = [
+    ((0, What::Height, 168), Ok(())),
+    ((0, What::Closed, 1), Ok(())),
+    ((0, What::Closed, 0), Ok(())),
+    ((0, What::Gross, 120_000), Ok(())),
+];
+
 #[test]
 fn sets_one_limit_and_leaves_the_others(rt: HostRuntime) {
     let mut network = grown(&rt, rt.alloc());
-    set_limits(
-        &rt,
-        &mut network,
-        &[
-            ((0, What::Height, 168), Ok(())),
-            ((0, What::Closed, 1), Ok(())),
-            ((0, What::Closed, 0), Ok(())),
-            ((0, What::Gross, 120_000), Ok(())),
-        ],
-    );
+    set_limits(&rt, &mut network, &SET);
     same(&rt, 0, &network.segments(), &4);
     let values = Values {
         closed: false,
@@ -297,24 +285,36 @@ fn sets_one_limit_and_leaves_the_others(rt: HostRuntime) {
     drop(network);
 }
 
-// Segment, the node where it begins, feet.
-type Came = (u32, u32, u32);
-
 // What begins and ends at a node.
-fn meets(rt: &impl Abort, network: &Network, node: u32, outgoing: &[u32], incoming: &[Came]) {
+fn meets(rt: &impl Abort, network: &Network, node: u32, outgoing: &[u32], incoming: &[Arrival]) {
     assert!(rt; node < network.nodes());
     same(rt, 0, &network.outgoing(node), &outgoing);
-    let arrivals = network.incoming(node);
-    same(rt, 1, &arrivals.len(), &incoming.len());
-    for (arrival, &(segment, from, feet)) in arrivals.iter().zip(incoming) {
-        let wanted = Arrival {
-            segment,
-            from,
-            feet,
-        };
-        same(rt, 2, arrival, &wanted);
-    }
+    same(rt, 1, &network.incoming(node), &incoming);
 }
+
+const INTO_A: [Arrival; 1] = [Arrival {
+    segment: 1,
+    from: 1,
+    feet: 100,
+}];
+
+const INTO_B: [Arrival; 3] = [
+    Arrival {
+        segment: 0,
+        from: 0,
+        feet: 5_280,
+    },
+    Arrival {
+        segment: 2,
+        from: 0,
+        feet: 200,
+    },
+    Arrival {
+        segment: 3,
+        from: 1,
+        feet: 300,
+    },
+];
 
 fn carries(rt: &impl Abort, network: &Network, segment: u32, spans: &[u32]) {
     assert!(rt; segment < network.segments());
@@ -324,14 +324,8 @@ fn carries(rt: &impl Abort, network: &Network, segment: u32, spans: &[u32]) {
 #[test]
 fn lists_what_begins_and_ends_at_a_node_and_what_a_segment_carries(rt: HostRuntime) {
     let network = grown(&rt, rt.alloc());
-    meets(&rt, &network, 0, &[0, 2], &[(1, 1, 100)]);
-    meets(
-        &rt,
-        &network,
-        1,
-        &[1, 3],
-        &[(0, 0, 5_280), (2, 0, 200), (3, 1, 300)],
-    );
+    meets(&rt, &network, 0, &[0, 2], &INTO_A);
+    meets(&rt, &network, 1, &[1, 3], &INTO_B);
     carries(&rt, &network, 0, &[0, 2]);
     carries(&rt, &network, 1, &[]);
     carries(&rt, &network, 2, &[1]);

@@ -1,11 +1,15 @@
-ghost use Rattle.std.specs.Prelude.{◌≡◌, length, IfOk};
+ghost use Rattle.std.specs.Prelude.{◌≡◌, length};
 ghost use Rattle.restriction_log.specs.Changes.{AreTaken};
+ghost use Rattle.restriction_log.specs.States.{AreOf};
 
-use crate::fixtures::{named, roads, same};
+use crate::fixtures::{
+    ALLOWANCE, CLOSED, GROSS, HEIGHT, LENGTH, Posted, RATING, WIDTH, after, base_state, change,
+    named, roads, same,
+};
 use restriction_log::{
     Change, Log, PostRefusal, Stamps, State, states_are_of_their_network, takes, touched,
 };
-use road_graph::{Network, Values, What};
+use road_graph::{Network, Values};
 use std::alloc::Global;
 use std::process::Abort;
 use std::test::Fail;
@@ -13,43 +17,8 @@ use std::test::Fail;
 // Each table goes to a function that takes the network by reference, and what was built is let go by a call
 // of `drop`: where a scope lets it go, the proof of the whole function goes through its parts.
 
-// A change of a limit of a segment, or of the rating of a span.
-fn change(what: Option<What>, of: u32, value: u32) -> Change {
-    match what {
-        Some(What::Closed) => Change::Closed {
-            segment: of,
-            closed: value == 1,
-        },
-        Some(What::Height) => Change::Height {
-            segment: of,
-            inches: value,
-        },
-        Some(What::Width) => Change::Width {
-            segment: of,
-            inches: value,
-        },
-        Some(What::Length) => Change::Length {
-            segment: of,
-            inches: value,
-        },
-        Some(What::Gross) => Change::Gross {
-            segment: of,
-            pounds: value,
-        },
-        Some(What::Allowance) => Change::Allowance {
-            segment: of,
-            permille: value,
-        },
-        None => Change::Rating {
-            span: of,
-            permille: value,
-        },
-    }
-}
-
-// Which limit of a segment, or none for the rating of a span; the segment or the span; the value; whether the
-// network takes the change.
-type Posting = (Option<What>, u32, u32, bool);
+// What is posted, and whether the network takes the change.
+type Posting = (Posted, bool);
 
 // Posts a change, of which the network takes it or not.
 fn post(rt: &impl Abort, network: &Network, log: &mut Log, row: usize, change: Change, taken: bool)
@@ -72,104 +41,64 @@ fn post_each(rt: &impl Abort, network: &Network, log: &mut Log, postings: &[Post
     requires { AreTaken network.now log.old }
     ensures { AreTaken network.now log.new }
 {
-    'changes: for (row, &(what, of, value, taken)) in postings.iter().enumerate() {
-        post(rt, network, log, row, change(what, of, value), taken);
+    'changes: for (row, &(posted, taken)) in postings.iter().enumerate() {
+        post(rt, network, log, row, change(posted), taken);
     }
 }
 
-fn post_on(
-    rt: &impl Abort,
-    alloc: Global,
-    network: &Network,
-    postings: &[Posting],
-) -> Result<(), Fail> {
-    let mut log = Log::start(alloc, network)?;
-    post_each(rt, network, &mut log, postings);
+const TAKEN: [Posting; 21] = [
+    ((CLOSED, 1, 1), true),
+    ((CLOSED, 2, 1), false),
+    ((HEIGHT, 1, 1), true),
+    // a height of nothing
+    ((HEIGHT, 1, 0), false),
+    ((HEIGHT, 1, 999), true),
+    ((HEIGHT, 1, 1_000), false),
+    ((HEIGHT, 2, 999), false),
+    ((WIDTH, 0, 999), true),
+    ((WIDTH, 0, 1_000), false),
+    ((LENGTH, 0, 9_999), true),
+    ((LENGTH, 0, 10_000), false),
+    ((GROSS, 0, 2_000_000), true),
+    ((GROSS, 0, 2_000_001), false),
+    ((GROSS, 0, 0), false),
+    ((ALLOWANCE, 0, 0), true),
+    ((ALLOWANCE, 0, 100_000), true),
+    ((ALLOWANCE, 0, 100_001), false),
+    ((RATING, 2, 0), true),
+    ((RATING, 2, 100_000), true),
+    ((RATING, 2, 100_001), false),
+    ((RATING, 3, 0), false),
+];
+
+fn post_on(rt: &impl Abort, alloc: Global, network: &Network) {
+    let mut log = Log::start(alloc, network).expect(rt, "memory");
+    post_each(rt, network, &mut log, &TAKEN);
     drop(log);
-    Ok(())
 }
 
 #[test]
-fn takes_what_is_there_and_in_range(rt: HostRuntime) -> Result<(), Fail> {
+fn takes_what_is_there_and_in_range(rt: HostRuntime) {
     let network = roads(&rt, rt.alloc(), 360, [1_000, 900, 800]);
-    let posted = post_on(
-        &rt,
-        rt.alloc(),
-        &network,
-        &[
-            (Some(What::Closed), 1, 1, true),
-            (Some(What::Closed), 2, 1, false),
-            (Some(What::Height), 1, 1, true),
-            // a height of nothing
-            (Some(What::Height), 1, 0, false),
-            (Some(What::Height), 1, 999, true),
-            (Some(What::Height), 1, 1_000, false),
-            (Some(What::Height), 2, 999, false),
-            (Some(What::Width), 0, 999, true),
-            (Some(What::Width), 0, 1_000, false),
-            (Some(What::Length), 0, 9_999, true),
-            (Some(What::Length), 0, 10_000, false),
-            (Some(What::Gross), 0, 2_000_000, true),
-            (Some(What::Gross), 0, 2_000_001, false),
-            (Some(What::Gross), 0, 0, false),
-            (Some(What::Allowance), 0, 0, true),
-            (Some(What::Allowance), 0, 100_000, true),
-            (Some(What::Allowance), 0, 100_001, false),
-            (None, 2, 0, true),
-            (None, 2, 100_000, true),
-            (None, 2, 100_001, false),
-            (None, 3, 0, false),
-        ],
-    );
+    post_on(&rt, rt.alloc(), &network);
     drop(network);
-    posted
 }
 
-// Which limit of a segment, or none for the rating of a span; the segment or the span; the value; and the
-// segment that the change is about.
-type Replacing = (Option<What>, u32, u32, u32);
-
-// The state after a change, which is about this segment.
-fn state_with(
-    rt: &impl Abort,
-    alloc: Global,
-    network: &Network,
-    state: &State,
-    change: &Change,
-    segment: u32,
-) -> Result<State, Fail>
-    requires values { length state.now.values ≡ length network.now.segments }
-    requires ratings { length state.now.ratings ≡ length network.now.spans }
-    ensures values { IfOk result (λ state. length state.values ≡ length network.now.segments) }
-    ensures ratings { IfOk result (λ state. length state.ratings ≡ length network.now.spans) }
-{
-    assert!(rt; takes(network, change));
-    assert_eq!(rt; touched(network, change), segment, "{change:?}");
-    Ok(state.with(alloc, change)?)
-}
+// What is posted, and the segment that the change is about.
+type Replacing = (Posted, u32);
 
 // The state after these changes.
-fn state_after(
-    rt: &impl Abort,
-    alloc: Global,
-    network: &Network,
-    changes: &[Replacing],
-) -> Result<State, Fail>
-    ensures values { IfOk result (λ state. length state.values ≡ length network.now.segments) }
-    ensures ratings { IfOk result (λ state. length state.ratings ≡ length network.now.spans) }
+fn state_after(rt: &impl Abort, alloc: Global, network: &Network, changes: &[Replacing]) -> State
+    ensures { AreOf network.now result }
 {
-    let mut state = State::base(alloc, network)?;
-    'changes: for &(what, of, value, segment) in changes {
-        state = state_with(
-            rt,
-            alloc,
-            network,
-            &state,
-            &change(what, of, value),
-            segment,
-        )?;
+    let mut state = base_state(rt, alloc, network);
+    'changes: for (row, &(posted, segment)) in changes.iter().enumerate() {
+        let change = change(posted);
+        assert!(rt; takes(network, &change));
+        same(rt, row, &touched(network, &change), &segment);
+        state = after(rt, alloc, network, &state, &change);
     }
-    Ok(state)
+    state
 }
 
 // The limits of the two segments and the ratings of the three spans.
@@ -186,18 +115,19 @@ fn is_state(rt: &impl Abort, state: &State, values: &[Values; 2], ratings: &[u32
     );
 }
 
-fn replace_each(rt: &impl Abort, alloc: Global, network: &Network) -> Result<(), Fail> {
-    let changes = [
-        (Some(What::Closed), 0, 1, 0),
-        (Some(What::Height), 0, 168, 0),
-        (Some(What::Width), 0, 144, 0),
-        (Some(What::Length), 0, 1_200, 0),
-        (Some(What::Gross), 0, 120_000, 0),
-        (Some(What::Allowance), 0, 1_100, 0),
-        (None, 1, 750, 1),
-        (None, 2, 500, 0),
-    ];
-    let state = state_after(rt, alloc, network, &changes)?;
+const REPLACING: [Replacing; 8] = [
+    ((CLOSED, 0, 1), 0),
+    ((HEIGHT, 0, 168), 0),
+    ((WIDTH, 0, 144), 0),
+    ((LENGTH, 0, 1_200), 0),
+    ((GROSS, 0, 120_000), 0),
+    ((ALLOWANCE, 0, 1_100), 0),
+    ((RATING, 1, 750), 1),
+    ((RATING, 2, 500), 0),
+];
+
+fn replace_each(rt: &impl Abort, alloc: Global, network: &Network) {
+    let state = state_after(rt, alloc, network, &REPLACING);
     let values = Values {
         closed: true,
         height: 168,
@@ -206,20 +136,17 @@ fn replace_each(rt: &impl Abort, alloc: Global, network: &Network) -> Result<(),
         gross: 120_000,
         allowance: 1_100,
     };
-    assert!(rt; network.segments() == 2);
-    assert!(rt; network.spans() == 3);
+    assert!(rt; network.segments() == 2 && network.spans() == 3);
     is_state(rt, &state, &[values, Values::default()], &[1_000, 750, 500]);
     drop(state);
-    Ok(())
 }
 
 #[test]
-fn replaces_one_value_at_each_posting(rt: HostRuntime) -> Result<(), Fail> {
+fn replaces_one_value_at_each_posting(rt: HostRuntime) {
     let network = roads(&rt, rt.alloc(), 360, [1_000, 900, 800]);
-    let replaced = replace_each(&rt, rt.alloc(), &network);
+    replace_each(&rt, rt.alloc(), &network);
     drop(network);
     states_are_of_their_network();
-    replaced
 }
 
 // A segment, a version, and whether the segment was changed after it.
@@ -234,48 +161,40 @@ fn tell_each(rt: &impl Abort, network: &Network, log: &Log, cases: &[Changed])
     }
 }
 
-fn tell_changes(rt: &impl Abort, alloc: Global, network: &Network) -> Result<(), Fail> {
-    let mut log = Log::start(alloc, network)?;
+const POSTINGS: [Posting; 3] = [
+    ((HEIGHT, 0, 168), true),
+    ((RATING, 1, 750), true),
+    // a posting that changes nothing
+    ((CLOSED, 0, 0), true),
+];
+
+const CHANGED: [Changed; 9] = [
+    (0, 0, true),
+    (0, 1, true),
+    (0, 2, true),
+    (0, 3, false),
+    (0, 1_000_000, false),
+    (1, 0, true),
+    (1, 1, true),
+    (1, 2, false),
+    (1, 3, false),
+];
+
+fn tell_changes(rt: &impl Abort, alloc: Global, network: &Network) {
+    let mut log = Log::start(alloc, network).expect(rt, "memory");
     same(rt, 0, &log.version(), &0);
-    post_each(
-        rt,
-        network,
-        &mut log,
-        &[
-            (Some(What::Height), 0, 168, true),
-            (None, 1, 750, true),
-            // a posting that changes nothing
-            (Some(What::Closed), 0, 0, true),
-        ],
-    );
+    post_each(rt, network, &mut log, &POSTINGS);
     same(rt, 3, &log.version(), &3);
-    tell_each(
-        rt,
-        network,
-        &log,
-        &[
-            (0, 0, true),
-            (0, 1, true),
-            (0, 2, true),
-            (0, 3, false),
-            (0, 1_000_000, false),
-            (1, 0, true),
-            (1, 1, true),
-            (1, 2, false),
-            (1, 3, false),
-        ],
-    );
+    tell_each(rt, network, &log, &CHANGED);
     drop(log);
-    Ok(())
 }
 
 #[test]
-fn tells_what_changed_after_a_version(rt: HostRuntime) -> Result<(), Fail> {
+fn tells_what_changed_after_a_version(rt: HostRuntime) {
     let network = roads(&rt, rt.alloc(), 360, [1_000, 900, 800]);
     same(&rt, 0, &network.segments(), &2);
-    let told = tell_changes(&rt, rt.alloc(), &network);
+    tell_changes(&rt, rt.alloc(), &network);
     drop(network);
-    told
 }
 
 // Segments between two nodes, each with a span, on three pages of which the last is not full.
@@ -311,83 +230,76 @@ fn differs_at(rt: &impl Abort, state: &State, segment: Option<u32>, span: Option
 }
 
 // Posts on a segment and on a span of that number. Each state stays as it is.
-fn post_far(rt: &impl Abort, alloc: Global, network: &Network, of: u32) -> Result<(), Fail>
+fn post_far(rt: &impl Abort, alloc: Global, network: &Network, of: u32)
     requires segments { length network.now.segments ≡ 130 }
     requires spans { length network.now.spans ≡ 130 }
 {
-    let base = State::base(alloc, network)?;
-    let limit = change(Some(What::Height), of, 168);
-    let lower = state_with(rt, alloc, network, &base, &limit, of)?;
-    let weaker = state_with(rt, alloc, network, &lower, &change(None, of, 750), of)?;
+    let (limit, rating) = (change((HEIGHT, of, 168)), change((RATING, of, 750)));
+    assert!(rt; takes(network, &limit) && takes(network, &rating));
+    same(rt, of as usize, &touched(network, &limit), &of);
+    same(rt, of as usize, &touched(network, &rating), &of);
+    let base = base_state(rt, alloc, network);
+    let lower = after(rt, alloc, network, &base, &limit);
+    let weaker = after(rt, alloc, network, &lower, &rating);
     differs_at(rt, &base, None, None);
     differs_at(rt, &lower, Some(of), None);
     differs_at(rt, &weaker, Some(of), Some(of));
     drop(base);
     drop(lower);
     drop(weaker);
-    Ok(())
 }
 
 // Stamps of these segments, one after another.
-fn stamped(
-    rt: &impl Abort,
-    alloc: Global,
-    network: &Network,
-    stamps: &[(u32, u32)],
-) -> Result<Stamps, Fail>
+fn stamped(rt: &impl Abort, alloc: Global, network: &Network, stamps: &[(u32, u32)]) -> Stamps
     requires { length network.now.segments ≡ 130 }
-    ensures { IfOk result (λ stamps. length stamps ≡ 130) }
+    ensures { length result ≡ 130 }
 {
-    let mut made = Stamps::base(alloc, network)?;
+    let mut made = Stamps::base(alloc, network).expect(rt, "memory");
     'stamps: for &(segment, number) in stamps {
         assert!(rt; segment < MANY);
-        made = made.with(alloc, segment, number)?;
+        made = made.with(alloc, segment, number).expect(rt, "memory");
     }
-    Ok(made)
+    made
 }
 
 // A number, where to begin, and the first segment whose stamp is above the number.
-type Above = (u32, u32, Option<u32>);
+const ABOVE: [(u32, u32, Option<u32>); 10] = [
+    (0, 0, Some(5)),
+    (0, 6, Some(63)),
+    (0, 64, Some(129)),
+    (0, 130, None),
+    (1, 0, Some(5)),
+    (1, 6, Some(63)),
+    (2, 6, Some(129)),
+    (3, 0, Some(5)),
+    (3, 6, None),
+    (4, 0, None),
+];
 
-fn find_each(rt: &impl Abort, alloc: Global, network: &Network) -> Result<(), Fail>
+fn find_each(rt: &impl Abort, alloc: Global, network: &Network)
     requires { length network.now.segments ≡ 130 }
 {
-    let stamps = stamped(rt, alloc, network, &[(5, 1), (63, 2), (129, 3), (5, 4)])?;
-    let cases: [Above; 10] = [
-        (0, 0, Some(5)),
-        (0, 6, Some(63)),
-        (0, 64, Some(129)),
-        (0, 130, None),
-        (1, 0, Some(5)),
-        (1, 6, Some(63)),
-        (2, 6, Some(129)),
-        (3, 0, Some(5)),
-        (3, 6, None),
-        (4, 0, None),
-    ];
-    for (row, &(number, from, first)) in cases.iter().enumerate() {
+    let stamps = stamped(rt, alloc, network, &[(5, 1), (63, 2), (129, 3), (5, 4)]);
+    for (row, &(number, from, first)) in ABOVE.iter().enumerate() {
         same(rt, row, &stamps.next_above(number, from), &first);
     }
     same(rt, 10, &[stamps.stamp(5), stamps.stamp(64)], &[4, 0]);
     drop(stamps);
-    Ok(())
 }
 
-fn look_far(rt: &impl Abort, alloc: Global, network: &Network) -> Result<(), Fail> {
-    assert!(rt; network.segments() == MANY);
-    assert!(rt; network.spans() == MANY);
+fn look_far(rt: &impl Abort, alloc: Global, network: &Network) {
+    assert!(rt; network.segments() == MANY && network.spans() == MANY);
     for of in [0, 63, 64, 128, 129] {
-        post_far(rt, alloc, network, of)?;
+        post_far(rt, alloc, network, of);
     }
-    find_each(rt, alloc, network)
+    find_each(rt, alloc, network);
 }
 
 #[test]
-fn leaves_a_state_as_it_was_on_each_page(rt: HostRuntime) -> Result<(), Fail> {
+fn leaves_a_state_as_it_was_on_each_page(rt: HostRuntime) {
     let network = many_roads(&rt, rt.alloc());
-    let looked = look_far(&rt, rt.alloc(), &network);
+    look_far(&rt, rt.alloc(), &network);
     drop(network);
-    looked
 }
 
 fn names(rt: &impl Abort, alloc: Global, cases: &[(PostRefusal, &str)]) -> Result<(), Fail> {

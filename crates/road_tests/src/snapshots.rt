@@ -1,79 +1,54 @@
 ghost use Rattle.std.specs.Prelude.{◌≡◌};
 ghost use Rattle.restriction_log.specs.States.{AreOf};
 
-use crate::fixtures::{named, number, roads};
+use crate::fixtures::{CLOSED, HEIGHT, Posted, RATING, change, roads, same};
 use names::NoMemory;
 use restriction_log::{Change, PostRefusal, State};
 use road_graph::Network;
 use snapshot_store::{Snapshot, Store};
 use std::alloc::Global;
 use std::process::Abort;
-use std::str::SplitWhitespace;
-use std::test::Fail;
 
-// What a text posts: KIND,NUMBER,VALUE.
-fn posted(text: &str) -> Change {
-    let mut parts = text.split(',');
-    let kind = parts.next().unwrap_or("");
-    let named = number(parts.next().unwrap_or(""));
-    let value = number(parts.next().unwrap_or(""));
-    match kind {
-        "closed" => Change::Closed {
-            segment: named,
-            closed: value == 1,
-        },
-        "height" => Change::Height {
-            segment: named,
-            inches: value,
-        },
-        _ => Change::Rating {
-            span: named,
-            permille: value,
-        },
-    }
-}
+// A version and its state: of each segment 1 where it is closed, else 0, and its height; then the rating of each span.
+type Told = [u32; 8];
 
-// Whether the next word is this number.
-fn is_next(words: &mut SplitWhitespace, wanted: u32) -> bool {
-    words.next().unwrap_or("").parse() == Ok(wanted)
-}
-
-// Whether a text has a version and its state: of each segment 1 where it is closed, else 0, and its height; then the
-// rating of each span.
-fn are_told(network: &Network, version: u32, state: &State, text: &str) -> bool
+fn told(rt: &impl Abort, network: &Network, version: u32, state: &State) -> Told
     requires { AreOf network.now state.now }
 {
-    let mut words = text.split_whitespace();
-    let mut told = is_next(&mut words, version);
-    for i in 0..network.segments() {
-        let values = state.segment(i);
-        told &= is_next(&mut words, u32::from(values.closed));
-        told &= is_next(&mut words, values.height);
-    }
-    for i in 0..network.spans() {
-        told &= is_next(&mut words, state.rating(i));
-    }
-    told && words.next().is_none()
+    assert!(rt; network.segments() == 2 && network.spans() == 3);
+    let (first, second) = (state.segment(0), state.segment(1));
+    [
+        version,
+        u32::from(first.closed),
+        first.height,
+        u32::from(second.closed),
+        second.height,
+        state.rating(0),
+        state.rating(1),
+        state.rating(2),
+    ]
 }
 
 // What no posting has changed.
-const BASE: &str = "0 0 999 0 999 1000 900 800";
+const BASE: Told = [0, 0, 999, 0, 999, 1000, 900, 800];
 
-// Postings, what answers each, and what is in force then.
-const POSTINGS: &str = "\
-height,0,168/1/1 0 168 0 999 1000 900 800
-height,0,0/0/1 0 168 0 999 1000 900 800
-height,0,1000/0/1 0 168 0 999 1000 900 800
-height,2,168/0/1 0 168 0 999 1000 900 800
-rating,1,750/2/2 0 168 0 999 1000 750 800
-rating,1,100001/0/2 0 168 0 999 1000 750 800
-rating,3,750/0/2 0 168 0 999 1000 750 800
-closed,1,1/3/3 0 168 1 999 1000 750 800
-closed,2,1/0/3 0 168 1 999 1000 750 800
-rating,2,0/4/4 0 168 1 999 1000 750 0
-closed,1,0/5/5 0 168 0 999 1000 750 0
-closed,1,0/6/6 0 168 0 999 1000 750 0
-";
+// A posting, the number of the version that it makes or 0 where it is refused, and what is in force then.
+type Posting = (Posted, u32, Told);
+
+const POSTINGS: [Posting; 12] = [
+    ((HEIGHT, 0, 168), 1, [1, 0, 168, 0, 999, 1000, 900, 800]),
+    ((HEIGHT, 0, 0), 0, [1, 0, 168, 0, 999, 1000, 900, 800]),
+    ((HEIGHT, 0, 1000), 0, [1, 0, 168, 0, 999, 1000, 900, 800]),
+    ((HEIGHT, 2, 168), 0, [1, 0, 168, 0, 999, 1000, 900, 800]),
+    ((RATING, 1, 750), 2, [2, 0, 168, 0, 999, 1000, 750, 800]),
+    ((RATING, 1, 100001), 0, [2, 0, 168, 0, 999, 1000, 750, 800]),
+    ((RATING, 3, 750), 0, [2, 0, 168, 0, 999, 1000, 750, 800]),
+    ((CLOSED, 1, 1), 3, [3, 0, 168, 1, 999, 1000, 750, 800]),
+    ((CLOSED, 2, 1), 0, [3, 0, 168, 1, 999, 1000, 750, 800]),
+    ((RATING, 2, 0), 4, [4, 0, 168, 1, 999, 1000, 750, 0]),
+    ((CLOSED, 1, 0), 5, [5, 0, 168, 0, 999, 1000, 750, 0]),
+    ((CLOSED, 1, 0), 6, [6, 0, 168, 0, 999, 1000, 750, 0]),
+];
 
 // The number of the new version, or the refusal, of which `Range` is 0.
 fn number_of(answer: Result<u32, PostRefusal>) -> u32 {
@@ -111,27 +86,31 @@ fn post(network: &Network, store: &mut Store, change: Change, in_two_steps: bool
     number_of(store.post(network, change))
 }
 
-// Posts what a line says, and compares what is in force then.
-fn post_line(rt: &impl Abort, network: &Network, store: &mut Store, line: &str, in_two_steps: bool)
+// Posts what a row says, and compares what is in force then.
+fn post_row(
+    rt: &impl Abort,
+    network: &Network,
+    store: &mut Store,
+    row: usize,
+    posting: &Posting,
+    in_two_steps: bool,
+)
     requires { network.now ≡ store.old.roads }
     ensures { store.new.roads ≡ store.old.roads }
 {
-    let mut parts = line.split('/');
-    let change = posted(parts.next().unwrap_or(""));
-    let wanted = number(parts.next().unwrap_or(""));
-    let version = post(network, store, change, in_two_steps);
-    let text = parts.next().unwrap_or("");
-    let told = are_told(network, store.version(), store.now(), text);
-    assert!(rt; version == wanted, "{line}: {version}");
-    assert!(rt; told, "{line}");
+    let &(posted, wanted, in_force) = posting;
+    let version = post(network, store, change(posted), in_two_steps);
+    same(rt, row, &version, &wanted);
+    let found = told(rt, network, store.version(), store.now());
+    same(rt, row, &found, &in_force);
 }
 
 fn post_each(rt: &impl Abort, network: &Network, store: &mut Store, in_two_steps: bool)
     requires { network.now ≡ store.old.roads }
     ensures { store.new.roads ≡ store.old.roads }
 {
-    for line in POSTINGS.lines() {
-        post_line(rt, network, store, line, in_two_steps);
+    'postings: for (row, posting) in POSTINGS.iter().enumerate() {
+        post_row(rt, network, store, row, posting, in_two_steps);
     }
 }
 
@@ -152,10 +131,9 @@ const CHANGED: [(u32, u32, bool); 9] = [
 fn ask_each(rt: &impl Abort, network: &Network, store: &Store, rows: &[(u32, u32, bool)])
     requires { network.now ≡ store.now.roads }
 {
-    for &(segment, after, changed) in rows {
+    for (row, &(segment, after, changed)) in rows.iter().enumerate() {
         assert!(rt; segment < network.segments());
-        let found = store.changed(network, segment, after);
-        assert_eq!(rt; found, changed, "{segment} {after}");
+        same(rt, row, &store.changed(network, segment, after), &changed);
     }
 }
 
@@ -171,47 +149,38 @@ const NEXT: [(u32, u32, Option<u32>); 7] = [
 ];
 
 fn look_each(rt: &impl Abort, snapshot: &Snapshot) {
-    for &(after, from, next) in &NEXT {
-        let found = snapshot.next_changed(after, from);
-        assert_eq!(rt; found, next, "{after} {from}");
+    for (row, &(after, from, next)) in NEXT.iter().enumerate() {
+        same(rt, row, &snapshot.next_changed(after, from), &next);
     }
 }
 
 // Posts to a new store, asks what changed, and compares what a snapshot says that was taken before all postings.
-fn check_store(
-    rt: &impl Abort,
-    alloc: Global,
-    network: &Network,
-    in_two_steps: bool,
-) -> Result<(), Fail> {
-    let mut store = Store::start(alloc, network)?;
-    let first = store.snapshot();
+fn check_store(rt: &impl Abort, alloc: Global, network: &Network, in_two_steps: bool) {
+    let mut store = Store::start(alloc, network).expect(rt, "memory");
+    let first = store.snapshot().expect(rt, "memory");
     post_each(rt, network, &mut store, in_two_steps);
     ask_each(rt, network, &store, &CHANGED);
-    let last = store.snapshot()?;
+    let last = store.snapshot().expect(rt, "memory");
+    drop(store);
     look_each(rt, &last);
     drop(last);
-    drop(store);
-    let first = first?;
-    let told = are_told(network, first.version(), first.state(), BASE);
+    let found = told(rt, network, first.version(), first.state());
     drop(first);
-    assert!(rt; told);
-    Ok(())
+    same(rt, 0, &found, &BASE);
 }
 
-fn check_over_roads(rt: &impl Abort, alloc: Global, in_two_steps: bool) -> Result<(), Fail> {
+fn check_over_roads(rt: &impl Abort, alloc: Global, in_two_steps: bool) {
     let network = roads(rt, alloc, 360, [1_000, 900, 800]);
-    let checked = check_store(rt, alloc, &network, in_two_steps);
+    check_store(rt, alloc, &network, in_two_steps);
     drop(network);
-    checked
 }
 
 #[test]
-fn leaves_a_snapshot_as_it_was(rt: HostRuntime) -> Result<(), Fail> {
-    check_over_roads(&rt, rt.alloc(), false)
+fn leaves_a_snapshot_as_it_was(rt: HostRuntime) {
+    check_over_roads(&rt, rt.alloc(), false);
 }
 
 #[test]
-fn posts_the_same_in_two_steps(rt: HostRuntime) -> Result<(), Fail> {
-    check_over_roads(&rt, rt.alloc(), true)
+fn posts_the_same_in_two_steps(rt: HostRuntime) {
+    check_over_roads(&rt, rt.alloc(), true);
 }
