@@ -17,7 +17,6 @@ use std::alloc::Global;
 use std::marker::Brand;
 use std::process::Abort;
 use std::sync::ledger::{Blank, Ledger};
-use std::test::Fail;
 use trip_analysis::{
     Application, ApplicationRefusal, Base, Failing, Follower, Proposal, Truck, What,
     asked_findings_are_of_the_route, failing_limit, find, findings_hold, first_meeting_out,
@@ -43,12 +42,17 @@ fn number(text: &str) -> u32 {
 }
 
 // The numbers of a text, parted by spaces.
-fn numbers(alloc: Global, text: &str) -> Result<Vec<u32>, Fail> {
+fn numbers(rt: &impl Abort, alloc: Global, text: &str) -> Vec<u32> {
     let mut list = Vec::new(alloc);
     for part in text.split_whitespace() {
-        list.push(number(part))?;
+        list.push(number(part)).expect(rt, "memory");
     }
-    Ok(list)
+    list
+}
+
+// The part of a text with this number, from 0, or nothing where there are fewer.
+fn part(text: &str, separator: char, i: usize) -> &str {
+    text.split(separator).nth(i).unwrap_or("")
 }
 
 // Nodes 0, 1 and 2, with two ways from node 0 to node 1: segment 0, and segments 1 and 2 by node 2. On segment 0 are two
@@ -85,11 +89,11 @@ fn truck(rt: &impl Abort, name: &[u8], height: u32) -> Truck {
 }
 
 // Roads with truck 0, which at 168 in is higher than 162 in and needs a permit, and truck 1, which is legal.
-fn base(rt: &impl Abort, alloc: Global) -> Result<Base, Fail> {
+fn base(rt: &impl Abort, alloc: Global) -> Base {
     let mut fleet = Vec::new(alloc);
-    fleet.push(truck(rt, b"high", 168))?;
-    fleet.push(truck(rt, b"legal", 160))?;
-    Ok(Base::new(roads(rt, alloc), fleet))
+    fleet.push(truck(rt, b"high", 168)).expect(rt, "memory");
+    fleet.push(truck(rt, b"legal", 160)).expect(rt, "memory");
+    Base::new(roads(rt, alloc), fleet)
 }
 
 // Whether the segments of a list are there.
@@ -101,20 +105,15 @@ fn are_there(network: &Network, list: &[u32]) -> bool
 }
 
 // The route that a text asks for, of segments that are there; none where it is a dash.
-fn asked(
-    rt: &impl Abort,
-    alloc: Global,
-    network: &Network,
-    text: &str,
-) -> Result<Option<Numbers>, Fail>
-    ensures { IfOk result (λ asked. AreAskedThere network.now asked) }
+fn asked(rt: &impl Abort, alloc: Global, network: &Network, text: &str) -> Option<Numbers>
+    ensures { AreAskedThere network.now result }
 {
     if text == "-" {
-        return Ok(None);
+        return None;
     }
-    let list = numbers(alloc, text)?;
+    let list = numbers(rt, alloc, text);
     assert!(rt; are_there(network, list.as_slice()));
-    Ok(Some(Numbers::of(list)))
+    Some(Numbers::of(list))
 }
 
 // The application that a text asks for: truck, nodes, asked route, first and last day, parted by commas.
@@ -123,72 +122,67 @@ fn applied(
     alloc: Global,
     base: &Base,
     text: &str,
-) -> Result<Result<Application, ApplicationRefusal>, Fail>
-    ensures { IfOk result (λ answer. IfOk answer (λ a. Sound base.now a)) }
+) -> Result<Application, ApplicationRefusal>
+    ensures { IfOk result (Sound base.now) }
 {
-    let mut parts = text.split(',');
-    let truck = number(parts.next().unwrap_or(""));
-    let from = number(parts.next().unwrap_or(""));
-    let to = number(parts.next().unwrap_or(""));
-    let asked = asked(rt, alloc, base.network(), parts.next().unwrap_or(""))?;
-    let first = day(rt, parts.next().unwrap_or(""));
-    let last = day(rt, parts.next().unwrap_or(""));
+    let truck = number(part(text, ',', 0));
+    let (from, to) = (number(part(text, ',', 1)), number(part(text, ',', 2)));
+    let (first, last) = (day(rt, part(text, ',', 4)), day(rt, part(text, ',', 5)));
     let nodes = base.network().nodes();
-    assert!(rt; (truck as usize) < base.fleet().len());
-    assert!(rt; from < nodes && to < nodes);
-    Ok(Application::new(base, truck, from, to, asked, first, last))
+    assert!(rt; (truck as usize) < base.fleet().len() && from < nodes && to < nodes);
+    let asked = asked(rt, alloc, base.network(), part(text, ',', 3));
+    Application::new(base, truck, from, to, asked, first, last)
 }
 
-// What is answered to applications. Where several causes apply, the first is named.
-const ANSWERS: &str = "\
-0,0,0,2,2026-03-03,2026-03-02/SamePlace
-0,0,1,1 0,2026-03-03,2026-03-02/BrokenRoute { at: 1 }
-0,0,1,1,2026-03-02,2026-03-02/BrokenRoute { at: 1 }
-0,0,1,2,2026-03-02,2026-03-02/BrokenRoute { at: 0 }
-0,0,1,,2026-03-02,2026-03-02/BrokenRoute { at: 0 }
-0,0,1,1 2,2026-03-03,2026-03-02/DayOrder
-0,0,1,-,2026-03-03,2026-03-02/DayOrder
-0,0,1,-,2026-03-02,2026-03-02/taken
-0,0,1,1 2,2026-03-02,2026-03-03/taken
-";
-
-// Compares what a line says at its end.
-fn check_text(rt: &impl Abort, text: &str, line: &str) {
-    assert!(rt;
-        text == line.rsplit('/').next().unwrap_or(""),
-        "{line}: {text}"
-    );
+// The same, where it is taken.
+fn taken(rt: &impl Abort, alloc: Global, base: &Base, text: &str) -> Application
+    ensures { Sound base.now result }
+{
+    applied(rt, alloc, base, text).expect(rt, "an application")
 }
 
-// Compares an answer with what a line says at its end.
-fn check_answer(
-    rt: &impl Abort,
-    alloc: Global,
-    answer: Result<Application, ApplicationRefusal>,
-    line: &str,
-) -> Result<(), Fail> {
-    match answer {
-        Ok(_taken) => check_text(rt, "taken", line),
-        Err(refusal) => check_text(rt, format!(in alloc; "{refusal:?}")?.as_str(), line),
-    }
-    Ok(())
-}
-
-// Asks for what each line says.
-fn ask_each(rt: &impl Abort, alloc: Global, base: &Base) -> Result<(), Fail> {
-    for line in ANSWERS.lines() {
-        let text = line.split('/').next().unwrap_or("");
-        check_answer(rt, alloc, applied(rt, alloc, base, text)?, line)?;
-    }
-    Ok(())
-}
+// What is answered to applications, or none where one is taken. Where several causes apply, the first is named.
+const ANSWERS: [(&str, Option<ApplicationRefusal>); 9] = [
+    (
+        "0,0,0,2,2026-03-03,2026-03-02",
+        Some(ApplicationRefusal::SamePlace),
+    ),
+    (
+        "0,0,1,1 0,2026-03-03,2026-03-02",
+        Some(ApplicationRefusal::BrokenRoute { at: 1 }),
+    ),
+    (
+        "0,0,1,1,2026-03-02,2026-03-02",
+        Some(ApplicationRefusal::BrokenRoute { at: 1 }),
+    ),
+    (
+        "0,0,1,2,2026-03-02,2026-03-02",
+        Some(ApplicationRefusal::BrokenRoute { at: 0 }),
+    ),
+    (
+        "0,0,1,,2026-03-02,2026-03-02",
+        Some(ApplicationRefusal::BrokenRoute { at: 0 }),
+    ),
+    (
+        "0,0,1,1 2,2026-03-03,2026-03-02",
+        Some(ApplicationRefusal::DayOrder),
+    ),
+    (
+        "0,0,1,-,2026-03-03,2026-03-02",
+        Some(ApplicationRefusal::DayOrder),
+    ),
+    ("0,0,1,-,2026-03-02,2026-03-02", None),
+    ("0,0,1,1 2,2026-03-02,2026-03-03", None),
+];
 
 #[test]
-fn refuses_an_application_for_its_first_cause(rt: HostRuntime) -> Result<(), Fail> {
-    let base = base(&rt, rt.alloc())?;
-    let done = ask_each(&rt, rt.alloc(), &base);
+fn refuses_an_application_for_its_first_cause(rt: HostRuntime) {
+    let base = base(&rt, rt.alloc());
+    for (text, wanted) in ANSWERS {
+        let refusal = applied(&rt, rt.alloc(), &base, text).err();
+        assert!(rt; refusal == wanted, "{text}");
+    }
     drop(base);
-    done
 }
 
 // Whether these are the fields of the application of the test below.
@@ -204,65 +198,45 @@ fn check_fields(rt: &impl Abort, a: &Application) {
 }
 
 // An application and a copy of it.
-fn copy_fields(rt: &impl Abort, alloc: Global, base: &Base) -> Result<(), Fail> {
-    let text = "1,0,1,1 2,2026-03-02,2026-03-05";
-    let taken = applied(rt, alloc, base, text)?.expect(rt, "an application");
-    check_fields(rt, &taken);
-    let copy = taken.try_clone(alloc);
-    drop(taken);
-    let copy = copy?;
-    check_fields(rt, &copy);
-    drop(copy);
-    Ok(())
-}
-
 #[test]
-fn keeps_what_is_asked_for(rt: HostRuntime) -> Result<(), Fail> {
-    let base = base(&rt, rt.alloc())?;
-    let done = copy_fields(&rt, rt.alloc(), &base);
+fn keeps_what_is_asked_for(rt: HostRuntime) {
+    let base = base(&rt, rt.alloc());
+    let taken = taken(&rt, rt.alloc(), &base, "1,0,1,1 2,2026-03-02,2026-03-05");
     drop(base);
-    done
+    check_fields(&rt, &taken);
+    let copy = taken.try_clone(rt.alloc()).expect(&rt, "memory");
+    drop(taken);
+    check_fields(&rt, &copy);
+    drop(copy);
 }
 
-// The state in which one more segment is posted at 167 in, an inch less than truck 0 is high.
-fn lower(
-    rt: &impl Abort,
-    alloc: Global,
-    network: &Network,
-    state: &State,
-    segment: u32,
-) -> Result<State, Fail>
-    requires { AreOf network.now state.now }
-    ensures { IfOk result (λ state. AreOf network.now state) }
+// The state of the roads where the segments of a text are posted at 167 in, an inch less than truck 0 is high.
+#[tactic(auto, using(restriction_log::proofs::Standing::base_is_of))]
+fn lowered(rt: &impl Abort, alloc: Global, network: &Network, text: &str) -> State
+    ensures { AreOf network.now result }
 {
-    let change = Change::Height {
-        segment,
-        inches: 167,
-    };
-    assert!(rt; takes(network, &change));
-    Ok(state.with(alloc, &change)?)
-}
-
-// The state of the roads where the segments of a text are posted so.
-fn lowered(rt: &impl Abort, alloc: Global, network: &Network, text: &str) -> Result<State, Fail>
-    ensures { IfOk result (λ state. AreOf network.now state) }
-{
-    let mut state = State::base(alloc, network)?;
     assert!(rt; network.segments() == 3);
+    let mut state = State::base(alloc, network).expect(rt, "memory");
     'low: for part in text.split_whitespace() {
-        state = lower(rt, alloc, network, &state, number(part))?;
+        let change = Change::Height {
+            segment: number(part),
+            inches: 167,
+        };
+        assert!(rt; takes(network, &change));
+        state = state.with(alloc, &change).expect(rt, "memory");
     }
-    Ok(state)
+    state
 }
 
-// What is found, in words.
-fn told(alloc: Global, what: &What) -> Result<String, Fail> {
-    Ok(match what {
-        What::NotNeeded => format!(in alloc; "not needed")?,
-        What::Route(route) => format!(in alloc; "route {:?}", route.as_slice())?,
-        What::Fails { segment } => format!(in alloc; "fails {segment}")?,
-        What::Cut(nodes) => format!(in alloc; "cut {:?}", nodes.as_slice())?,
-    })
+// What is found is what a text says: a word, and the numbers of a route, a segment or nodes.
+fn check_found(rt: &impl Abort, alloc: Global, what: &What, text: &str) {
+    let told = match what {
+        What::NotNeeded => format!(in alloc; "not needed"),
+        What::Route(route) => format!(in alloc; "route {:?}", route.as_slice()),
+        What::Fails { segment } => format!(in alloc; "fails {segment}"),
+        What::Cut(nodes) => format!(in alloc; "cut {:?}", nodes.as_slice()),
+    };
+    assert_eq!(rt; told.expect(rt, "memory").as_str(), text);
 }
 
 // An application, the segments that are too low for truck 0, and what is found. No road leads from node 1, and none from
@@ -281,42 +255,28 @@ const FINDINGS: &str = "\
 1,0,1,0,2026-03-02,2026-03-02/0/not needed
 ";
 
-// Compares what is found with what a line says at its end.
-fn check_found(rt: &impl Abort, alloc: Global, what: &What, line: &str) -> Result<(), Fail> {
-    let text = told(alloc, what)?;
-    check_text(rt, text.as_str(), line);
-    Ok(())
-}
-
 // Looks for what a line says.
-fn find_line(rt: &impl Abort, alloc: Global, base: &Base, line: &str) -> Result<(), Fail> {
-    let mut parts = line.split('/');
-    let text = parts.next().unwrap_or("");
-    let low = parts.next().unwrap_or("");
-    let application = applied(rt, alloc, base, text)?.expect(rt, "an application");
-    let state = lowered(rt, alloc, base.network(), low)?;
-    let what = find(alloc, base, &state, &application);
+fn find_line(rt: &impl Abort, alloc: Global, base: &Base, line: &str) {
+    let application = taken(rt, alloc, base, part(line, '/', 0));
+    let state = lowered(rt, alloc, base.network(), part(line, '/', 1));
+    let what = find(alloc, base, &state, &application).expect(rt, "memory");
     drop(state);
     drop(application);
-    let what = what?;
-    let checked = check_found(rt, alloc, &what, line);
+    check_found(rt, alloc, &what, part(line, '/', 2));
     drop(what);
-    checked
 }
 
-fn find_each(rt: &impl Abort, alloc: Global, base: &Base) -> Result<(), Fail> {
+fn find_each(rt: &impl Abort, alloc: Global, base: &Base) {
     for line in FINDINGS.lines() {
-        find_line(rt, alloc, base, line)?;
+        find_line(rt, alloc, base, line);
     }
-    Ok(())
 }
 
 #[test]
-fn finds_a_route_or_why_there_is_none(rt: HostRuntime) -> Result<(), Fail> {
-    let base = base(&rt, rt.alloc())?;
-    let done = find_each(&rt, rt.alloc(), &base);
+fn finds_a_route_or_why_there_is_none(rt: HostRuntime) {
+    let base = base(&rt, rt.alloc());
+    find_each(&rt, rt.alloc(), &base);
     drop(base);
-    done
 }
 
 // What is posted, what is asked for then, the version, and what is found, one after another. At twice the HS20-44 truck the
@@ -341,11 +301,8 @@ closed,0,0/0,0,1,-,2026-03-02,2026-03-02/14/route [0]
 
 // What a text posts: KIND,NUMBER,VALUE.
 fn posted(text: &str) -> Change {
-    let mut parts = text.split(',');
-    let kind = parts.next().unwrap_or("");
-    let named = number(parts.next().unwrap_or(""));
-    let value = number(parts.next().unwrap_or(""));
-    match kind {
+    let (named, value) = (number(part(text, ',', 1)), number(part(text, ',', 2)));
+    match part(text, ',', 0) {
         "closed" => Change::Closed {
             segment: named,
             closed: value == 1,
@@ -381,25 +338,22 @@ fn follow_line(
     store: &mut Store,
     follower: &mut Follower,
     line: &str,
-) -> Result<(), Fail>
+)
     requires base { follower.old.base ≡ base.now }
     requires roads { store.old.roads ≡ base.now.roads }
     requires later { GoesOn follower.old.last store.old }
-    ensures followed { IfOk result (λ _. follower.new ≡ followed base.now store.new) }
+    ensures followed { follower.new ≡ followed base.now store.new }
     ensures roads { store.new.roads ≡ base.now.roads }
 {
-    let mut parts = line.split('/');
-    post_each(rt, base.network(), store, parts.next().unwrap_or(""));
-    let text = parts.next().unwrap_or("");
-    let application = applied(rt, alloc, base, text)?.expect(rt, "an application");
+    post_each(rt, base.network(), store, part(line, '/', 0));
+    let application = taken(rt, alloc, base, part(line, '/', 1));
     let snapshot = store.snapshot().expect(rt, "memory");
     let proposal = follower.analyse(alloc, base, snapshot, &application);
     drop(application);
-    let Proposal { seen, what } = proposal?;
-    let checked = check_found(rt, alloc, &what, line);
+    let Proposal { seen, what } = proposal.expect(rt, "memory");
+    check_found(rt, alloc, &what, part(line, '/', 3));
     drop(what);
-    assert!(rt; seen == number(parts.next().unwrap_or("")), "{line}");
-    checked
+    assert!(rt; seen == number(part(line, '/', 2)), "{line}");
 }
 
 // Follows a store over all lines.
@@ -410,33 +364,30 @@ fn follow_lines(
     base: &Base,
     store: &mut Store,
     follower: &mut Follower,
-) -> Result<(), Fail>
+)
     requires base { follower.old.base ≡ base.now }
     requires roads { store.old.roads ≡ base.now.roads }
     requires later { GoesOn follower.old.last store.old }
 {
     'lines: for line in HISTORY.lines() {
-        follow_line(rt, alloc, base, store, follower, line)?;
+        follow_line(rt, alloc, base, store, follower, line);
     }
-    Ok(())
 }
 
 // The same from the first version on.
-fn follow_store(rt: &impl Abort, alloc: Global, base: &Base) -> Result<(), Fail> {
+fn follow_store(rt: &impl Abort, alloc: Global, base: &Base) {
     let mut store = Store::start(alloc, base.network()).expect(rt, "memory");
     let mut follower = Follower::new(alloc, base).expect(rt, "memory");
-    let done = follow_lines(rt, alloc, base, &mut store, &mut follower);
+    follow_lines(rt, alloc, base, &mut store, &mut follower);
     drop(follower);
     drop(store);
-    done
 }
 
 #[test]
-fn follows_a_store_from_version_to_version(rt: HostRuntime) -> Result<(), Fail> {
-    let base = base(&rt, rt.alloc())?;
-    let done = follow_store(&rt, rt.alloc(), &base);
+fn follows_a_store_from_version_to_version(rt: HostRuntime) {
+    let base = base(&rt, rt.alloc());
+    follow_store(&rt, rt.alloc(), &base);
     drop(base);
-    done
 }
 
 // Twice the HS20-44 truck, a span of 360 in carries the truck, which weighs less than that truck, and at 0 nothing.
@@ -449,68 +400,54 @@ fn check_study(rt: &impl Abort, base: &Base, truck: u32)
 }
 
 // Asks a study that keeps nothing, and again once it keeps the lengths of the roads.
-fn learn_truck(rt: &impl Abort, alloc: Global, base: &mut Base, truck: u32) -> Result<(), Fail>
+fn learn_truck(rt: &impl Abort, alloc: Global, base: &mut Base, truck: u32)
     requires { truck < length base.old.fleet }
     ensures { base.new ≡ base.old }
 {
     check_study(rt, base, truck);
-    base.learn(alloc, truck)?;
+    base.learn(alloc, truck).expect(rt, "memory");
     check_study(rt, base, truck);
-    Ok(())
 }
 
 // Both trucks, and then the findings and the history of the tests above.
-fn learn_both(rt: &impl Abort, alloc: Global, base: &mut Base) -> Result<(), Fail> {
-    assert!(rt; base.fleet().len() == 2);
-    learn_truck(rt, alloc, base, 0)?;
-    learn_truck(rt, alloc, base, 1)?;
-    find_each(rt, alloc, base)?;
-    follow_store(rt, alloc, base)
-}
-
 #[test]
-fn finds_the_same_by_what_studies_keep(rt: HostRuntime) -> Result<(), Fail> {
-    let mut base = base(&rt, rt.alloc())?;
-    let done = learn_both(&rt, rt.alloc(), &mut base);
+fn finds_the_same_by_what_studies_keep(rt: HostRuntime) {
+    let mut base = base(&rt, rt.alloc());
+    assert!(rt; base.fleet().len() == 2);
+    learn_truck(&rt, rt.alloc(), &mut base, 0);
+    learn_truck(&rt, rt.alloc(), &mut base, 1);
+    find_each(&rt, rt.alloc(), &base);
+    follow_store(&rt, rt.alloc(), &base);
     drop(base);
-    done
 }
 
-// Whether the limit is that of segment 1, which at 167 in is too low for truck 0.
-fn is_too_low(limit: Option<Limit>) -> bool {
-    match limit {
-        Some(
-            Limit::Height {
-                segment,
-                has,
-                allowed,
-            },
-        ) => segment == 1 && has == 168 && allowed == 167,
-        _ => false,
-    }
-}
+// The limit of segment 1, which at 167 in is too low for truck 0.
+const TOO_LOW: Limit = Limit::Height {
+    segment: 1,
+    has: 168,
+    allowed: 167,
+};
 
-// Whether segment 1 fails by that limit.
-fn is_low_segment(failing: Option<Failing>) -> bool {
-    match failing {
-        Some(Failing { segment, limit }) => segment == 1 && is_too_low(Some(limit)),
-        None => false,
-    }
-}
-
-// The limits of segments that fail the trucks, where segments 0 and 1 are too low for truck 0.
+// The limits of segment 1 that fail the trucks, where segments 0 and 1 are too low for truck 0.
 fn tell_limits<L: Ledger>(rt: &impl Abort, base: &Base, state: &State, steps: &mut Steps<L>)
     requires { AreOf base.now.roads state.now }
 {
-    let route = [2, 1, 0];
-    assert!(rt; base.fleet().len() == 2);
-    assert!(rt; are_there(base.network(), route.as_slice()));
-    assert!(rt; base.network().segments() == 3);
-    assert!(rt; is_too_low(failing_limit(base, state, 0, 1, steps)));
+    assert!(rt; base.fleet().len() == 2 && base.network().segments() == 3);
+    assert!(rt; failing_limit(base, state, 0, 1, steps) == Some(TOO_LOW));
     assert!(rt; failing_limit(base, state, 1, 1, steps).is_none());
     assert!(rt; !is_passable(base, state, 0, 1, steps));
     assert!(rt; is_passable(base, state, 1, 1, steps));
-    assert!(rt; is_low_segment(first_on(base, state, 0, route.as_slice(), steps)));
+}
+
+// On segments 2, 1 and 0 the first that fails truck 0 is segment 1.
+fn tell_first<L: Ledger>(rt: &impl Abort, base: &Base, state: &State, steps: &mut Steps<L>)
+    requires { AreOf base.now.roads state.now }
+{
+    let route = [2, 1, 0];
+    assert!(rt; base.fleet().len() == 2 && are_there(base.network(), route.as_slice()));
+    let first = first_on(base, state, 0, route.as_slice(), steps);
+    let (segment, limit) = (1, TOO_LOW);
+    assert!(rt; first == Some(Failing { segment, limit }));
 }
 
 // A list of one node.
@@ -541,23 +478,22 @@ fn tell_both<L: Ledger>(rt: &impl Abort, base: &Base, state: &State, blank: Blan
 {
     let mut steps = Steps::<L>::new(blank);
     tell_limits(rt, base, state, &mut steps);
+    tell_first(rt, base, state, &mut steps);
     tell_leaving(rt, base, state, &mut steps);
 }
 
 // The same where segments 0 and 1 are too low for truck 0.
-fn tell_lowered(rt: &impl Abort, alloc: Global, base: &Base) -> Result<(), Fail> {
-    let state = lowered(rt, alloc, base.network(), "0 1")?;
+fn tell_lowered(rt: &impl Abort, alloc: Global, base: &Base) {
+    let state = lowered(rt, alloc, base.network(), "0 1");
     tell_both::<Brand>(rt, base, &state, Blank::new(1));
     drop(state);
-    Ok(())
 }
 
 #[test]
-fn tells_segments_that_fail_and_segments_that_leave(rt: HostRuntime) -> Result<(), Fail> {
-    let base = base(&rt, rt.alloc())?;
-    let done = tell_lowered(&rt, rt.alloc(), &base);
+fn tells_segments_that_fail_and_segments_that_leave(rt: HostRuntime) {
+    let base = base(&rt, rt.alloc());
+    tell_lowered(&rt, rt.alloc(), &base);
     drop(base);
-    done
 }
 
 #[test]

@@ -1,88 +1,99 @@
 use permit_days::{Day, DayRefusal};
+use std::alloc::Global;
 use std::process::Abort;
-use std::test::Fail;
 
-#[test]
-fn reads_a_day_or_says_why_not(rt: HostRuntime) -> Result<(), Fail> {
-    for (text, wanted) in [
-        ("1970-01-01", None),
-        ("2026-03-02", None),
-        ("0001-01-01", None),
-        ("0001-12-31", None),
-        ("9999-12-31", None),
-        ("2024-02-29", None),
-        ("0000-01-01", Some(DayRefusal::NoSuchDay)),
-        ("0000-12-31", Some(DayRefusal::NoSuchDay)),
-        ("2026-00-02", Some(DayRefusal::NoSuchDay)),
-        ("2026-13-02", Some(DayRefusal::NoSuchDay)),
-        ("2026-03-00", Some(DayRefusal::NoSuchDay)),
-        ("2023-02-29", Some(DayRefusal::NoSuchDay)),
-        ("9999-12-32", Some(DayRefusal::NoSuchDay)),
-        ("2024-2-29", Some(DayRefusal::Shape)),
-        ("", Some(DayRefusal::Shape)),
-        ("2024-02-029", Some(DayRefusal::Shape)),
-        ("2024/02/29", Some(DayRefusal::Shape)),
-        ("+024-02-28", Some(DayRefusal::Shape)),
-        ("2024-0a-28", Some(DayRefusal::Shape)),
-        ("0000-1-01", Some(DayRefusal::Shape)),
-    ] {
-        match Day::read(text.as_bytes()) {
-            Ok(day) => {
-                assert!(rt; wanted.is_none());
-                assert_eq!(rt; day.to_string(rt.alloc())?.as_str(), text);
-                assert!(rt; day.text().as_slice() == text.as_bytes());
-            }
-            Err(refusal) => assert!(rt; wanted == Some(refusal)),
-        }
-    }
-    Ok(())
+// The day of a text, which writes one.
+fn day(rt: &impl Abort, text: &str) -> Day {
+    Day::read(text.as_bytes()).expect(rt, text)
+}
+
+// Texts that write a day.
+const DAYS: [&str; 6] = [
+    "1970-01-01",
+    "2026-03-02",
+    "0001-01-01",
+    "0001-12-31",
+    "9999-12-31",
+    "2024-02-29",
+];
+
+// Texts that write none, and why not.
+const REFUSED: [(&str, DayRefusal); 14] = [
+    ("0000-01-01", DayRefusal::NoSuchDay),
+    ("0000-12-31", DayRefusal::NoSuchDay),
+    ("2026-00-02", DayRefusal::NoSuchDay),
+    ("2026-13-02", DayRefusal::NoSuchDay),
+    ("2026-03-00", DayRefusal::NoSuchDay),
+    ("2023-02-29", DayRefusal::NoSuchDay),
+    ("9999-12-32", DayRefusal::NoSuchDay),
+    ("2024-2-29", DayRefusal::Shape),
+    ("", DayRefusal::Shape),
+    ("2024-02-029", DayRefusal::Shape),
+    ("2024/02/29", DayRefusal::Shape),
+    ("+024-02-28", DayRefusal::Shape),
+    ("2024-0a-28", DayRefusal::Shape),
+    ("0000-1-01", DayRefusal::Shape),
+];
+
+// A day is written as it was read.
+fn is_written(rt: &impl Abort, alloc: Global, text: &str) {
+    let day = day(rt, text);
+    let written = day.to_string(alloc).expect(rt, "memory");
+    assert!(rt; written.as_str() == text, "{text}");
+    assert!(rt; day.text().as_slice() == text.as_bytes(), "{text}");
 }
 
 #[test]
-fn orders_days_by_year_then_month_then_day(rt: HostRuntime) -> Result<(), Fail> {
-    let rising = [
-        "0999-12-31",
-        "2025-12-31",
-        "2026-01-02",
-        "2026-01-10",
-        "2026-09-01",
-        "2026-10-01",
-    ];
-    for i in 0..rising.len() {
-        for j in 0..rising.len() {
-            match (
-                Day::read(rising[i].as_bytes()),
-                Day::read(rising[j].as_bytes()),
-            ) {
-                (Ok(a), Ok(b)) => {
-                    assert_eq!(rt; a < b, i < j);
-                    assert_eq!(rt; a == b, i == j);
-                    assert_eq!(rt; a.number() < b.number(), i < j);
-                }
-                _ => assert!(rt; false),
-            }
+fn reads_a_day_or_says_why_not(rt: HostRuntime) {
+    for text in DAYS {
+        is_written(&rt, rt.alloc(), text);
+    }
+    for (text, refusal) in REFUSED {
+        assert!(rt; Day::read(text.as_bytes()).err() == Some(refusal), "{text}");
+    }
+}
+
+const RISING: [&str; 6] = [
+    "0999-12-31",
+    "2025-12-31",
+    "2026-01-02",
+    "2026-01-10",
+    "2026-09-01",
+    "2026-10-01",
+];
+
+// Of two days of that list.
+fn are_in_order(rt: &impl Abort, i: usize, j: usize) {
+    let (a, b) = (day(rt, RISING[i % 6]), day(rt, RISING[j % 6]));
+    assert!(rt; (a < b) == (i < j), "{i} {j}");
+    assert!(rt; (a == b) == (i == j), "{i} {j}");
+    assert!(rt; (a.number() < b.number()) == (i < j), "{i} {j}");
+}
+
+#[test]
+fn orders_days_by_year_then_month_then_day(rt: HostRuntime) {
+    for i in 0..6 {
+        for j in 0..6 {
+            are_in_order(&rt, i, j);
         }
     }
-    Ok(())
 }
 
 // Numbers that the days of other calendars programs have: days since 1970-01-01 in the proleptic Gregorian calendar.
+const NUMBERED: [(&str, i32); 6] = [
+    ("1970-01-01", 0),
+    ("1969-12-31", -1),
+    ("2024-02-29", 19_782),
+    ("2000-03-01", 11_017),
+    ("0001-01-01", -719_162),
+    ("9999-12-31", 2_932_896),
+];
+
 #[test]
-fn numbers_days_from_1970(rt: HostRuntime) -> Result<(), Fail> {
-    for (text, number) in [
-        ("1970-01-01", 0),
-        ("1969-12-31", -1),
-        ("2024-02-29", 19_782),
-        ("2000-03-01", 11_017),
-        ("0001-01-01", -719_162),
-        ("9999-12-31", 2_932_896),
-    ] {
-        match Day::read(text.as_bytes()) {
-            Ok(day) => assert_eq!(rt; day.number(), number, "{text}"),
-            Err(_) => assert!(rt; false, "{text}"),
-        }
+fn numbers_days_from_1970(rt: HostRuntime) {
+    for (text, number) in NUMBERED {
+        assert!(rt; day(&rt, text).number() == number, "{text}");
     }
-    Ok(())
 }
 
 // Every fourth year has a leap day, but of the years that end a century only every fourth.
@@ -143,7 +154,7 @@ fn month_goes_on(rt: &impl Abort, year: u16, month: u16, before: i32) -> i32 {
 
 // Of the years 1900, 2000 and 2100 only 2000 has a leap day.
 #[test]
-fn keeps_the_calendar_of_1896_to_2104(rt: HostRuntime) -> Result<(), Fail> {
+fn keeps_the_calendar_of_1896_to_2104(rt: HostRuntime) {
     // 1895-12-31: 74 years before 1970, of which 18 have a leap day.
     let mut last = -27_029;
     for year in 1896..2105 {
@@ -153,5 +164,4 @@ fn keeps_the_calendar_of_1896_to_2104(rt: HostRuntime) -> Result<(), Fail> {
     }
     // 2104-12-31: 135 years from 1970 on, of which 33 have a leap day.
     assert_eq!(rt; last, 49_307);
-    Ok(())
 }
