@@ -1,15 +1,10 @@
+use crate::fixtures::same;
 use axle_train::{Axle, Train};
 use hs20_truck::{Kept, Live, effects, effects_are_the_peaks, effects_of, truck};
 use span_rating::{Effects, Fit, SpanStudy, fits};
 use std::alloc::Global;
-use std::fmt::Debug;
 use std::process::Abort;
 use std::test::Fail;
-
-// What is found on a span is what a row of a table says.
-fn same<T: PartialEq + Debug>(rt: &impl Abort, span: u32, found: &T, wanted: &T) {
-    assert_eq!(rt; found, wanted, "on {span}");
-}
 
 // The numerators and denominators of a moment and of a shear.
 type Terms = ((u128, u128), (u128, u128));
@@ -34,8 +29,13 @@ fn effects_each(rt: &impl Abort, train: &Train, spans: &[(u32, u128, u128)]) {
     for &(span, moment, shear) in spans {
         assert!(rt; 1 <= span && span <= 6000);
         let found = effects(span);
-        same(rt, span, &terms(&found), &((moment, 1), (shear, 1)));
-        same(rt, span, &effects_of(train, span), &found);
+        same(
+            rt,
+            span as usize,
+            &terms(&found),
+            &((moment, 1), (shear, 1)),
+        );
+        same(rt, span as usize, &effects_of(train, span), &found);
     }
 }
 
@@ -77,15 +77,25 @@ fn told(rt: &impl Abort, study: &impl SpanStudy, inches: u32) -> (Terms, Terms) 
 fn needs(rt: &impl Abort, study: &impl SpanStudy, inches: u32, rating: u32) {
     assert!(rt; 1 <= inches && inches <= 6000);
     assert!(rt; 1 <= rating && rating <= 100000);
-    same(rt, inches, &study.carries(inches, rating), &true);
-    same(rt, inches, &study.carries(inches, rating - 1), &false);
+    same(rt, inches as usize, &study.carries(inches, rating), &true);
+    same(
+        rt,
+        inches as usize,
+        &study.carries(inches, rating - 1),
+        &false,
+    );
 }
 
 // A study of the design truck has the effects of the table, and the truck is what a rating of 1,000 carries.
 fn ask(rt: &impl Abort, study: &Kept, row: (u32, u128, u128)) {
     let (inches, moment, shear) = row;
     let wanted = ((moment, 1), (shear, 1));
-    same(rt, inches, &told(rt, study, inches), &(wanted, wanted));
+    same(
+        rt,
+        inches as usize,
+        &told(rt, study, inches),
+        &(wanted, wanted),
+    );
     needs(rt, study, inches, 1000);
 }
 

@@ -1,3 +1,4 @@
+use crate::fixtures::same;
 use axle_train::{Axle, Train};
 use influence_line::moment_at;
 use moment_peak::{MomentPeak, peak, peak_is_one, peak_moment_is_a_function, value};
@@ -35,11 +36,13 @@ fn axle(place: u32, weight: u32) -> Axle {
 fn assert_peak(rt: &impl Abort, train: &Train, span: u32, want: Row) {
     assert!(rt; 1 <= span && span <= 6000);
     let found = peak(train, span);
-    assert_eq!(rt; row(&found), want, "on {span} in");
+    same(rt, span as usize, &row(&found), &want);
     let (again, there) = (value(train, span), moment_at(train, span, found.place));
-    assert!(rt;
-        again == found.value && there == found.value,
-        "on {span} in"
+    same(
+        rt,
+        span as usize,
+        &(again, there),
+        &(found.value, found.value),
     );
 }
 
@@ -57,7 +60,7 @@ fn assert_value(rt: &impl Abort, axles: &[Axle], span: u32, want: u128) -> Resul
     let train = Train::new(axles)?;
     let found = value(&train, span).num();
     drop(train);
-    assert_eq!(rt; found, want, "on {span} in");
+    same(rt, span as usize, &found, &want);
     Ok(())
 }
 

@@ -1,3 +1,4 @@
+use crate::fixtures::same;
 use axle_train::{Axle, Train};
 use influence_line::{End, reaction_at};
 use shear_peak::{peak, peak_is_one, peak_shear_is_a_function};
@@ -52,13 +53,15 @@ fn heavy() -> [Axle; 32] {
 fn assert_peak(rt: &impl Abort, train: &Train, span: u32, value: (u128, u128), place: (i64, End)) {
     assert!(rt; 1 <= span && span <= 6000);
     let found = peak(train, span);
-    assert_eq!(rt; (found.value.num(), found.value.den()), value, "on {span}");
-    assert_eq!(rt; (found.lead, found.end), place, "on {span}");
-    assert_eq!(rt;
-        reaction_at(train, span, 1, found.lead, found.end),
-        found.value,
-        "on {span}"
+    same(
+        rt,
+        span as usize,
+        &(found.value.num(), found.value.den()),
+        &value,
     );
+    same(rt, span as usize, &(found.lead, found.end), &place);
+    let there = reaction_at(train, span, 1, found.lead, found.end);
+    same(rt, span as usize, &there, &found.value);
 }
 
 #[test]
@@ -99,18 +102,28 @@ fn peaks_by_hand(rt: HostRuntime) -> Result<(), Fail> {
     Ok(())
 }
 
+// AASHTO Standard Specifications for Highway Bridges, Appendix A: the span in feet, and the end
+// shear of one lane of HS20-44 in tenths of a kip.
+const PRINTED: [(u32, u128); 5] = [(20, 416), (30, 496), (40, 552), (60, 608), (100, 653)];
+
+fn is_printed(rt: &impl Abort, design: &Train, feet: u32, tenths: u128) {
+    assert!(rt; 1 <= feet && feet <= 500);
+    let value = peak(design, 12 * feet).value;
+    let (num, den) = (value.num(), value.den());
+    assert!(rt; num < 1 << 68 && 1 <= den && den < 1 << 36);
+    same(
+        rt,
+        feet as usize,
+        &((num + 50 * den) / (100 * den)),
+        &tenths,
+    );
+}
+
 #[test]
 fn end_shears_of_hs20_as_aashto_prints_them(rt: HostRuntime) -> Result<(), Fail> {
-    // AASHTO Standard Specifications for Highway Bridges, Appendix A: the span in feet, and the end
-    // shear of one lane of HS20-44 in tenths of a kip.
-    let cases = [(20, 416), (30, 496), (40, 552), (60, 608), (100, 653)];
     let design = Train::new(&DESIGN)?;
-    for (feet, tenths) in cases {
-        assert!(rt; 1 <= feet && feet <= 500);
-        let value = peak(&design, 12 * feet).value;
-        let (num, den) = (value.num(), value.den());
-        assert!(rt; num < 1 << 68 && 1 <= den && den < 1 << 36);
-        assert_eq!(rt; (num + 50 * den) / (100 * den), tenths, "on {feet} feet");
+    for (feet, tenths) in PRINTED {
+        is_printed(&rt, &design, feet, tenths);
     }
     Ok(())
 }
