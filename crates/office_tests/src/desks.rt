@@ -1,52 +1,51 @@
 //! What no clause says: that calls are answered, on threads that run at once.
-ghost use Rattle.std.specs.Prelude.{◌≡◌, ◌≤◌, IfOk};
+ghost use Rattle.std.specs.Prelude.{◌≡◌};
 ghost use Rattle.office_turn.specs.Told.{IsReady, opening_root};
 
-use crate::fixtures::named;
+use crate::fixtures::{ALONE, base, day};
+use journal_text::print;
 use office_core::{Looked, Office, OfficeCalls};
 use office_desk::{Desk, Pass, Root, Seat};
-use office_words::Reply;
-use permit_days::Day;
+use office_words::{Call, Reply};
 use restriction_log::Change;
-use road_graph::Network;
 use std::alloc::Global;
 use std::process::Abort;
 use std::sync::{Arc, Wait};
-use std::test::Fail;
 use std::thread::join_mut;
-use trip_analysis::Base;
 
-// A desk of an office about two nodes, the segment from one to the other and no truck.
-fn start(rt: &impl Abort, alloc: Global, most: u32) -> Result<(Desk, Root), Fail>
-    requires some { 1 ≤ most }
-    requires bounded { most ≤ 1000000 }
-    ensures { IfOk result (λ started. started.1 ≡ opening_root started.0) }
+// A desk of an office about one segment.
+fn start(rt: &impl Abort, alloc: Global, most: u32) -> (Desk, Root)
+    ensures { result.1 ≡ opening_root result.0 }
 {
-    let mut roads = Network::new(alloc);
-    for name in [b"a", b"b"] {
-        roads.add_node(named(rt, name)).expect(rt, "a node");
-    }
-    roads
-        .add_segment(named(rt, b"s"), 0, 1, 1_000)
-        .expect(rt, "a segment");
-    let base = Arc::new(alloc, Base::new(roads, Vec::new(alloc)))?;
-    let day = Day::read(b"2026-03-02").expect(rt, "a day");
-    Ok(Desk::start(alloc, base, day, most)?)
+    assert!(rt; 1 <= most && most <= 1_000_000);
+    let base = Arc::new(alloc, base(rt, alloc, ALONE, 168)).expect(rt, "memory");
+    Desk::start(alloc, base, day(rt, "2026-03-02"), most).expect(rt, "memory")
 }
 
-// That the segment is closed.
-fn closing() -> Change {
-    Change::Closed {
+// Posts that the segment is closed.
+fn post<R: Wait>(rt: &R, desk: &Desk, pass: &mut Pass) -> Reply
+    requires { IsReady desk.now pass.old }
+    ensures { IsReady desk.now pass.new }
+{
+    let change = Change::Closed {
         segment: 0,
         closed: true,
-    }
+    };
+    desk.ask(rt, pass, Call::Post { change })
 }
 
-// Compares what is printed of a history with a text.
-fn compare(rt: &impl Abort, alloc: Global, office: &Office, text: &str) -> Result<(), Fail> {
-    let printed = format!(in alloc; "{:?}", office.history())?;
-    assert_eq!(rt; printed.as_str(), text);
-    Ok(())
+// Looks at a permit that nobody has.
+fn show<R: Wait>(rt: &R, desk: &Desk, pass: &mut Pass) -> Reply
+    requires { IsReady desk.now pass.old }
+    ensures { IsReady desk.now pass.new }
+{
+    desk.ask(rt, pass, Call::Show { number: 0 })
+}
+
+// The journal of the office is this text.
+fn compare(rt: &impl Abort, alloc: Global, office: &Office, text: &str) {
+    let journal = print(alloc, office.history()).expect(rt, "memory");
+    assert!(rt; journal.as_slice() == text.as_bytes(), "{text}");
 }
 
 // Posts a change and looks at a permit, so often.
@@ -55,8 +54,8 @@ fn post_and_show<R: Wait>(rt: &R, desk: &Desk, pass: &mut Pass, times: u32)
     ensures { IsReady desk.now pass.new }
 {
     for _ in 0..times {
-        drop(desk.post(rt, pass, closing()));
-        drop(desk.show(rt, pass, 0));
+        drop(post(rt, desk, pass));
+        drop(show(rt, desk, pass));
     }
 }
 
@@ -88,57 +87,59 @@ fn count_calls(rt: &impl Abort, office: &Office) -> [u32; 2] {
     counts
 }
 
+// The version of a look that found memory and room.
+fn version_of(rt: &impl Abort, looked: Looked) -> u32 {
+    match looked {
+        Looked::At(snapshot) => snapshot.version(),
+        _ => rt.abort(),
+    }
+}
+
 #[test]
-fn a_look_sees_the_posting_before_it(rt: HostRuntime) -> Result<(), Fail> {
-    let (desk, mut root) = start(&rt, rt.alloc(), 100)?;
+fn a_look_sees_the_posting_before_it(rt: HostRuntime) {
+    let (desk, mut root) = start(&rt, rt.alloc(), 100);
     let mut one = desk.admit(&mut root);
-    drop(desk.post(&rt, &mut one, closing()));
-    let looked = desk.snapshot(&rt, &mut one);
+    drop(post(&rt, &desk, &mut one));
+    let version = version_of(&rt, desk.snapshot(&rt, &mut one));
     let other = desk.admit(&mut root);
     let mut seat = sent(Seat::new(&rt, &desk, other));
     drop(seat.show(0));
     desk.leave(&mut root, one);
     desk.leave(&mut root, seat.into_pass());
     let office = desk.close(root);
-    let version = match looked {
-        Looked::At(snapshot) => snapshot.version(),
-        _ => rt.abort(),
-    };
     assert_eq!(rt; version, 1);
-    compare(
-        &rt,
-        rt.alloc(),
-        &office,
-        "[\
-Entry { caller: 0, call: Post { change: Closed { segment: 0, closed: true } }, \
-reply: Posted { version: 1, recalled: Numbers { list: [] } } }, \
-Entry { caller: 0, call: Snapshot, reply: SnapshotAt { version: 1 } }, \
-Entry { caller: 1, call: Show { number: 0 }, reply: Unknown }]",
-    )
+    let journal = "\
+permit-journal 1
+1 post segment 1 closed 1 = posted 1 recalled -
+1 snapshot = at 1
+2 show 0 = unknown
+end 3
+";
+    compare(&rt, rt.alloc(), &office, journal);
 }
 
 #[test]
-fn is_full_once_all_turns_are_taken(rt: HostRuntime) -> Result<(), Fail> {
-    let (desk, mut root) = start(&rt, rt.alloc(), 1)?;
+fn is_full_once_all_turns_are_taken(rt: HostRuntime) {
+    let (desk, mut root) = start(&rt, rt.alloc(), 1);
     let mut one = desk.admit(&mut root);
-    drop(desk.show(&rt, &mut one, 0));
-    let reply = desk.post(&rt, &mut one, closing());
+    drop(show(&rt, &desk, &mut one));
+    let posted = post(&rt, &desk, &mut one);
     let looked = desk.snapshot(&rt, &mut one);
     desk.leave(&mut root, one);
     let office = desk.close(root);
-    assert!(rt; matches!(reply, Reply::Full { entries: 1 }));
+    assert!(rt; matches!(posted, Reply::Full { entries: 1 }));
     assert!(rt; matches!(looked, Looked::Full { entries: 1 }));
     compare(
         &rt,
         rt.alloc(),
         &office,
-        "[Entry { caller: 0, call: Show { number: 0 }, reply: Unknown }]",
-    )
+        "permit-journal 1\n1 show 0 = unknown\nend 1\n",
+    );
 }
 
 #[test]
-fn two_callers_post_and_look_at_once(rt: HostRuntime) -> Result<(), Fail> {
-    let (desk, mut root) = start(&rt, rt.alloc(), 1_000)?;
+fn two_callers_post_and_look_at_once(rt: HostRuntime) {
+    let (desk, mut root) = start(&rt, rt.alloc(), 1_000);
     let mut one = desk.admit(&mut root);
     let mut two = desk.admit(&mut root);
     join_mut(
@@ -151,5 +152,4 @@ fn two_callers_post_and_look_at_once(rt: HostRuntime) -> Result<(), Fail> {
     let office = desk.close(root);
     assert_eq!(rt; office.version(), 400);
     assert_eq!(rt; count_calls(&rt, &office), [400, 400]);
-    Ok(())
 }

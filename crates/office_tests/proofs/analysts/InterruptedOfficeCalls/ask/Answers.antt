@@ -1,9 +1,8 @@
-use Rattle.office_words.specs.declared.entry.Call.TheVariants as call
 use Rattle.analyst_pool.proofs.Interrupting.{answered_as, asked_at, from_seat}
-use Rattle.office_tests.proofs.analysts.InterruptedOfficeCalls.submit.Goals as goal
+use Rattle.office_tests.proofs.analysts.InterruptedOfficeCalls.ask.Goals as goal
 
-pub submit-reply-requires : goal.submit-reply-requires
-submit-reply-requires g c = asked_at _ _ _ (call.Submit c.args.application c.args.proposal) c.new-seat.ensures.office c.interrupt-self.ensures c.requires
+pub ask-reply-requires : goal.ask-reply-requires
+ask-reply-requires g c = asked_at _ _ _ c.args.asked c.new-seat.ensures.office c.interrupt-self.ensures c.requires
 
 pub returns : goal.returns
-returns g c = answered_as _ _ _ _ _ _ _ c.interrupt-self.ensures (from_seat _ _ _ _ 0 _ _ _ _ _ c.new-seat.ensures.office c.new-seat.ensures.caller c.submit-reply.ensures) c.unless_full.ensures.value c.unless_full.ensures.room
+returns g c = answered_as _ _ _ _ _ _ _ c.interrupt-self.ensures (from_seat _ _ _ _ 0 _ _ _ _ _ c.new-seat.ensures.office c.new-seat.ensures.caller c.ask-reply.ensures) c.unless_full.ensures.value c.unless_full.ensures.room
