@@ -63,9 +63,9 @@ fn has(rt: &impl Abort, row: usize, base: &Base, counts: &Counts) {
     same(rt, row, &base.fleet().len(), &trucks);
 }
 
-fn take(rt: &impl Abort, alloc: Global, row: usize, counts: &Counts) -> Result<(), Fail> {
+fn take(rt: &impl Abort, alloc: Global, row: usize, counts: &Counts) {
     let &(text, nodes, _, _, _, commands) = counts;
-    let file = read_day(alloc, text.as_bytes())?;
+    let file = read_day(alloc, text.as_bytes()).expect(rt, text);
     begins(rt, row, &file, nodes);
     let (base, _, actors, orders) = file.into_parts();
     has(rt, row, &base, counts);
@@ -73,32 +73,28 @@ fn take(rt: &impl Abort, alloc: Global, row: usize, counts: &Counts) -> Result<(
     drop(base);
     drop(actors);
     drop(orders);
-    Ok(())
 }
 
-fn take_each(rt: &impl Abort, alloc: Global, days: &[Counts]) -> Result<(), Fail> {
+fn take_each(rt: &impl Abort, alloc: Global, days: &[Counts]) {
     for (row, counts) in days.iter().enumerate() {
-        take(rt, alloc, row, counts)?;
+        take(rt, alloc, row, counts);
     }
-    Ok(())
 }
+
+const DAYS: [Counts; 8] = [
+    (ISSUED, 2, 1, 0, 1, 1),
+    (MARKED, 2, 1, 0, 1, 1),
+    (RETURNED, 2, 1, 0, 1, 1),
+    (RECALLED, 2, 1, 0, 2, 5),
+    (CLOSED, 3, 1, 0, 1, 3),
+    (SURRENDERED, 2, 1, 0, 1, 5),
+    (ALLOWED, 2, 1, 0, 1, 1),
+    (RATED, 2, 1, 1, 1, 3),
+];
 
 #[test]
-fn takes_the_worked_days(rt: HostRuntime) -> Result<(), Fail> {
-    take_each(
-        &rt,
-        rt.alloc(),
-        &[
-            (ISSUED, 2, 1, 0, 1, 1),
-            (MARKED, 2, 1, 0, 1, 1),
-            (RETURNED, 2, 1, 0, 1, 1),
-            (RECALLED, 2, 1, 0, 2, 5),
-            (CLOSED, 3, 1, 0, 1, 3),
-            (SURRENDERED, 2, 1, 0, 1, 5),
-            (ALLOWED, 2, 1, 0, 1, 1),
-            (RATED, 2, 1, 1, 1, 3),
-        ],
-    )
+fn takes_the_worked_days(rt: HostRuntime) {
+    take_each(&rt, rt.alloc(), &DAYS);
 }
 
 // The kind of a command by a letter.
@@ -120,17 +116,16 @@ fn are_kinds(rt: &impl Abort, orders: &[Order], letters: &[u8]) {
     }
 }
 
-fn keep(rt: &impl Abort, alloc: Global, text: &str, letters: &[u8]) -> Result<(), Fail> {
-    let file = read_day(alloc, text.as_bytes())?;
+fn keep(rt: &impl Abort, alloc: Global, text: &str, letters: &[u8]) {
+    let file = read_day(alloc, text.as_bytes()).expect(rt, text);
     are_kinds(rt, file.commands(), letters);
     drop(file);
-    Ok(())
 }
 
 #[test]
-fn keeps_the_commands_in_order(rt: HostRuntime) -> Result<(), Fail> {
-    keep(&rt, rt.alloc(), RECALLED, b"aapsp")?;
-    keep(&rt, rt.alloc(), SURRENDERED, b"adggs")
+fn keeps_the_commands_in_order(rt: HostRuntime) {
+    keep(&rt, rt.alloc(), RECALLED, b"aapsp");
+    keep(&rt, rt.alloc(), SURRENDERED, b"adggs");
 }
 
 // The commands of three actors among each other, of whom one has none.
@@ -157,21 +152,20 @@ fn are_scripts(rt: &impl Abort, scripts: &[Vec<Command>], wanted: Scripts) {
     }
 }
 
-fn deal(rt: &impl Abort, alloc: Global, text: &str, wanted: Scripts) -> Result<(), Fail> {
-    let mut file = read_day(alloc, text.as_bytes())?;
-    file.learn_applicants(alloc)?;
-    let (base, _, scripts) = file.into_scripts(alloc)?;
+fn deal(rt: &impl Abort, alloc: Global, text: &str, wanted: Scripts) {
+    let mut file = read_day(alloc, text.as_bytes()).expect(rt, text);
+    file.learn_applicants(alloc).expect(rt, "memory");
+    let (base, _, scripts) = file.into_scripts(alloc).expect(rt, "memory");
     are_scripts(rt, scripts.as_slice(), wanted);
     drop(base);
     drop(scripts);
-    Ok(())
 }
 
 #[test]
-fn gives_each_actor_its_commands(rt: HostRuntime) -> Result<(), Fail> {
-    deal(&rt, rt.alloc(), SHARED, &[b"sdg", b"", b"ds"])?;
-    deal(&rt, rt.alloc(), ISSUED, &[b"a"])?;
-    deal(&rt, rt.alloc(), EMPTY, &[])
+fn gives_each_actor_its_commands(rt: HostRuntime) {
+    deal(&rt, rt.alloc(), SHARED, &[b"sdg", b"", b"ds"]);
+    deal(&rt, rt.alloc(), ISSUED, &[b"a"]);
+    deal(&rt, rt.alloc(), EMPTY, &[]);
 }
 
 // The first record of the text that is refused, and why.
@@ -190,183 +184,176 @@ fn too_many(row: u64, kind: Kind) -> Option<DayFileRefusal> {
 }
 
 // What is refused where a record is the tenth, behind the nine of BEGUN.
-fn refusal_of_tenth(alloc: Global, record: &str) -> Result<Option<DayFileRefusal>, Fail> {
-    let mut text = BEGUN.as_bytes().to_vec(alloc)?;
-    text.extend_from_slice(record.as_bytes())?;
-    let found = refusal(alloc, text.as_slice());
-    drop(text);
-    Ok(found)
+fn refusal_of_tenth(rt: &impl Abort, alloc: Global, record: &str) -> Option<DayFileRefusal> {
+    let text = format!(in alloc; "{BEGUN}{record}").expect(rt, "memory");
+    refusal(alloc, text.as_bytes())
 }
 
 // Tries each record as the tenth.
-fn refuse(rt: &impl Abort, alloc: Global, rows: &[(&str, RecordCause)]) -> Result<(), Fail> {
+fn refuse(rt: &impl Abort, alloc: Global, rows: &[(&str, RecordCause)]) {
     for (row, &(record, cause)) in rows.iter().enumerate() {
-        same(rt, row, &refusal_of_tenth(alloc, record)?, &bad(10, cause));
+        same(
+            rt,
+            row,
+            &refusal_of_tenth(rt, alloc, record),
+            &bad(10, cause),
+        );
     }
-    Ok(())
 }
 
-#[test]
-fn refuses_records_that_are_none(rt: HostRuntime) -> Result<(), Fail> {
-    refuse(
-        &rt,
-        rt.alloc(),
-        &[
-            ("node,D,,,,,\n", RecordCause::Fields),
-            ("node,D,,,,,,,\n", RecordCause::Fields),
-            ("\"node", RecordCause::Fields),
-            ("road,D,,,,,,\n", RecordCause::Kind),
-            ("probe,240,1000,,,,,\n", RecordCause::Kind),
-            ("day,2026-03-02,,,,,,\n", RecordCause::Order),
-            ("node,D,x,,,,,\n", RecordCause::Extra),
-            ("segment,U,A,B,5,x,,\n", RecordCause::Extra),
-            ("limit,S,height,168,,,,x\n", RecordCause::Extra),
-            ("span,Q,S,240,1000,,x,\n", RecordCause::Extra),
-            ("truck,L,ACME,168,102,720,0:1 180:1,x\n", RecordCause::Extra),
-            ("actor,bob,x,,,,,\n", RecordCause::Extra),
-            ("post,ann,S,height,1,x,,\n", RecordCause::Extra),
-            ("setday,ann,2026-03-02,x,,,,\n", RecordCause::Extra),
-            ("surrender,ann,1,x,,,,\n", RecordCause::Extra),
-            ("show,ann,1,x,,,,\n", RecordCause::Extra),
-            ("end,x,,,,,,\n", RecordCause::Extra),
-            ("", RecordCause::End),
-        ],
-    )
-}
+const NONE: [(&str, RecordCause); 18] = [
+    ("node,D,,,,,\n", RecordCause::Fields),
+    ("node,D,,,,,,,\n", RecordCause::Fields),
+    ("\"node", RecordCause::Fields),
+    ("road,D,,,,,,\n", RecordCause::Kind),
+    ("probe,240,1000,,,,,\n", RecordCause::Kind),
+    ("day,2026-03-02,,,,,,\n", RecordCause::Order),
+    ("node,D,x,,,,,\n", RecordCause::Extra),
+    ("segment,U,A,B,5,x,,\n", RecordCause::Extra),
+    ("limit,S,height,168,,,,x\n", RecordCause::Extra),
+    ("span,Q,S,240,1000,,x,\n", RecordCause::Extra),
+    ("truck,L,ACME,168,102,720,0:1 180:1,x\n", RecordCause::Extra),
+    ("actor,bob,x,,,,,\n", RecordCause::Extra),
+    ("post,ann,S,height,1,x,,\n", RecordCause::Extra),
+    ("setday,ann,2026-03-02,x,,,,\n", RecordCause::Extra),
+    ("surrender,ann,1,x,,,,\n", RecordCause::Extra),
+    ("show,ann,1,x,,,,\n", RecordCause::Extra),
+    ("end,x,,,,,,\n", RecordCause::Extra),
+    ("", RecordCause::End),
+];
 
 #[test]
-fn refuses_fields_by_their_form(rt: HostRuntime) -> Result<(), Fail> {
-    refuse(
-        &rt,
-        rt.alloc(),
-        &[
-            ("node,,,,,,,\n", RecordCause::Field(2)),
-            ("node,12345678901234567,,,,,,\n", RecordCause::Field(2)),
-            ("segment,U,A,B,-5,,,\n", RecordCause::Field(5)),
-            ("segment,U,A,,1234567890,,,\n", RecordCause::Field(4)),
-            ("limit,S,rating,1,,,,\n", RecordCause::Field(3)),
-            ("span,Q,S,240,1 0,,,\n", RecordCause::Field(5)),
-            (
-                "truck,L,ACME,168,102,720,0:1;180:1,\n",
-                RecordCause::Field(7),
-            ),
-            ("post,ann,S,weight,1,,,\n", RecordCause::Field(4)),
-            ("setday,ann,2026/03/02,,,,,\n", RecordCause::Field(3)),
-            ("surrender,ann,x,,,,,\n", RecordCause::Field(3)),
-            (
-                "apply,ann,K,A,B,S  T,2026-03-02,2026-03-06\n",
-                RecordCause::Field(6),
-            ),
-            (
-                "apply,ann,K,A,B,,2026-3-02,2026-03-06\n",
-                RecordCause::Field(7),
-            ),
-            (
-                "apply,ann,K,A,B,,2026-03-02,20260306\n",
-                RecordCause::Field(8),
-            ),
-        ],
-    )
+fn refuses_records_that_are_none(rt: HostRuntime) {
+    refuse(&rt, rt.alloc(), &NONE);
 }
 
-#[test]
-fn refuses_names_that_are_taken_or_missing(rt: HostRuntime) -> Result<(), Fail> {
-    refuse(
-        &rt,
-        rt.alloc(),
-        &[
-            ("node,A,,,,,,\n", RecordCause::Same),
-            ("segment,S,D,D,0,,,\n", RecordCause::Same),
-            ("span,P,U,0,1000,,,\n", RecordCause::Same),
-            ("truck,K,ACME,0,102,720,0:1 180:1,\n", RecordCause::Same),
-            ("actor,ann,,,,,,\n", RecordCause::Same),
-            ("segment,U,D,D,0,,,\n", RecordCause::Unknown(3)),
-            ("segment,U,A,D,0,,,\n", RecordCause::Unknown(4)),
-            ("limit,U,height,0,,,,\n", RecordCause::Unknown(2)),
-            ("span,Q,U,0,1000,,,\n", RecordCause::Unknown(3)),
-            (
-                "apply,bob,L,D,D,U,0000-01-01,0000-01-01\n",
-                RecordCause::Unknown(2),
-            ),
-            (
-                "apply,ann,L,D,D,U,0000-01-01,0000-01-01\n",
-                RecordCause::Unknown(3),
-            ),
-            (
-                "apply,ann,K,D,D,U,0000-01-01,0000-01-01\n",
-                RecordCause::Unknown(4),
-            ),
-            (
-                "apply,ann,K,A,D,U,0000-01-01,0000-01-01\n",
-                RecordCause::Unknown(5),
-            ),
-            (
-                "apply,ann,K,A,A,S U,0000-01-01,0000-01-01\n",
-                RecordCause::Unknown(6),
-            ),
-            ("post,bob,U,height,0,,,\n", RecordCause::Unknown(2)),
-            ("post,ann,P,height,0,,,\n", RecordCause::Unknown(3)),
-            ("post,ann,S,rating,0,,,\n", RecordCause::Unknown(3)),
-            ("setday,bob,0000-01-01,,,,,\n", RecordCause::Unknown(2)),
-            ("show,bob,1,,,,,\n", RecordCause::Unknown(2)),
-        ],
-    )
-}
+const FORMS: [(&str, RecordCause); 13] = [
+    ("node,,,,,,,\n", RecordCause::Field(2)),
+    ("node,12345678901234567,,,,,,\n", RecordCause::Field(2)),
+    ("segment,U,A,B,-5,,,\n", RecordCause::Field(5)),
+    ("segment,U,A,,1234567890,,,\n", RecordCause::Field(4)),
+    ("limit,S,rating,1,,,,\n", RecordCause::Field(3)),
+    ("span,Q,S,240,1 0,,,\n", RecordCause::Field(5)),
+    (
+        "truck,L,ACME,168,102,720,0:1;180:1,\n",
+        RecordCause::Field(7),
+    ),
+    ("post,ann,S,weight,1,,,\n", RecordCause::Field(4)),
+    ("setday,ann,2026/03/02,,,,,\n", RecordCause::Field(3)),
+    ("surrender,ann,x,,,,,\n", RecordCause::Field(3)),
+    (
+        "apply,ann,K,A,B,S  T,2026-03-02,2026-03-06\n",
+        RecordCause::Field(6),
+    ),
+    (
+        "apply,ann,K,A,B,,2026-3-02,2026-03-06\n",
+        RecordCause::Field(7),
+    ),
+    (
+        "apply,ann,K,A,B,,2026-03-02,20260306\n",
+        RecordCause::Field(8),
+    ),
+];
 
 #[test]
-fn refuses_values_out_of_range(rt: HostRuntime) -> Result<(), Fail> {
-    refuse(
-        &rt,
-        rt.alloc(),
-        &[
-            ("segment,U,A,B,0,,,\n", RecordCause::Range(5)),
-            ("segment,U,A,B,10000001,,,\n", RecordCause::Range(5)),
-            ("limit,S,closed,2,,,,\n", RecordCause::Range(4)),
-            ("limit,S,height,1000,,,,\n", RecordCause::Range(4)),
-            ("span,Q,S,6001,100001,,,\n", RecordCause::Range(4)),
-            ("span,Q,S,240,100001,,,\n", RecordCause::Range(5)),
-            ("truck,L,ACME,0,0,0,0:1,\n", RecordCause::Range(4)),
-            ("truck,L,ACME,168,1000,0,0:1,\n", RecordCause::Range(5)),
-            ("truck,L,ACME,168,102,10000,0:1,\n", RecordCause::Range(6)),
-            ("truck,L,ACME,168,102,720,0:1,\n", RecordCause::Train(1)),
-            ("truck,L,ACME,168,102,720,0:1 0:1,\n", RecordCause::Train(3)),
-            (
-                "truck,L,ACME,168,102,720,0:1 180:0,\n",
-                RecordCause::Train(4),
-            ),
-            (
-                "truck,L,ACME,168,102,720,0:1 3001:1,\n",
-                RecordCause::Train(6),
-            ),
-            ("post,ann,S,gross,0,,,\n", RecordCause::Range(5)),
-            ("post,ann,P,rating,100001,,,\n", RecordCause::Range(5)),
-            ("setday,ann,2026-13-01,,,,,\n", RecordCause::Range(3)),
-            (
-                "apply,ann,K,A,A,S,2026-00-01,0000-01-01\n",
-                RecordCause::Range(7),
-            ),
-            (
-                "apply,ann,K,A,A,S,2026-03-02,0000-01-01\n",
-                RecordCause::Range(8),
-            ),
-            (
-                "apply,ann,K,A,A,S,2026-03-06,2026-03-02\n",
-                RecordCause::SamePlace,
-            ),
-            (
-                "apply,ann,K,A,C,S,2026-03-06,2026-03-02\n",
-                RecordCause::BrokenRoute,
-            ),
-            (
-                "apply,ann,K,A,C,T S,2026-03-06,2026-03-02\n",
-                RecordCause::BrokenRoute,
-            ),
-            (
-                "apply,ann,K,A,C,S T,2026-03-06,2026-03-02\n",
-                RecordCause::DayOrder,
-            ),
-        ],
-    )
+fn refuses_fields_by_their_form(rt: HostRuntime) {
+    refuse(&rt, rt.alloc(), &FORMS);
+}
+
+const NAMES: [(&str, RecordCause); 19] = [
+    ("node,A,,,,,,\n", RecordCause::Same),
+    ("segment,S,D,D,0,,,\n", RecordCause::Same),
+    ("span,P,U,0,1000,,,\n", RecordCause::Same),
+    ("truck,K,ACME,0,102,720,0:1 180:1,\n", RecordCause::Same),
+    ("actor,ann,,,,,,\n", RecordCause::Same),
+    ("segment,U,D,D,0,,,\n", RecordCause::Unknown(3)),
+    ("segment,U,A,D,0,,,\n", RecordCause::Unknown(4)),
+    ("limit,U,height,0,,,,\n", RecordCause::Unknown(2)),
+    ("span,Q,U,0,1000,,,\n", RecordCause::Unknown(3)),
+    (
+        "apply,bob,L,D,D,U,0000-01-01,0000-01-01\n",
+        RecordCause::Unknown(2),
+    ),
+    (
+        "apply,ann,L,D,D,U,0000-01-01,0000-01-01\n",
+        RecordCause::Unknown(3),
+    ),
+    (
+        "apply,ann,K,D,D,U,0000-01-01,0000-01-01\n",
+        RecordCause::Unknown(4),
+    ),
+    (
+        "apply,ann,K,A,D,U,0000-01-01,0000-01-01\n",
+        RecordCause::Unknown(5),
+    ),
+    (
+        "apply,ann,K,A,A,S U,0000-01-01,0000-01-01\n",
+        RecordCause::Unknown(6),
+    ),
+    ("post,bob,U,height,0,,,\n", RecordCause::Unknown(2)),
+    ("post,ann,P,height,0,,,\n", RecordCause::Unknown(3)),
+    ("post,ann,S,rating,0,,,\n", RecordCause::Unknown(3)),
+    ("setday,bob,0000-01-01,,,,,\n", RecordCause::Unknown(2)),
+    ("show,bob,1,,,,,\n", RecordCause::Unknown(2)),
+];
+
+#[test]
+fn refuses_names_that_are_taken_or_missing(rt: HostRuntime) {
+    refuse(&rt, rt.alloc(), &NAMES);
+}
+
+const VALUES: [(&str, RecordCause); 22] = [
+    ("segment,U,A,B,0,,,\n", RecordCause::Range(5)),
+    ("segment,U,A,B,10000001,,,\n", RecordCause::Range(5)),
+    ("limit,S,closed,2,,,,\n", RecordCause::Range(4)),
+    ("limit,S,height,1000,,,,\n", RecordCause::Range(4)),
+    ("span,Q,S,6001,100001,,,\n", RecordCause::Range(4)),
+    ("span,Q,S,240,100001,,,\n", RecordCause::Range(5)),
+    ("truck,L,ACME,0,0,0,0:1,\n", RecordCause::Range(4)),
+    ("truck,L,ACME,168,1000,0,0:1,\n", RecordCause::Range(5)),
+    ("truck,L,ACME,168,102,10000,0:1,\n", RecordCause::Range(6)),
+    ("truck,L,ACME,168,102,720,0:1,\n", RecordCause::Train(1)),
+    ("truck,L,ACME,168,102,720,0:1 0:1,\n", RecordCause::Train(3)),
+    (
+        "truck,L,ACME,168,102,720,0:1 180:0,\n",
+        RecordCause::Train(4),
+    ),
+    (
+        "truck,L,ACME,168,102,720,0:1 3001:1,\n",
+        RecordCause::Train(6),
+    ),
+    ("post,ann,S,gross,0,,,\n", RecordCause::Range(5)),
+    ("post,ann,P,rating,100001,,,\n", RecordCause::Range(5)),
+    ("setday,ann,2026-13-01,,,,,\n", RecordCause::Range(3)),
+    (
+        "apply,ann,K,A,A,S,2026-00-01,0000-01-01\n",
+        RecordCause::Range(7),
+    ),
+    (
+        "apply,ann,K,A,A,S,2026-03-02,0000-01-01\n",
+        RecordCause::Range(8),
+    ),
+    (
+        "apply,ann,K,A,A,S,2026-03-06,2026-03-02\n",
+        RecordCause::SamePlace,
+    ),
+    (
+        "apply,ann,K,A,C,S,2026-03-06,2026-03-02\n",
+        RecordCause::BrokenRoute,
+    ),
+    (
+        "apply,ann,K,A,C,T S,2026-03-06,2026-03-02\n",
+        RecordCause::BrokenRoute,
+    ),
+    (
+        "apply,ann,K,A,C,S T,2026-03-06,2026-03-02\n",
+        RecordCause::DayOrder,
+    ),
+];
+
+#[test]
+fn refuses_values_out_of_range(rt: HostRuntime) {
+    refuse(&rt, rt.alloc(), &VALUES);
 }
 
 // A text, its record that is refused, and why.
@@ -378,35 +365,33 @@ fn refuse_days(rt: &impl Abort, alloc: Global, cases: &[Refused]) {
     }
 }
 
+const PLACES: [Refused; 9] = [
+    (b"", 1, RecordCause::End),
+    (b"day,\"2026-0", 1, RecordCause::Fields),
+    (b"\x1f\x8b\x08", 1, RecordCause::Fields),
+    (b"node,A,,,,,,\n", 1, RecordCause::Order),
+    (b"end,,,,,,,\n", 1, RecordCause::Order),
+    (b"day,0000-01-01,,,,,,\n", 1, RecordCause::Range(2)),
+    (
+        b"day,2026-03-02,,,,,,\nend,,,,,,,\nend,,,,,,,\n",
+        3,
+        RecordCause::Order,
+    ),
+    (
+        b"day,2026-03-02,,,,,,\nend,,,,,,,\nroad,,,,,,,\n",
+        3,
+        RecordCause::Kind,
+    ),
+    (
+        b"day,2026-03-02,,,,,,\nnode,\xff,,,,,,\n",
+        2,
+        RecordCause::Fields,
+    ),
+];
+
 #[test]
 fn refuses_what_stands_at_no_place(rt: HostRuntime) {
-    refuse_days(
-        &rt,
-        rt.alloc(),
-        &[
-            (b"", 1, RecordCause::End),
-            (b"day,\"2026-0", 1, RecordCause::Fields),
-            (b"\x1f\x8b\x08", 1, RecordCause::Fields),
-            (b"node,A,,,,,,\n", 1, RecordCause::Order),
-            (b"end,,,,,,,\n", 1, RecordCause::Order),
-            (b"day,0000-01-01,,,,,,\n", 1, RecordCause::Range(2)),
-            (
-                b"day,2026-03-02,,,,,,\nend,,,,,,,\nend,,,,,,,\n",
-                3,
-                RecordCause::Order,
-            ),
-            (
-                b"day,2026-03-02,,,,,,\nend,,,,,,,\nroad,,,,,,,\n",
-                3,
-                RecordCause::Kind,
-            ),
-            (
-                b"day,2026-03-02,,,,,,\nnode,\xff,,,,,,\n",
-                2,
-                RecordCause::Fields,
-            ),
-        ],
-    );
+    refuse_days(&rt, rt.alloc(), &PLACES);
 }
 
 // What is refused of the first worked day with other axles, another end of the trip and another asked route.
@@ -454,32 +439,32 @@ fn refuses_each_front_of_a_day(rt: HostRuntime) {
 
 // Puts so many records behind a text, with numbers from 0 between two of their parts.
 fn add_records(
+    rt: &impl Abort,
     alloc: Global,
     text: &mut Vec<u8>,
     before: &str,
     after: &str,
     count: u32,
-) -> Result<(), Fail> {
+) {
     for i in 0..count {
-        let record = format!(in alloc; "{before}{i}{after}\n")?;
-        text.extend_from_slice(record.as_bytes())?;
+        let record = format!(in alloc; "{before}{i}{after}\n").expect(rt, "memory");
+        text.extend_from_slice(record.as_bytes())
+            .expect(rt, "memory");
     }
-    Ok(())
 }
 
 // What is refused where so many records stand behind a text.
 fn refusal_of_many(
+    rt: &impl Abort,
     alloc: Global,
     begun: &str,
     before: &str,
     after: &str,
     count: u32,
-) -> Result<Option<DayFileRefusal>, Fail> {
-    let mut text = begun.as_bytes().to_vec(alloc)?;
-    add_records(alloc, &mut text, before, after, count)?;
-    let found = refusal(alloc, text.as_slice());
-    drop(text);
-    Ok(found)
+) -> Option<DayFileRefusal> {
+    let mut text = begun.as_bytes().to_vec(alloc).expect(rt, "memory");
+    add_records(rt, alloc, &mut text, before, after, count);
+    refusal(alloc, text.as_slice())
 }
 
 // What stands in a record before its number and behind it, how many more are allowed behind BEGUN, and the
@@ -487,68 +472,63 @@ fn refusal_of_many(
 type Room = (&'static str, &'static str, u32, Kind);
 
 // As many as are allowed are taken, and the next is refused.
-fn count_each(rt: &impl Abort, alloc: Global, rows: &[Room]) -> Result<(), Fail> {
+fn count_each(rt: &impl Abort, alloc: Global, rows: &[Room]) {
     for (row, &(before, after, room, kind)) in rows.iter().enumerate() {
-        let found = refusal_of_many(alloc, BEGUN, before, after, room.wrapping_add(1))?;
+        let found = refusal_of_many(rt, alloc, BEGUN, before, after, room.wrapping_add(1));
         same(rt, row, &found, &too_many(u64::from(room) + 10, kind));
     }
-    Ok(())
 }
 
+const ROOMS: [Room; 6] = [
+    ("node,n", ",,,,,,", 4_093, Kind::Nodes),
+    ("segment,s", ",A,A,1,,,", 16_382, Kind::Segments),
+    ("span,p", ",S,1,0,,,", 15, Kind::SpansOfSegment),
+    ("truck,t", ",ACME,1,1,1,0:1 1:1,", 63, Kind::Trucks),
+    ("actor,a", ",,,,,,", 15, Kind::Actors),
+    ("show,ann,", ",,,,,", 4_096, Kind::Commands),
+];
+
 #[test]
-fn counts_records_of_a_kind(rt: HostRuntime) -> Result<(), Fail> {
-    count_each(
-        &rt,
-        rt.alloc(),
-        &[
-            ("node,n", ",,,,,,", 4_093, Kind::Nodes),
-            ("segment,s", ",A,A,1,,,", 16_382, Kind::Segments),
-            ("span,p", ",S,1,0,,,", 15, Kind::SpansOfSegment),
-            ("truck,t", ",ACME,1,1,1,0:1 1:1,", 63, Kind::Trucks),
-            ("actor,a", ",,,,,,", 15, Kind::Actors),
-            ("show,ann,", ",,,,,", 4_096, Kind::Commands),
-        ],
-    )
+fn counts_records_of_a_kind(rt: HostRuntime) {
+    count_each(&rt, rt.alloc(), &ROOMS);
 }
 
 // A day record, one actor and 4,097 commands.
 #[test]
-fn counts_commands(rt: HostRuntime) -> Result<(), Fail> {
+fn counts_commands(rt: HostRuntime) {
     let begun = "day,2026-03-02,,,,,,\nactor,ann,,,,,,\n";
-    let found = refusal_of_many(rt.alloc(), begun, "show,ann,", ",,,,,", 4_097)?;
+    let found = refusal_of_many(&rt, rt.alloc(), begun, "show,ann,", ",,,,,", 4_097);
     same(&rt, 0, &found, &too_many(4_099, Kind::Commands));
-    Ok(())
 }
 
 // Puts so many spans behind a text, 16 on each segment.
-fn add_spans(alloc: Global, text: &mut Vec<u8>, count: u32) -> Result<(), Fail> {
+fn add_spans(rt: &impl Abort, alloc: Global, text: &mut Vec<u8>, count: u32) {
     for i in 0..count {
         let segment = i / 16;
-        let record = format!(in alloc; "span,p{i},s{segment},1,0,,,\n")?;
-        text.extend_from_slice(record.as_bytes())?;
+        let record = format!(in alloc; "span,p{i},s{segment},1,0,,,\n").expect(rt, "memory");
+        text.extend_from_slice(record.as_bytes())
+            .expect(rt, "memory");
     }
-    Ok(())
 }
 
 fn refusal_of_spans(
+    rt: &impl Abort,
     alloc: Global,
     segments: u32,
     count: u32,
-) -> Result<Option<DayFileRefusal>, Fail> {
-    let mut text = b"day,2026-03-02,,,,,,\nnode,A,,,,,,\n".to_vec(alloc)?;
-    add_records(alloc, &mut text, "segment,s", ",A,A,1,,,", segments)?;
-    add_spans(alloc, &mut text, count)?;
-    let found = refusal(alloc, text.as_slice());
-    drop(text);
-    Ok(found)
+) -> Option<DayFileRefusal> {
+    let begun = b"day,2026-03-02,,,,,,\nnode,A,,,,,,\n";
+    let mut text = begun.to_vec(alloc).expect(rt, "memory");
+    add_records(rt, alloc, &mut text, "segment,s", ",A,A,1,,,", segments);
+    add_spans(rt, alloc, &mut text, count);
+    refusal(alloc, text.as_slice())
 }
 
 // 129 segments, 128 of them with 16 spans each and the last with one.
 #[test]
-fn counts_spans(rt: HostRuntime) -> Result<(), Fail> {
-    let found = refusal_of_spans(rt.alloc(), 129, 2_049)?;
+fn counts_spans(rt: HostRuntime) {
+    let found = refusal_of_spans(&rt, rt.alloc(), 129, 2_049);
     same(&rt, 0, &found, &too_many(2_180, Kind::Spans));
-    Ok(())
 }
 
 // The first record of a check file that is refused, and why.
@@ -562,51 +542,49 @@ fn refuse_checks(rt: &impl Abort, alloc: Global, cases: &[Refused]) {
     }
 }
 
+const CHECKS: [Refused; 13] = [
+    (b"", 1, RecordCause::End),
+    (b"probe,240,1000,,,,,\n", 1, RecordCause::Order),
+    (b"truck,T,A,1,1,1,0:1 1:1,\n", 2, RecordCause::End),
+    (
+        b"truck,T,A,1,1,1,0:1 1:1,\ntruck,T,A,1,1,1,0:1 1:1,\n",
+        2,
+        RecordCause::Order,
+    ),
+    (
+        b"truck,T,A,1,1,1,0:1 1:1,\nend,,,,,,,\nend,,,,,,,\n",
+        3,
+        RecordCause::Order,
+    ),
+    (
+        b"truck,T,A,1,1,1,0:1 1:1,\nnode,A,,,,,,\n",
+        2,
+        RecordCause::Kind,
+    ),
+    (b"truck,T,A,1,1,1,0:1 1:1,x\n", 1, RecordCause::Extra),
+    (b"truck,T,A B,1,1,1,0:1 1:1,\n", 1, RecordCause::Field(3)),
+    (b"truck,T,A,1,1,0,0:1,\n", 1, RecordCause::Range(6)),
+    (b"truck,T,A,1,1,1,0:1,\n", 1, RecordCause::Train(1)),
+    (
+        b"truck,T,A,1,1,1,0:1 1:1,\nprobe,0,x,,,,,\n",
+        2,
+        RecordCause::Field(3),
+    ),
+    (
+        b"truck,T,A,1,1,1,0:1 1:1,\nprobe,0,100001,,,,,\n",
+        2,
+        RecordCause::Range(2),
+    ),
+    (
+        b"truck,T,A,1,1,1,0:1 1:1,\nprobe,6000,100001,,,,,\n",
+        2,
+        RecordCause::Range(3),
+    ),
+];
+
 #[test]
 fn refuses_what_is_no_check_file(rt: HostRuntime) {
-    refuse_checks(
-        &rt,
-        rt.alloc(),
-        &[
-            (b"", 1, RecordCause::End),
-            (b"probe,240,1000,,,,,\n", 1, RecordCause::Order),
-            (b"truck,T,A,1,1,1,0:1 1:1,\n", 2, RecordCause::End),
-            (
-                b"truck,T,A,1,1,1,0:1 1:1,\ntruck,T,A,1,1,1,0:1 1:1,\n",
-                2,
-                RecordCause::Order,
-            ),
-            (
-                b"truck,T,A,1,1,1,0:1 1:1,\nend,,,,,,,\nend,,,,,,,\n",
-                3,
-                RecordCause::Order,
-            ),
-            (
-                b"truck,T,A,1,1,1,0:1 1:1,\nnode,A,,,,,,\n",
-                2,
-                RecordCause::Kind,
-            ),
-            (b"truck,T,A,1,1,1,0:1 1:1,x\n", 1, RecordCause::Extra),
-            (b"truck,T,A B,1,1,1,0:1 1:1,\n", 1, RecordCause::Field(3)),
-            (b"truck,T,A,1,1,0,0:1,\n", 1, RecordCause::Range(6)),
-            (b"truck,T,A,1,1,1,0:1,\n", 1, RecordCause::Train(1)),
-            (
-                b"truck,T,A,1,1,1,0:1 1:1,\nprobe,0,x,,,,,\n",
-                2,
-                RecordCause::Field(3),
-            ),
-            (
-                b"truck,T,A,1,1,1,0:1 1:1,\nprobe,0,100001,,,,,\n",
-                2,
-                RecordCause::Range(2),
-            ),
-            (
-                b"truck,T,A,1,1,1,0:1 1:1,\nprobe,6000,100001,,,,,\n",
-                2,
-                RecordCause::Range(3),
-            ),
-        ],
-    );
+    refuse_checks(&rt, rt.alloc(), &CHECKS);
 }
 
 #[test]

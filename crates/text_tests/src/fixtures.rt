@@ -7,3 +7,8 @@ use std::process::Abort;
 pub fn same<T: PartialEq + Debug>(rt: &impl Abort, row: usize, found: &T, wanted: &T) {
     assert_eq!(rt; found, wanted, "row {row}");
 }
+
+// What is said of a text is so.
+pub fn holds(rt: &impl Abort, fact: bool, text: &str) {
+    assert!(rt; fact, "{text}");
+}

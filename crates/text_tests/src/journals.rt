@@ -1,8 +1,8 @@
+use crate::fixtures::holds;
 use journal_reader::{JournalRefusal, read};
 use journal_text::print;
 use std::alloc::Global;
 use std::process::Abort;
-use std::test::Fail;
 
 // A day of one application.
 const ONE_TRIP: &str = "permit-journal 1
@@ -70,31 +70,28 @@ end 25
 ";
 
 // What is read is printed as the same text.
-fn reads_back(rt: &impl Abort, alloc: Global, text: &str) -> Result<(), Fail> {
-    let history = read(alloc, text.as_bytes())?;
-    let printed = print(alloc, history.as_slice());
+fn reads_back(rt: &impl Abort, alloc: Global, text: &str) {
+    let history = read(alloc, text.as_bytes()).expect(rt, text);
+    let printed = print(alloc, history.as_slice()).expect(rt, "memory");
     drop(history);
-    let printed = printed?;
-    let same = printed.as_slice() == text.as_bytes();
-    drop(printed);
-    assert!(rt; same, "{text}");
-    Ok(())
+    holds(rt, printed.as_slice() == text.as_bytes(), text);
 }
 
+// Texts that are journals.
+const JOURNALS: [&str; 6] = [
+    "permit-journal 1\nend 0\n",
+    ONE_TRIP,
+    BRIDGE,
+    NO_ROAD,
+    RECALL,
+    FORMS,
+];
+
 #[test]
-fn journals_are_read_and_printed_again(rt: HostRuntime) -> Result<(), Fail> {
-    let alloc = rt.alloc();
-    for text in [
-        "permit-journal 1\nend 0\n",
-        ONE_TRIP,
-        BRIDGE,
-        NO_ROAD,
-        RECALL,
-        FORMS,
-    ] {
-        reads_back(&rt, alloc, text)?;
+fn journals_are_read_and_printed_again(rt: HostRuntime) {
+    for text in JOURNALS {
+        reads_back(&rt, rt.alloc(), text);
     }
-    Ok(())
 }
 
 // The row of the bad line, where the text is refused for one.
@@ -109,124 +106,129 @@ fn bad_row(alloc: Global, text: &str) -> Option<u64> {
     }
 }
 
+// Texts that are none, and the row of the first line that no journal has there.
+const BAD_JOURNALS: [(&str, u64); 19] = [
+    // no first line, a part of it, another, and none but it
+    ("", 1),
+    ("\n", 1),
+    ("permit-journal 1", 1),
+    ("permit-journal 2\nend 0\n", 1),
+    ("permit-journal 1\n", 2),
+    // a zero in front; the same line is bad whatever follows
+    ("permit-journal 1\n1 snapshot = at 00\nend 1\n", 2),
+    ("permit-journal 1\n1 snapshot = at 00", 2),
+    // a last line without its line feed, though it is the end line
+    ("permit-journal 1\n1 snapshot = at 0\nend 1", 3),
+    ("permit-journal 1\n1 snapshot = at 0", 2),
+    // no end line
+    ("permit-journal 1\n1 snapshot = at 0\n", 3),
+    // an end line with another count, too early, or written otherwise
+    ("permit-journal 1\n1 snapshot = at 0\nend 2\n", 3),
+    ("permit-journal 1\nend 1\n", 2),
+    ("permit-journal 1\nend 00\n", 2),
+    ("permit-journal 1\nend  0\n", 2),
+    // anything after the end line
+    ("permit-journal 1\nend 0\n\n", 3),
+    ("permit-journal 1\nend 0\nx", 3),
+    ("permit-journal 1\nend 0\nend 0\n", 3),
+    // an empty line, and a carriage return
+    ("permit-journal 1\n\nend 0\n", 2),
+    ("permit-journal 1\r\nend 0\n", 1),
+];
+
 #[test]
 fn names_the_first_line_that_no_journal_has(rt: HostRuntime) {
-    let alloc = rt.alloc();
-    for (text, row) in [
-        // no first line, a part of it, another, and none but it
-        ("", 1),
-        ("\n", 1),
-        ("permit-journal 1", 1),
-        ("permit-journal 2\nend 0\n", 1),
-        ("permit-journal 1\n", 2),
-        // a zero in front; the same line is bad whatever follows
-        ("permit-journal 1\n1 snapshot = at 00\nend 1\n", 2),
-        ("permit-journal 1\n1 snapshot = at 00", 2),
-        // a last line without its line feed, though it is the end line
-        ("permit-journal 1\n1 snapshot = at 0\nend 1", 3),
-        ("permit-journal 1\n1 snapshot = at 0", 2),
-        // no end line
-        ("permit-journal 1\n1 snapshot = at 0\n", 3),
-        // an end line with another count, too early, or written otherwise
-        ("permit-journal 1\n1 snapshot = at 0\nend 2\n", 3),
-        ("permit-journal 1\nend 1\n", 2),
-        ("permit-journal 1\nend 00\n", 2),
-        ("permit-journal 1\nend  0\n", 2),
-        // anything after the end line
-        ("permit-journal 1\nend 0\n\n", 3),
-        ("permit-journal 1\nend 0\nx", 3),
-        ("permit-journal 1\nend 0\nend 0\n", 3),
-        // an empty line, and a carriage return
-        ("permit-journal 1\n\nend 0\n", 2),
-        ("permit-journal 1\r\nend 0\n", 1),
-    ] {
-        assert!(rt; bad_row(alloc, text) == Some(row), "{text}");
+    for (text, row) in BAD_JOURNALS {
+        holds(&rt, bad_row(rt.alloc(), text) == Some(row), text);
     }
 }
 
 // The journal of one application with one text in place of another.
-fn changed(alloc: Global, old: &str, new: &str) -> Result<Option<u64>, Fail> {
-    let text = ONE_TRIP.replace(alloc, old, new)?;
-    Ok(bad_row(alloc, text.as_str()))
+fn changed(rt: &impl Abort, alloc: Global, old: &str, new: &str) -> Option<u64> {
+    let text = ONE_TRIP.replace(alloc, old, new).expect(rt, "memory");
+    bad_row(alloc, text.as_str())
 }
 
+// What stands in place of what, and the row of the line that is bad then.
+const CHANGES: [(&str, &str, u64); 5] = [
+    ("= at 0\n", "= at 00\n", 2),
+    ("end 2\n", "end 2", 4),
+    ("end 2\n", "end 3\n", 4),
+    ("end 2\n", "end 2\n1 snapshot = at 0\n", 5),
+    (" issued", "  issued", 3),
+];
+
 #[test]
-fn names_the_line_that_was_changed(rt: HostRuntime) -> Result<(), Fail> {
-    let alloc = rt.alloc();
-    for (old, new, row) in [
-        ("= at 0\n", "= at 00\n", 2),
-        ("end 2\n", "end 2", 4),
-        ("end 2\n", "end 3\n", 4),
-        ("end 2\n", "end 2\n1 snapshot = at 0\n", 5),
-        (" issued", "  issued", 3),
-    ] {
-        assert!(rt; changed(alloc, old, new)? == Some(row), "{new}");
+fn names_the_line_that_was_changed(rt: HostRuntime) {
+    for (old, new, row) in CHANGES {
+        holds(&rt, changed(&rt, rt.alloc(), old, new) == Some(row), new);
     }
-    Ok(())
 }
 
 // A journal of this one line names it.
-fn is_bad_line(alloc: Global, line: &str) -> Result<bool, Fail> {
-    let text = format!(in alloc; "permit-journal 1\n{line}\nend 1\n")?;
-    Ok(bad_row(alloc, text.as_str()) == Some(2))
+fn is_bad_line(rt: &impl Abort, alloc: Global, line: &str) -> bool {
+    let text = format!(in alloc; "permit-journal 1\n{line}\nend 1\n").expect(rt, "memory");
+    bad_row(alloc, text.as_str()) == Some(2)
 }
 
+// Lines that no journal has.
+const FAULTS: [&str; 45] = [
+    // indices and numbers out of range, with a sign, with a zero in front, or none
+    "0 snapshot = at 0",
+    "65537 snapshot = at 0",
+    "01 snapshot = at 0",
+    "1 snapshot = at 4294967296",
+    "1 snapshot = at 18446744073709551616",
+    "1 snapshot = at +0",
+    "1 snapshot = at -0",
+    "1 snapshot = at ",
+    "1 snapshot = at x",
+    // spaces
+    " 1 snapshot = at 0",
+    "1  snapshot = at 0",
+    "1 snapshot = at 0 ",
+    "1 snapshot\t= at 0",
+    "1 snapshot = at 0\r",
+    // words that are missing, too many, or another
+    "1 snapshot at 0",
+    "1 snapshot =",
+    "1 snapshot",
+    "1 = at 0",
+    "1 snapshot = at 0 0",
+    "1 Snapshot = at 0",
+    "1 snapshot = full 1",
+    "1 post segment 1 closed 2 = range",
+    "1 post segment 1 rating 2 = range",
+    "1 post span 1 height 2 = range",
+    "1 held truck 1 from 1 to 2 days 2026-03-02 2026-03-06 asked none = noroad",
+    // lists
+    "1 snapshot = posted 1 recalled ",
+    "1 snapshot = posted 1 recalled 1,",
+    "1 snapshot = posted 1 recalled ,1",
+    "1 snapshot = posted 1 recalled 1,,2",
+    "1 snapshot = posted 1 recalled 1, 2",
+    "1 snapshot = posted 1 recalled -,1",
+    "1 snapshot = issued 1 at 0 route 0",
+    "1 snapshot = issued 1 at 0 route 65537",
+    "1 snapshot = issued 1 at 0 route none",
+    // days
+    "1 day 2026-02-30 = range",
+    "1 day 2026-3-02 = range",
+    // fractions and groups
+    "1 snapshot = refused 0 segment 1 span 2 shear 2/4 hs20 5/3 rating 4",
+    "1 snapshot = refused 0 segment 1 span 2 shear 0/2 hs20 5/3 rating 4",
+    "1 snapshot = refused 0 segment 1 span 2 shear 1/0 hs20 5/3 rating 4",
+    "1 snapshot = refused 0 segment 1 span 2 shear 5 hs20 5/3 rating 4",
+    "1 snapshot = refused 0 segment 1 span 2 shear 5/1/1 hs20 5/3 rating 4",
+    "1 snapshot = refused 0 segment 1 span 2 shear 340282366920938463463374607431768211456/1 hs20 5/3 rating 4",
+    "1 snapshot = refused 0 segment 1 group 1-0 weight 1 limit 2 allowance 3",
+    "1 snapshot = refused 0 segment 1 group 1 weight 1 limit 2 allowance 3",
+    "1 snapshot = refused 0 segment 1 height 2 under 1",
+];
+
 #[test]
-fn takes_no_line_with_a_fault(rt: HostRuntime) -> Result<(), Fail> {
-    for line in [
-        // indices and numbers out of range, with a sign, with a zero in front, or none
-        "0 snapshot = at 0",
-        "65537 snapshot = at 0",
-        "01 snapshot = at 0",
-        "1 snapshot = at 4294967296",
-        "1 snapshot = at 18446744073709551616",
-        "1 snapshot = at +0",
-        "1 snapshot = at -0",
-        "1 snapshot = at ",
-        "1 snapshot = at x",
-        // spaces
-        " 1 snapshot = at 0",
-        "1  snapshot = at 0",
-        "1 snapshot = at 0 ",
-        "1 snapshot\t= at 0",
-        "1 snapshot = at 0\r",
-        // words that are missing, too many, or another
-        "1 snapshot at 0",
-        "1 snapshot =",
-        "1 snapshot",
-        "1 = at 0",
-        "1 snapshot = at 0 0",
-        "1 Snapshot = at 0",
-        "1 snapshot = full 1",
-        "1 post segment 1 closed 2 = range",
-        "1 post segment 1 rating 2 = range",
-        "1 post span 1 height 2 = range",
-        "1 held truck 1 from 1 to 2 days 2026-03-02 2026-03-06 asked none = noroad",
-        // lists
-        "1 snapshot = posted 1 recalled ",
-        "1 snapshot = posted 1 recalled 1,",
-        "1 snapshot = posted 1 recalled ,1",
-        "1 snapshot = posted 1 recalled 1,,2",
-        "1 snapshot = posted 1 recalled 1, 2",
-        "1 snapshot = posted 1 recalled -,1",
-        "1 snapshot = issued 1 at 0 route 0",
-        "1 snapshot = issued 1 at 0 route 65537",
-        "1 snapshot = issued 1 at 0 route none",
-        // days
-        "1 day 2026-02-30 = range",
-        "1 day 2026-3-02 = range",
-        // fractions and groups
-        "1 snapshot = refused 0 segment 1 span 2 shear 2/4 hs20 5/3 rating 4",
-        "1 snapshot = refused 0 segment 1 span 2 shear 0/2 hs20 5/3 rating 4",
-        "1 snapshot = refused 0 segment 1 span 2 shear 1/0 hs20 5/3 rating 4",
-        "1 snapshot = refused 0 segment 1 span 2 shear 5 hs20 5/3 rating 4",
-        "1 snapshot = refused 0 segment 1 span 2 shear 5/1/1 hs20 5/3 rating 4",
-        "1 snapshot = refused 0 segment 1 span 2 shear 340282366920938463463374607431768211456/1 hs20 5/3 rating 4",
-        "1 snapshot = refused 0 segment 1 group 1-0 weight 1 limit 2 allowance 3",
-        "1 snapshot = refused 0 segment 1 group 1 weight 1 limit 2 allowance 3",
-        "1 snapshot = refused 0 segment 1 height 2 under 1",
-    ] {
-        assert!(rt; is_bad_line(rt.alloc(), line)?, "{line}");
+fn takes_no_line_with_a_fault(rt: HostRuntime) {
+    for line in FAULTS {
+        holds(&rt, is_bad_line(&rt, rt.alloc(), line), line);
     }
-    Ok(())
 }

@@ -1,6 +1,6 @@
+use crate::fixtures::same;
 use day_maker::make_day;
 use day_text::read_day;
-use std::test::Fail;
 
 const BEGINNING: &str = "\
 day,2026-01-01,,,,,,
@@ -22,18 +22,20 @@ span,b1-0,e1-0,996,1489,,,
 
 // The draws from seed 1 are 149, 11249, 57305, 38044, 35283, 24819, 26463 and 18689, worked by hand.
 #[test]
-fn begins_as_worked_by_hand(rt: HostRuntime) -> Result<(), Fail> {
-    let text = make_day(rt.alloc(), 1, 1)?;
+fn begins_as_worked_by_hand(rt: HostRuntime) {
+    let text = make_day(rt.alloc(), 1, 1).expect(&rt, "memory");
     assert!(rt; text.as_slice().starts_with(BEGINNING.as_bytes()));
-    Ok(())
 }
 
 #[test]
-fn is_read_as_a_day_file(rt: HostRuntime) -> Result<(), Fail> {
-    let text = make_day(rt.alloc(), 65535, 3)?;
-    let file = read_day(rt.alloc(), text.as_slice())?;
-    assert_eq!(rt; file.base().fleet().len(), 4);
-    assert_eq!(rt; file.actors().len(), 4);
-    assert_eq!(rt; file.commands().len(), 60);
-    Ok(())
+fn is_read_as_a_day_file(rt: HostRuntime) {
+    let text = make_day(rt.alloc(), 65535, 3).expect(&rt, "memory");
+    let file = read_day(rt.alloc(), text.as_slice()).expect(&rt, "a day file");
+    let counts = [
+        file.base().fleet().len(),
+        file.actors().len(),
+        file.commands().len(),
+    ];
+    drop(file);
+    same(&rt, 0, &counts, &[4, 4, 60]);
 }

@@ -1,5 +1,6 @@
 // The lines that entries are printed as. They stand here, and not in the crate of the printer, which is proved once so.
 
+use crate::fixtures::holds;
 use clearance_rules::Limit;
 use influence_line::Frac;
 use journal_text::print;
@@ -10,7 +11,6 @@ use restriction_log::Change;
 use road_graph::Numbers;
 use std::alloc::Global;
 use std::process::Abort;
-use std::test::Fail;
 use trip_analysis::{Application, Proposal, What};
 
 // The day of a text, which writes one.
@@ -75,33 +75,24 @@ fn shown(rt: &impl Abort, status: Status) -> Reply {
     }
 }
 
-// The journal of one entry has this line.
-fn is_journal_of(rt: &impl Abort, alloc: Global, text: &[u8], line: &str) -> Result<(), Fail> {
-    let wanted = format!(in alloc; "permit-journal 1\n1 {line}\nend 1\n")?;
-    assert_eq!(rt; text, wanted.as_bytes(), "{line}");
-    Ok(())
-}
-
 // An entry is written as this line. What was built is let go by a call of `drop`: where a scope lets it go,
 // the proof of the whole function goes through its parts.
-fn is_line(rt: &impl Abort, alloc: Global, entry: (Call, Reply), line: &str) -> Result<(), Fail> {
+fn is_line(rt: &impl Abort, alloc: Global, entry: (Call, Reply), line: &str) {
     let (call, reply) = entry;
     let history = [Entry {
         caller: 0,
         call,
         reply,
     }];
-    let text = print(alloc, &history);
+    let text = print(alloc, &history).expect(rt, "memory");
     drop(history);
-    let text = text?;
-    let told = is_journal_of(rt, alloc, text.as_slice(), line);
-    drop(text);
-    told
+    let wanted = format!(in alloc; "permit-journal 1\n1 {line}\nend 1\n").expect(rt, "memory");
+    holds(rt, text.as_slice() == wanted.as_bytes(), line);
 }
 
 // Forms of a line that no file of `examples/` shows.
 #[test]
-fn writes_what_is_submitted(rt: HostRuntime) -> Result<(), Fail> {
+fn writes_what_is_submitted(rt: HostRuntime) {
     let alloc = rt.alloc();
     let segment = 0;
     is_line(
@@ -109,7 +100,7 @@ fn writes_what_is_submitted(rt: HostRuntime) -> Result<(), Fail> {
         alloc,
         (Call::Snapshot, Reply::SnapshotAt { version: 0 }),
         "snapshot = at 0",
-    )?;
+    );
     is_line(
         &rt,
         alloc,
@@ -122,7 +113,7 @@ fn writes_what_is_submitted(rt: HostRuntime) -> Result<(), Fail> {
             },
         ),
         "submit truck 1 from 1 to 2 asked none days 2026-03-02 2026-03-06 seen 0 route 1 = issued 1 at 0 route 1",
-    )?;
+    );
     is_line(
         &rt,
         alloc,
@@ -131,7 +122,7 @@ fn writes_what_is_submitted(rt: HostRuntime) -> Result<(), Fail> {
             Reply::NoRoad,
         ),
         "submit truck 1 from 1 to 2 asked none days 2026-03-02 2026-03-06 seen 0 cut 1 = noroad",
-    )?;
+    );
     is_line(
         &rt,
         alloc,
@@ -148,7 +139,7 @@ fn writes_what_is_submitted(rt: HostRuntime) -> Result<(), Fail> {
             },
         ),
         "submit truck 1 from 1 to 2 asked 1 days 2026-03-02 2026-03-06 seen 0 fails 1 = refused 0 segment 1 closed",
-    )?;
+    );
     is_line(
         &rt,
         alloc,
@@ -157,7 +148,7 @@ fn writes_what_is_submitted(rt: HostRuntime) -> Result<(), Fail> {
             Reply::NotNeeded,
         ),
         "submit truck 1 from 1 to 2 asked none days 2026-03-02 2026-03-06 seen 0 none = notneeded",
-    )?;
+    );
     is_line(
         &rt,
         alloc,
@@ -168,7 +159,7 @@ fn writes_what_is_submitted(rt: HostRuntime) -> Result<(), Fail> {
             },
         ),
         "submit truck 1 from 1 to 2 asked none days 2026-03-01 2026-03-06 seen 0 none = late 2026-03-02",
-    )?;
+    );
     is_line(
         &rt,
         alloc,
@@ -180,12 +171,11 @@ fn writes_what_is_submitted(rt: HostRuntime) -> Result<(), Fail> {
             },
         ),
         "submit truck 1 from 1 to 2 asked none days 2026-03-02 2026-03-06 seen 0 none = outdated 1 meets segment 1",
-    )?;
-    Ok(())
+    );
 }
 
 #[test]
-fn writes_each_limit_that_fails(rt: HostRuntime) -> Result<(), Fail> {
+fn writes_each_limit_that_fails(rt: HostRuntime) {
     let alloc = rt.alloc();
     let segment = 0;
     let shear = Frac::reduced(41_600, 1);
@@ -201,7 +191,7 @@ fn writes_each_limit_that_fails(rt: HostRuntime) -> Result<(), Fail> {
             },
         ),
         "held truck 1 from 1 to 2 asked none days 2026-03-02 2026-03-06 = refused 1 segment 1 height 168 over 167",
-    )?;
+    );
     is_line(
         &rt,
         alloc,
@@ -214,7 +204,7 @@ fn writes_each_limit_that_fails(rt: HostRuntime) -> Result<(), Fail> {
             },
         ),
         "held truck 1 from 1 to 2 asked none days 2026-03-02 2026-03-06 = refused 1 segment 1 width 110 over 109",
-    )?;
+    );
     is_line(
         &rt,
         alloc,
@@ -227,7 +217,7 @@ fn writes_each_limit_that_fails(rt: HostRuntime) -> Result<(), Fail> {
             },
         ),
         "held truck 1 from 1 to 2 asked none days 2026-03-02 2026-03-06 = refused 1 segment 1 length 720 over 719",
-    )?;
+    );
     is_line(
         &rt,
         alloc,
@@ -240,7 +230,7 @@ fn writes_each_limit_that_fails(rt: HostRuntime) -> Result<(), Fail> {
             },
         ),
         "held truck 1 from 1 to 2 asked none days 2026-03-02 2026-03-06 = refused 1 segment 1 gross 80000 over 79999",
-    )?;
+    );
     is_line(
         &rt,
         alloc,
@@ -255,12 +245,11 @@ fn writes_each_limit_that_fails(rt: HostRuntime) -> Result<(), Fail> {
             },
         ),
         "held truck 1 from 1 to 2 asked none days 2026-03-02 2026-03-06 = refused 1 segment 1 span 1 shear 41600/1 hs20 41600/1 rating 999",
-    )?;
-    Ok(())
+    );
 }
 
 #[test]
-fn writes_what_is_posted(rt: HostRuntime) -> Result<(), Fail> {
+fn writes_what_is_posted(rt: HostRuntime) {
     let alloc = rt.alloc();
     let segment = 0;
     is_line(
@@ -274,7 +263,7 @@ fn writes_what_is_posted(rt: HostRuntime) -> Result<(), Fail> {
             },
         ),
         "post segment 1 closed 1 = posted 1 recalled -",
-    )?;
+    );
     is_line(
         &rt,
         alloc,
@@ -286,7 +275,7 @@ fn writes_what_is_posted(rt: HostRuntime) -> Result<(), Fail> {
             },
         ),
         "post segment 1 width 102 = posted 1 recalled -",
-    )?;
+    );
     is_line(
         &rt,
         alloc,
@@ -298,7 +287,7 @@ fn writes_what_is_posted(rt: HostRuntime) -> Result<(), Fail> {
             },
         ),
         "post segment 1 length 720 = posted 1 recalled -",
-    )?;
+    );
     is_line(
         &rt,
         alloc,
@@ -310,12 +299,11 @@ fn writes_what_is_posted(rt: HostRuntime) -> Result<(), Fail> {
             },
         ),
         "post segment 1 gross 80000 = posted 1 recalled -",
-    )?;
-    Ok(())
+    );
 }
 
 #[test]
-fn writes_what_is_said_of_days_and_permits(rt: HostRuntime) -> Result<(), Fail> {
+fn writes_what_is_said_of_days_and_permits(rt: HostRuntime) {
     let alloc = rt.alloc();
     is_line(
         &rt,
@@ -329,13 +317,13 @@ fn writes_what_is_said_of_days_and_permits(rt: HostRuntime) -> Result<(), Fail> 
             },
         ),
         "day 2026-03-07 = day 2026-03-07",
-    )?;
+    );
     is_line(
         &rt,
         alloc,
         (Call::Show { number: 1 }, shown(&rt, Status::InForce)),
         "show 1 = shown 1 caller 1 truck 1 days 2026-03-02 2026-03-06 at 0 seen 0 inforce",
-    )?;
+    );
     is_line(
         &rt,
         alloc,
@@ -346,6 +334,5 @@ fn writes_what_is_said_of_days_and_permits(rt: HostRuntime) -> Result<(), Fail> 
             },
         ),
         "surrender 1 = notinforce expired",
-    )?;
-    Ok(())
+    );
 }
