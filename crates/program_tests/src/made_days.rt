@@ -7,7 +7,6 @@ use journal_text::print;
 use office_words::{Call, Command, Entry, Reply};
 use std::alloc::Global;
 use std::process::Abort;
-use std::test::Fail;
 
 // Whether an entry can be one of those that carry out the command.
 fn carries_out(entry: &Entry, command: &Command) -> bool {
@@ -66,26 +65,34 @@ fn have_carried_out(history: &[Entry], orders: &[Order]) -> bool {
 }
 
 // The history that a journal tells, which is printed again to the same bytes.
-fn read_back(rt: &impl Abort, alloc: Global, journal: &[u8]) -> Result<Vec<Entry>, Fail> {
-    let history = read(alloc, journal)?;
-    assert_eq!(rt; print(alloc, &history)?.as_slice(), journal);
-    Ok(history)
+fn read_back(rt: &impl Abort, alloc: Global, journal: &[u8]) -> Vec<Entry> {
+    let history = read(alloc, journal).expect(rt, "a journal");
+    let printed = print(alloc, &history).expect(rt, "memory");
+    assert!(rt; printed.as_slice() == journal);
+    history
+}
+
+// That in a history each actor's commands of a day of 100 stand once in their order.
+fn is_of_day(rt: &impl Abort, alloc: Global, history: &[Entry], day: &[u8]) {
+    let file = read_day(alloc, day).expect(rt, "a day file");
+    let (count, done) = (
+        file.commands().len(),
+        have_carried_out(history, file.commands()),
+    );
+    drop(file);
+    assert!(rt; count == 100 && done);
 }
 
 // A made day of 36 nodes, 120 segments, 30 spans, 4 trucks, three analysts, an engineer and 100 commands, run on threads: its
 // journal is read back and printed again, and in it each actor's commands stand once in their order.
 #[test]
-fn runs_a_made_day_and_reads_it_back(rt: HostRuntime) -> Result<(), Fail> {
-    let made = run_words(&rt, &["make", "--seed", "7", "--size", "5"], &[], &[], &[])?;
-    assert_eq!(rt; made.status, 0);
-    let ran = run_words(&rt, &["day"], made.text.as_slice(), &[], &[])?;
-    assert_eq!(rt; ran.status, 0);
-    let history = read_back(&rt, rt.alloc(), ran.text.as_slice())?;
-    let file = read_day(rt.alloc(), made.text.as_slice())?;
-    assert_eq!(rt; file.commands().len(), 100);
-    assert!(rt; have_carried_out(&history, file.commands()));
-    drop(file);
-    Ok(())
+fn runs_a_made_day_and_reads_it_back(rt: HostRuntime) {
+    let made = run_words(&rt, &["make", "--seed", "7", "--size", "5"], &[], &[], &[]);
+    let ran = run_words(&rt, &["day"], made.text.as_slice(), &[], &[]);
+    assert_eq!(rt; (made.status, ran.status), (0, 0));
+    let history = read_back(&rt, rt.alloc(), ran.text.as_slice());
+    is_of_day(&rt, rt.alloc(), &history, made.text.as_slice());
+    drop(history);
 }
 
 // How many records of this kind a day file has.
@@ -101,25 +108,23 @@ fn records_of(text: &[u8], kind: &[u8]) -> usize {
 
 // On one thread nothing comes between a look at the roads and its submit: a posting is one entry and an application two.
 #[test]
-fn sums_up_a_made_day(rt: HostRuntime) -> Result<(), Fail> {
-    let day = run_words(&rt, &["make"], &[], &[], &[])?;
-    let summed = run_words(&rt, &["trial"], &[], &[], &[])?;
+fn sums_up_a_made_day(rt: HostRuntime) {
+    let day = run_words(&rt, &["make"], &[], &[], &[]);
+    let summed = run_words(&rt, &["trial"], &[], &[], &[]);
     assert_eq!(rt; (day.status, summed.status), (0, 0));
     let posts = records_of(day.text.as_slice(), b"post,");
     let applies = records_of(day.text.as_slice(), b"apply,");
     assert_eq!(rt; (posts <= 20, applies <= 20), (true, true));
-    let first = format!(in rt.alloc(); "entries {}\n", posts + 2 * applies)?;
+    let first = format!(in rt.alloc(); "entries {}\n", posts + 2 * applies).expect(&rt, "memory");
     assert!(rt; summed.text.starts_with(first.as_bytes()));
     assert_eq!(rt; records_of(summed.text.as_slice(), b""), 8);
-    Ok(())
 }
 
 // A seed and a size of 1 are what no words ask for.
 #[test]
-fn sums_up_the_same_day(rt: HostRuntime) -> Result<(), Fail> {
-    let one = run_words(&rt, &["trial"], &[], &[], &[])?;
-    let other = run_words(&rt, &["trial", "--seed=1", "--size=1"], &[], &[], &[])?;
+fn sums_up_the_same_day(rt: HostRuntime) {
+    let one = run_words(&rt, &["trial"], &[], &[], &[]);
+    let other = run_words(&rt, &["trial", "--seed=1", "--size=1"], &[], &[], &[]);
     assert_eq!(rt; (one.status, other.status), (0, 0));
-    assert_eq!(rt; one.text.as_slice(), other.text.as_slice());
-    Ok(())
+    assert!(rt; one.text.as_slice() == other.text.as_slice());
 }

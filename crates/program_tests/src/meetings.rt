@@ -3,9 +3,10 @@
 use crate::days::{MEETING, MET, OVERTAKEN, OVERTAKING};
 use crate::runs::run_at;
 use analyst_pool::Gate;
+use std::process::Abort;
+use std::sync::Wait;
 use std::sync::atomic::{AtomicU64, Ordering};
-use std::test::Fail;
-use std::thread::yield_now;
+use std::thread::{Threads, yield_now};
 
 // A gate at which the second actor waits, ahead of each of its commands, until the first has found what to propose once more;
 // and the first, ahead of each submit, until the second has the reply to its next command, while it has one. A wait that is too
@@ -64,16 +65,23 @@ impl Gate for Meeting {
     }
 }
 
+// The second actor has so many commands, and its postings come between what the first finds and its submits.
+fn meets<R: Abort + Threads + Wait + AllocGlobal + Sync>(
+    rt: &R,
+    input: &str,
+    commands: u64,
+    output: &str,
+) {
+    let gate = Meeting::new(commands);
+    let ran = run_at(rt, &["day"], input.as_bytes(), &[], &[], &gate);
+    assert!(rt; ran.status == 0 && gate.failed.load(Ordering::SeqCst) == 0);
+    assert!(rt; ran.text.as_slice() == output.as_bytes());
+}
+
 // Another posts between what an actor finds and its submit, which only actors at work at once can come to: once, and at each of
 // the eight attempts, after which the office finds a route itself.
 #[test]
-fn posts_while_another_analyses(rt: HostRuntime) -> Result<(), Fail> {
-    for (input, commands, output) in [(MEETING, 1, MET), (OVERTAKING, 8, OVERTAKEN)] {
-        let gate = Meeting::new(commands);
-        let ran = run_at(&rt, &["day"], input.as_bytes(), &[], &[], &gate)?;
-        assert_eq!(rt; ran.status, 0);
-        assert_eq!(rt; gate.failed.load(Ordering::SeqCst), 0);
-        assert_eq!(rt; ran.text.as_slice(), output.as_bytes());
-    }
-    Ok(())
+fn posts_while_another_analyses(rt: HostRuntime) {
+    meets(&rt, MEETING, 1, MET);
+    meets(&rt, OVERTAKING, 8, OVERTAKEN);
 }
