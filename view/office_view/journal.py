@@ -138,6 +138,9 @@ def calendar_day(text: str) -> str:
 
 
 def ratio(text: str) -> Fraction:
+    if len(text) > 80:
+        # two numbers of 39 digits are the greatest
+        raise Bad
     above, _, below = text.partition("/")
     value = Fraction(int(above), int(below))
     if f"{value.numerator}/{value.denominator}" != text or max(value.numerator, value.denominator) > MOST_PART:

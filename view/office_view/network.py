@@ -6,7 +6,7 @@ from model.files import DayFile
 
 from .command import Fault, USAGE, missing
 
-MOST_NODES, MOST_SEGMENTS, MANY = 400, 1700, 120
+MOST_NODES, MOST_SEGMENTS, MANY, FEW = 400, 1700, 120, 60
 SECONDS = 60
 Places = list[tuple[float, float]]
 
@@ -46,5 +46,6 @@ def scaled(places: Places) -> Places:
     left, top = min(x for x, _ in places), max(y for _, y in places)
     wide, high = max(x for x, _ in places) - left, top - min(y for _, y in places)
     unit = max(wide, high) or 1.0
-    size = 130.0 * max(2.0, len(places) ** 0.5) / unit
+    apart = 130.0 if len(places) <= FEW else 70.0 if len(places) <= MANY else 45.0
+    size = apart * max(2.0, len(places) ** 0.5) / unit
     return [(round((x - left) * size, 1), round((top - y) * size, 1)) for x, y in places]

@@ -81,12 +81,18 @@
     return classes.join(" ");
   };
 
+  /* A drawing fills its frame, but for one that would be too small to read on a narrow screen, or too large for so little. */
+  const fit = (svg, wide) => {
+    svg.style.minWidth = Math.min(wide, 560) + "px";
+    svg.style.maxWidth = Math.round(1.7 * wide) + "px";
+  };
+
   /* The whole network: a curve for each segment, bent to its right, so that the two directions of a road lie apart. */
   const drawNetwork = (posted, route, reached) => {
     const places = data.places, many = places.length > 60;
     const wide = Math.max(...places.map((at) => at[0])), high = Math.max(...places.map((at) => at[1]));
-    const svg = make("svg", { viewBox: `-50 -30 ${wide + 100} ${high + 60}`, width: Math.round(wide + 100), role: "img",
-      "aria-labelledby": "drawing-title" });
+    const svg = make("svg", { viewBox: `-50 -30 ${wide + 100} ${high + 60}`, role: "img", "aria-labelledby": "drawing-title" });
+    fit(svg, wide + 100);
     svg.append(make("title", { id: "drawing-title" }, "The roads as a diagram; the table beside it says the same"));
     const used = new Map(), labels = [];
     const order = [...data.segments.keys()].sort((a, b) => route.has(a) - route.has(b));
@@ -95,7 +101,7 @@
       const count = used.get(from * 5000 + to) || 0;
       used.set(from * 5000 + to, count + 1);
       const [x, y] = places[from], [u, v] = places[to];
-      const length = Math.hypot(u - x, v - y) || 1, bend = 12 + 14 * count;
+      const length = Math.hypot(u - x, v - y) || 1, bend = Math.min(12, 0.14 * length) * (1 + count);
       const mid = from === to ? [x, y - 40 - bend] : [(x + u) / 2 - (v - y) / length * bend, (y + v) / 2 + (u - x) / length * bend];
       const path = make("path", { class: classesOf(posted, route, reached, segment), id: "road-" + (segment + 1),
         d: from === to ? `M${x} ${y}C${x - 40} ${mid[1]} ${x + 40} ${mid[1]} ${x} ${y}` : `M${x} ${y}Q${mid[0]} ${mid[1]} ${u} ${v}` });
@@ -121,8 +127,9 @@
   /* The route alone, some stretches a line. */
   const drawRoute = (posted, route, reached) => {
     const list = chosen.route, a_line = 5, step = 150, drop = 70;
-    const svg = make("svg", { viewBox: `-20 -40 ${a_line * step + 120} ${Math.ceil(list.length / a_line) * drop + 50}`,
-      width: a_line * step + 120, role: "img", "aria-labelledby": "drawing-title" });
+    const svg = make("svg", { viewBox: `-20 -40 ${a_line * step + 120} ${Math.ceil(list.length / a_line) * drop + 50}`, role: "img",
+      "aria-labelledby": "drawing-title" });
+    fit(svg, a_line * step + 120);
     svg.append(make("title", { id: "drawing-title" }, "The route alone; the table beside it says the same"));
     list.forEach((segment, at) => {
       const x = (at % a_line) * step, y = Math.floor(at / a_line) * drop, [name, from, to] = data.segments[segment];

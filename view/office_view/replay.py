@@ -177,6 +177,7 @@ def take_application(made: Replay, actor: Actor, entry: Entry, trip: Trip) -> No
         demand(
             entry.reply != "refused" or entry.version == made.version, f"the roads stand at version {made.version}"
         )
+        demand(entry.reply != "late" or trip.first < entry.status == made.day, f"the office's day is {made.day}")
         demand(entry.limit is None or known(made.file, entry.limit), "there is no such segment or span")
         demand(
             all(node < len(made.file.names["nodes"]) for node in entry.listed) or entry.found != "cut", "no such node"

@@ -5,7 +5,9 @@ from fractions import Fraction
 
 from .command import BAD, Fault
 
-NUMBER, SIGNED, NAME, RATIO = r"(\d+)", r"(-?\d+)", r"([A-Za-z0-9_-]{1,16})", r"(\d+/\d+)"
+# No number of a report has as many digits as these may have.
+NUMBER, SIGNED, RATIO = r"([0-9]{1,40})", r"(-?[0-9]{1,40})", r"([0-9]{1,40}/[0-9]{1,40})"
+NAME = r"([A-Za-z0-9_-]{1,16})"
 TRUCK = re.compile(rf"truck {NAME} axles {NUMBER} gross {NUMBER}")
 OVER = re.compile(rf"over {NUMBER}-{NUMBER} {NUMBER} {NUMBER} (single|tandem|formula|two-tandem|gross)")
 HIGH = re.compile(rf"high {NUMBER} {NUMBER}")

@@ -226,6 +226,7 @@ class BadInput(unittest.TestCase):
             DAY, changed(b"posted 1 recalled 1", b"posted 1 recalled -"), 5, "line 7, permit 1 stands otherwise"
         )
         self.refuses(DAY, changed(b"= surrendered", b"= notyours"), 5, "permit 4 is in force")
+        self.refuses(DAY, changed(b"= late 2026-03-04", b"= late 2026-03-03"), 5, "the office's day is 2026-03-04")
         self.refuses(DAY, changed(b"1 snapshot = at 1", b"1 snapshot = at 0"), 5, "the roads stand at version 1")
         self.refuses(
             DAY,
@@ -261,6 +262,8 @@ class BadInput(unittest.TestCase):
             (JOURNAL.replace(b"seen 0", b"seen 4294967296", 1), 3),
             (JOURNAL.replace(b"end 23", b"end 24"), 25),
             (JOURNAL.replace(b"end 23", b"end 023"), 25),
+            (JOURNAL.replace(b"54016875/8", b"9" * 5000 + b"/8", 1), 9),
+            (JOURNAL.replace(b"seen 0", b"seen " + b"9" * 5000, 1), 3),
             (JOURNAL.replace(b"\n1 snap", b"\n\xff snap", 1), 2),
         ]
         for data, line in cases:

@@ -219,6 +219,8 @@ class BadInput(unittest.TestCase):
         self.refuses(LOWBOY, REPORT.replace(b"shear", b"sheer", 1), 5, "line 11 is no line of the kind shear")
         self.refuses(LOWBOY, REPORT + b"more\n", 5, "line 19 is no line of the kind span")
         self.refuses(LOWBOY, REPORT.replace(b"54016875/8", b"5/0", 1), 5, "is over zero")
+        huge = REPORT.replace(b"54016875/8", b"9" * 5000 + b"/8", 1)
+        self.refuses(LOWBOY, huge, 5, "line 10 is no line of the kind moment")
 
     def test_a_refused_check_file(self) -> None:
         self.refuses(b"day,2026-03-02,,,,,,\nend,,,,,,,\n", REPORT, 5, "is no check file (refused: record 1 kind)")
