@@ -67,6 +67,8 @@ def write(path: str | None, data: bytes) -> None:
             return
         with open(path, "wb") as file:
             file.write(data)
+    except BrokenPipeError:
+        raise
     except OSError as fault:
         shown = shown_path(path or "standard output")
         raise Fault(UNWRITTEN, f"{shown} cannot be written: {fault.strerror}") from fault

@@ -25,6 +25,7 @@ from .wording import STATUS, UNITS, Words
 
 HERE = pathlib.Path(__file__).resolve().parent
 MANY_ROWS = 200
+PROGRAM = "Program"
 STATES = {IN_FORCE: "inforce", RECALLED: "recalled", SURRENDERED: "surrendered", EXPIRED: "expired"}
 ANSWERS = {"refused": "Refused", "noroad": "No road", "late": "Too late", "notneeded": "No permit needed"}
 OPEN = {what: 0 if what == "closed" else forms.RANGES[what][1] for what in forms.LIMITS}
@@ -235,10 +236,11 @@ class Page:
         return f'<h2 id="others">New days, surrenders and looks at permits</h2><ol>{items}</ol>'
 
     def sources_text(self) -> str:
-        return "\n".join(
-            f"<p>{e(it.what)} <strong>{e(it.name)}</strong>: sha256 <code>{e(it.sum)}</code></p>"
-            for it in self.sources
-        )
+        """The files that are shown, and the program, where it was named."""
+        lines = [f"{e(it.what)} <strong>{e(it.name)}</strong>: sha256 <code>{e(it.sum)}</code>" for it in self.sources]
+        if not any(it.what == PROGRAM for it in self.sources):
+            lines.append("Which program wrote the journal was not said.")
+        return "\n".join(f"<p>{line}</p>" for line in lines)
 
     def data(self) -> str:
         """What the script needs, as JSON in which no markup can end or begin."""

@@ -129,6 +129,8 @@ class Content(unittest.TestCase):
         for data in (DAY, JOURNAL, pathlib.Path("/bin/true").read_bytes()):
             self.assertIn(hashlib.sha256(data).hexdigest(), text)
         self.assertIn("This page is not proved.", text)
+        self.assertNotIn("was not said", text)
+        self.assertIn("Which program wrote the journal was not said.", Shown(page(DAY, JOURNAL).stdout).text)
 
     def test_the_data_of_the_drawing_is_the_file(self) -> None:
         data = json.loads(Shown(page(DAY, JOURNAL).stdout).data)
