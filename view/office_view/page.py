@@ -51,7 +51,7 @@ class Source:
         return hashlib.sha256(self.data).hexdigest()
 
 
-def e(text: object) -> str:
+def safe(text: object) -> str:
     """A text as it may stand in markup and in attributes."""
     return html.escape(str(text), quote=True)
 
@@ -60,15 +60,15 @@ def cells(row: Iterable[tuple[str, str]]) -> str:
     """The cells of a row: what the column is called, and markup."""
     (_, head), *rest = row
     made = [f'<th scope="row" role="rowheader">{head}</th>']
-    return "".join(made + [f'<td role="cell" data-label="{e(label)}">{markup}</td>' for label, markup in rest])
+    return "".join(made + [f'<td role="cell" data-label="{safe(label)}">{markup}</td>' for label, markup in rest])
 
 
 def table(name: str, caption: str, heads: Iterable[str], rows: list[str]) -> str:
     """A table that stays one for screen readers where it is shown as blocks on a narrow screen."""
-    head = "".join(f'<th scope="col" role="columnheader">{e(text)}</th>' for text in heads)
+    head = "".join(f'<th scope="col" role="columnheader">{safe(text)}</th>' for text in heads)
     kind = "rows long" if len(rows) > MANY_ROWS else "rows"
     return (
-        f'<table class="{kind}" id="{name}" role="table"><caption>{e(caption)}</caption>'
+        f'<table class="{kind}" id="{name}" role="table"><caption>{safe(caption)}</caption>'
         f'<thead role="rowgroup"><tr role="row">{head}</tr></thead>\n'
         f'<tbody role="rowgroup">\n{"".join(rows)}</tbody></table>'
     )
@@ -79,13 +79,13 @@ def link(kind: str, number: int) -> str:
 
 
 def days(trip: Trip) -> str:
-    return f'<span class="whole">{e(trip.first)} to</span> <span class="whole">{e(trip.last)}</span>'
+    return f'<span class="whole">{safe(trip.first)} to</span> <span class="whole">{safe(trip.last)}</span>'
 
 
 def choose(name: str, text: str) -> str:
     return (
-        f'<button type="button" class="screen" data-choose="{e(name)}" '
-        f'aria-label="Show {e(text)} on the roads">'
+        f'<button type="button" class="screen" data-choose="{safe(name)}" '
+        f'aria-label="Show {safe(text)} on the roads">'
         "Show on the roads</button>"
     )
 
@@ -107,12 +107,12 @@ class Page:
         )
         states = {**{STATES[status]: text for status, text in STATUS.items()}, **ANSWERS}
         return string.Template(page).substitute(
-            policy=e(policy),
+            policy=safe(policy),
             style=style,
             script=script,
             data=self.data(),
-            title=e(f"Permit office, {self.made.file.day}"),
-            summary=e(self.summary()),
+            title=safe(f"Permit office, {self.made.file.day}"),
+            summary=safe(self.summary()),
             carriers=options({name: name for name in self.carriers()}),
             states=options(states),
             permits=self.permits(),
@@ -122,7 +122,7 @@ class Page:
             key=key(),
             others=self.others(),
             sources=self.sources_text(),
-            made_by=e(VERSION),
+            made_by=safe(VERSION),
         )
 
     def summary(self) -> str:
@@ -155,36 +155,37 @@ class Page:
         row = (
             ("Permit", f'<a href="#{name}">Permit {permit.number}</a>'),
             ("How it stands", self.standing(permit)),
-            ("Carrier", e(truck.carrier)),
-            ("Truck", e(truck.name)),
+            ("Carrier", safe(truck.carrier)),
+            ("Truck", safe(truck.name)),
             ("Days", days(permit.trip)),
             (
                 "Route",
-                f"{e(self.words.trip(permit.trip))}, by {self.route(permit.route)} "
+                f"{safe(self.words.trip(permit.trip))}, by {self.route(permit.route)} "
                 f"{choose(name, f'permit {permit.number}')}",
             ),
-            ("Issued", f"at version {permit.version}, by {e(self.words.actors[permit.caller])}"),
+            ("Issued", f"at version {permit.version}, by {safe(self.words.actors[permit.caller])}"),
         )
-        head = f'<tr id="{name}" class="{state}" role="row" data-state="{state}" data-carrier="{e(truck.carrier)}">'
+        head = (
+            f'<tr id="{name}" class="{state}" role="row" data-state="{state}" data-carrier="{safe(truck.carrier)}">'
+        )
         return f"{head}{cells(row)}</tr>\n"
 
     def route(self, route: tuple[int, ...]) -> str:
         """The names of a route; on a page of few permits none of them is broken at its end of a line."""
         if len(self.made.permits) > MANY_ROWS:
-            return e(self.words.route(route))
-        return ", ".join(f'<span class="whole">{e(self.words.segments[segment])}</span>' for segment in route)
+            return safe(self.words.route(route))
+        return ", ".join(f'<span class="whole">{safe(self.words.segments[segment])}</span>' for segment in route)
 
     def standing(self, permit: Permit) -> str:
         """How a permit stands; where it is recalled, by what and why."""
-        state = f'<span class="state">{e(STATUS[permit.status])}</span>'
+        state = f'<span class="state">{safe(STATUS[permit.status])}</span>'
         return f"{state} {self.recalled_by(permit)}" if permit.status == RECALLED else state
 
     def recalled_by(self, permit: Permit) -> str:
         posting = self.made.postings[permit.posting - 1]
         why = self.words.why(permit, posting)
-        return (
-            f"by {link('posting', posting.version)}: {e(self.words.posting(posting))}{e('; ' + why) if why else ''}"
-        )
+        said = self.words.posting(posting) + (f"; {why}" if why else "")
+        return f"by {link('posting', posting.version)}: {safe(said)}"
 
     def answers(self) -> str:
         heads = ("Number", "Answer", "Carrier", "Truck", "Days", "From and to", "Asked by")
@@ -200,17 +201,17 @@ class Page:
             ("Number", f'<a href="#{name}">Answer {answer.number}</a>'),
             (
                 "Answer",
-                f'<span class="state">{e(ANSWERS[answer.reply])}</span> {e(self.words.answer(answer) + version)}',
+                f'<span class="state">{safe(ANSWERS[answer.reply])}</span> {safe(self.words.answer(answer) + version)}',
             ),
-            ("Carrier", e(truck.carrier)),
-            ("Truck", e(truck.name)),
+            ("Carrier", safe(truck.carrier)),
+            ("Truck", safe(truck.name)),
             ("Days", days(answer.trip)),
-            ("From and to", f"{e(self.words.trip(answer.trip) + asked)} {shown}"),
-            ("Asked by", e(self.words.actors[answer.caller])),
+            ("From and to", f"{safe(self.words.trip(answer.trip) + asked)} {shown}"),
+            ("Asked by", safe(self.words.actors[answer.caller])),
         )
         return (
-            f'<tr id="{name}" class="{e(answer.reply)}" role="row" data-state="{e(answer.reply)}" '
-            f'data-carrier="{e(truck.carrier)}">{cells(row)}</tr>\n'
+            f'<tr id="{name}" class="{safe(answer.reply)}" role="row" data-state="{safe(answer.reply)}" '
+            f'data-carrier="{safe(truck.carrier)}">{cells(row)}</tr>\n'
         )
 
     def postings(self) -> str:
@@ -222,22 +223,25 @@ class Page:
         recalled = ", ".join(link("permit", number) for number in posting.recalled) or "nothing"
         row = (
             ("Posting", f'<a href="#posting-{posting.version}">Posting {posting.version}</a>'),
-            ("What is posted", e(self.words.posting(posting))),
-            ("Before", e(self.words.before(posting))),
-            ("Posted by", e(self.words.actors[posting.caller])),
+            ("What is posted", safe(self.words.posting(posting))),
+            ("Before", safe(self.words.before(posting))),
+            ("Posted by", safe(self.words.actors[posting.caller])),
             ("Recalled by it", recalled),
         )
         return f'<tr id="posting-{posting.version}" role="row">{cells(row)}</tr>\n'
 
     def others(self) -> str:
-        items = "".join(f"<li>{e(self.words.other(other))}</li>\n" for other in self.made.others)
+        items = "".join(f"<li>{safe(self.words.other(other))}</li>\n" for other in self.made.others)
         if not items:
             return ""
         return f'<h2 id="others">New days, surrenders and looks at permits</h2><ol>{items}</ol>'
 
     def sources_text(self) -> str:
         """The files that are shown, and the program, where it was named."""
-        lines = [f"{e(it.what)} <strong>{e(it.name)}</strong>: sha256 <code>{e(it.sum)}</code>" for it in self.sources]
+        lines = [
+            f"{safe(it.what)} <strong>{safe(it.name)}</strong>: sha256 <code>{safe(it.sum)}</code>"
+            for it in self.sources
+        ]
         if not any(it.what == PROGRAM for it in self.sources):
             lines.append("Which program wrote the journal was not said.")
         return "\n".join(f"<p>{line}</p>" for line in lines)
@@ -307,13 +311,13 @@ class Page:
 
 def options(texts: dict[str, str]) -> str:
     """The options of a choice: each value with its text."""
-    return "".join(f'<option value="{e(value)}">{e(text)}</option>' for value, text in texts.items())
+    return "".join(f'<option value="{safe(value)}">{safe(text)}</option>' for value, text in texts.items())
 
 
 def key() -> str:
     """What the lines of the drawing mean."""
     line = '<li><svg width="40" height="12" aria-hidden="true"><path class="{}" d="M2 6H38"/></svg> {}</li>'
-    return "".join(line.format(name, e(text)) for name, text in KEYS)
+    return "".join(line.format(name, safe(text)) for name, text in KEYS)
 
 
 def plural(count: int, word: str) -> str:

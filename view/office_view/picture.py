@@ -219,29 +219,26 @@ def draw_probe(figure: Figure, number: int, probe: Probe, truck: Truck, place: t
         axes.set_xlim(ends[0] - margin, ends[1] + margin)
     placed(moment_axes, f"{name}-moment", truck.axles, probe.lead, probe.inches)
     moment_axes.set_title(
-        f"Greatest moment {ratio(probe.moment)} lb·in, {float(probe.moment) / 12000:,.1f} kip-ft, under axle "
-        f"{probe.axle}",
+        f"Greatest moment {ratio(probe.moment)} lb·in, {float(probe.moment) / 12000:,.1f} kip-ft, at axle {probe.axle}",
         fontsize=9,
         loc="left",
     )
     influence_line(line_axes, name, probe, truck.axles)
-    placed(shear_axes, f"{name}-shear", truck.axles, Fraction(probe.shear_lead), probe.inches)
-    shear_axes.set_title(
-        f"Greatest end shear {ratio(probe.shear)} lb, {float(probe.shear) / 1000:,.1f} kips, at the "
-        f"{probe.side} end",
-        fontsize=9,
-        loc="left",
-    )
-    support = 0 if probe.side == "left" else probe.inches
-    shear_axes.annotate(
-        "",
-        (support, -0.2),
-        (support, -1.1),
-        gid=f"{name}-reaction",
-        arrowprops={"arrowstyle": "-|>", "color": TRUCK_COLOR, "linewidth": 2},
-    )
+    shear_place(shear_axes, name, probe, truck.axles)
     envelope_of(figure.add_axes((0.59, bottom + 0.44 * high, 0.37, 0.40 * high)), name, probe, truck.axles)
     compared(figure.add_axes((0.66, bottom + 0.08 * high, 0.30, 0.19 * high)), name, probe)
+
+
+def shear_place(axes: Axes, name: str, probe: Probe, axles: Axles) -> None:
+    """The truck where the end shear is greatest, with the reaction."""
+    placed(axes, f"{name}-shear", axles, Fraction(probe.shear_lead), probe.inches)
+    kips = f"{float(probe.shear) / 1000:,.1f} kips"
+    axes.set_title(
+        f"Greatest end shear {ratio(probe.shear)} lb, {kips}, at the {probe.side} end", fontsize=9, loc="left"
+    )
+    support = 0 if probe.side == "left" else probe.inches
+    arrow = {"arrowstyle": "-|>", "color": TRUCK_COLOR, "linewidth": 2}
+    axes.annotate("", (support, -0.2), (support, -1.1), gid=f"{name}-reaction", arrowprops=arrow)
 
 
 def ratio(value: Fraction) -> str:

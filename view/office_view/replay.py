@@ -54,7 +54,6 @@ class Answer:
     day: str
     limit: Limit | None
     reached: tuple[int, ...]
-    tries: int
 
 
 @dataclass(frozen=True)
@@ -174,28 +173,20 @@ def take_application(made: Replay, actor: Actor, entry: Entry, trip: Trip) -> No
     if entry.reply == "issued":
         issue(made, entry, trip, made.version if entry.call == "held" else entry.seen)
     else:
-        demand(
-            entry.reply != "refused" or entry.version == made.version, f"the roads stand at version {made.version}"
-        )
-        demand(entry.reply != "late" or trip.first < entry.status == made.day, f"the office's day is {made.day}")
-        demand(entry.limit is None or known(made.file, entry.limit), "there is no such segment or span")
-        demand(
-            all(node < len(made.file.names["nodes"]) for node in entry.listed) or entry.found != "cut", "no such node"
-        )
-        made.answers.append(
-            Answer(
-                len(made.answers) + 1,
-                entry.caller,
-                trip,
-                entry.reply,
-                made.version,
-                entry.status,
-                entry.limit,
-                entry.listed if entry.found == "cut" else (),
-                actor.tries,
-            )
-        )
+        take_answer(made, entry, trip)
     actor.at, actor.seen, actor.tries = actor.at + 1, None, 0
+
+
+def take_answer(made: Replay, entry: Entry, trip: Trip) -> None:
+    """An answer that is no permit."""
+    demand(entry.reply != "refused" or entry.version == made.version, f"the roads stand at version {made.version}")
+    demand(entry.reply != "late" or trip.first < entry.status == made.day, f"the office's day is {made.day}")
+    demand(entry.limit is None or known(made.file, entry.limit), "there is no such segment or span")
+    reached = entry.listed if entry.found == "cut" else ()
+    demand(all(node < len(made.file.names["nodes"]) for node in reached), "there is no such node")
+    number, day = len(made.answers) + 1, entry.status
+    answer = Answer(number, entry.caller, trip, entry.reply, made.version, day, entry.limit, reached)
+    made.answers.append(answer)
 
 
 def known(file: DayFile, limit: Limit) -> bool:

@@ -20,6 +20,27 @@ def chromium() -> str | None:
     return shutil.which("chromium") or shutil.which("chromium-browser")
 
 
+def words_of(program: str, folder: str) -> list[str]:
+    """The words with which the browser is started: without a window, and asking nobody for anything."""
+    words = [
+        program,
+        "--headless=new",
+        "--remote-debugging-pipe",
+        f"--user-data-dir={folder}",
+        "--no-first-run",
+        "--disable-gpu",
+        "--disable-extensions",
+        "--hide-scrollbars",
+        "--disable-dev-shm-usage",
+        "--disable-background-networking",
+        "--disable-sync",
+        "--no-default-browser-check",
+    ]
+    if os.geteuid() == 0:
+        words.append("--no-sandbox")
+    return words
+
+
 class Browser:
     """A browser with one tab, in a folder of its own."""
 
@@ -29,22 +50,6 @@ class Browser:
         self.folder = tempfile.TemporaryDirectory()
         read_theirs, self.to_browser = os.pipe()
         self.from_browser, write_theirs = os.pipe()
-        words = [
-            program,
-            "--headless=new",
-            "--remote-debugging-pipe",
-            f"--user-data-dir={self.folder.name}",
-            "--no-first-run",
-            "--disable-gpu",
-            "--disable-extensions",
-            "--hide-scrollbars",
-            "--disable-dev-shm-usage",
-            "--disable-background-networking",
-            "--disable-sync",
-            "--no-default-browser-check",
-        ]
-        if os.geteuid() == 0:
-            words.append("--no-sandbox")
 
         def pipes() -> None:
             os.dup2(read_theirs, 103)
@@ -53,7 +58,7 @@ class Browser:
             os.dup2(104, 4)
 
         self.process = subprocess.Popen(
-            words,
+            words_of(program, self.folder.name),
             preexec_fn=pipes,
             close_fds=False,
             stdin=subprocess.DEVNULL,
