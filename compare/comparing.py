@@ -1,6 +1,8 @@
 """One input given to the program and to the model, and what differs."""
 import subprocess
+from dataclasses import dataclass
 
+from cases.families import Case
 from model.files import CheckFile, DayFile, Refused
 from model.journal import Wrong, alone, judge
 from model.making import made_day, trial
@@ -10,34 +12,33 @@ from model.words import USAGE, asked
 SECONDS = 120
 
 
+@dataclass(frozen=True)
 class Ran:
-    """How a run ended: its status, what it wrote, and what it told standard error."""
+    """How a run ended: its status, what it wrote, and what it told standard error. A byte is a character here."""
 
-    def __init__(self, status, written, told=""):
-        self.status, self.written, self.told = status, written, told
-
-    def __eq__(self, other):
-        return (self.status, self.written, self.told) == (other.status, other.written, other.told)
+    status: int
+    written: str
+    told: str = ""
 
 
-def ran(program, case):
+def ran(program: str, case: Case) -> Ran:
+    """A run of the program."""
     run = subprocess.run([program, *case.words], input=case.data, capture_output=True, timeout=SECONDS)
     return Ran(run.returncode, run.stdout.decode("latin-1"), run.stderr.decode("latin-1"))
 
 
-def wanted(case):
+def wanted(case: Case) -> Ran | DayFile:
     """What has to come: a run, or, for a day of several actors, the day file, whose journal has to be judged."""
-    asked_for = asked(case.words)
-    if asked_for is None:
+    found = asked(case.words)
+    if found is None:
         return Ran(2, USAGE)
-    command, seed, size = asked_for
     try:
-        if command == "check":
+        if found.command == "check":
             return Ran(0, report(CheckFile(case.data)))
-        if command == "make":
-            return Ran(0, made_day(seed, size))
-        if command == "trial":
-            return Ran(0, trial(seed, size))
+        if found.command == "make":
+            return Ran(0, made_day(found.seed, found.size))
+        if found.command == "trial":
+            return Ran(0, trial(found.seed, found.size))
         day = DayFile(case.data)
     except Refused as refused:
         return Ran(refused.status, refused.line)
@@ -46,7 +47,7 @@ def wanted(case):
     return Ran(0, *alone(day))
 
 
-def difference(program, case):
+def difference(program: str, case: Case) -> str | None:
     """What differs between the program and the model on an input, in words, or None."""
     want, got = wanted(case), ran(program, case)
     if isinstance(want, DayFile):
@@ -55,26 +56,27 @@ def difference(program, case):
         return None
     for name, mine, its in (("status", want.status, got.status), ("standard error", want.told, got.told)):
         if mine != its:
-            return "%s: the model has %r, the program %r; its output begins with %r" % (name, mine, its, got.written[:200])
+            return f"{name}: the model has {mine!r}, the program {its!r}; its output begins with {got.written[:200]!r}"
     return first_difference(want.written, got.written)
 
 
-def first_difference(mine, its):
+def first_difference(mine: str, its: str) -> str:
     """The first line in which two texts differ."""
     ours, theirs = mine.split("\n"), its.split("\n")
-    at = next((i for i, pair in enumerate(zip(ours, theirs)) if pair[0] != pair[1]), min(len(ours), len(theirs)))
-    line = lambda lines: lines[at] if at < len(lines) else "no such line"
-    return "line %d: the model has %r, the program %r" % (at + 1, line(ours), line(theirs))
+    shorter = min(len(ours), len(theirs))
+    at = next((i for i, pair in enumerate(zip(ours, theirs)) if pair[0] != pair[1]), shorter)
+    our_line, their_line = (lines[at] if at < len(lines) else "no such line" for lines in (ours, theirs))
+    return f"line {at + 1}: the model has {our_line!r}, the program {their_line!r}"
 
 
-def judged(day, got):
+def judged(day: DayFile, got: Ran) -> str | None:
     """What is wrong with a run of several actors, or None."""
     if got.status != 0:
-        return "status %d on a good day file; its output begins with %r" % (got.status, got.written[:200])
+        return f"status {got.status} on a good day file; its output begins with {got.written[:200]!r}"
     try:
         office = judge(day, got.written)
     except Wrong as wrong:
         return str(wrong)
     if got.told != office.notices():
-        return "standard error is told %r, and the recalls are %r" % (got.told, office.notices())
+        return f"standard error is told {got.told!r}, and the recalls are {office.notices()!r}"
     return None

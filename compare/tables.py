@@ -1,19 +1,24 @@
-"""Published tables, compared with the program and with the model. Their values are meant as printed, and come from neither.
+"""Published tables, compared with the program and with the model. Their values are as printed, and come from neither.
 
-- The federal bridge formula table: "Bridge Formula Weights", Federal Highway Administration, table B, for 23 CFR 658.17(e). A
-  row is a spread in feet; its columns are 2 to 9 axles, in thousands of pounds. The line 'more than 8' stands at 97 inches. The
-  cells were written down from memory, whole, and agreed so; they were not held against the printed page.
-- AASHTO Standard Specifications for Highway Bridges, Appendix A, HS20-44 on simple spans, one lane: the span in feet, the
-  greatest moment in foot-kips and the greatest end shear in kips, where the truck and not the lane load gives them: the spans
-  that the tests of `hs20_truck` have. 1,524.0 stands for an exact 1,523.92, so they are compared to less than a tenth.
+- The federal bridge formula table: "Bridge Formula Weights", Federal Highway Administration, table B, for 23 CFR
+  658.17(e). A row is a spread in feet; its columns are 2 to 9 axles, in thousands of pounds. The line 'more than 8'
+  stands at 97 inches. The cells were written down from memory, whole, and agreed so; they were not held against the
+  printed page.
+- AASHTO Standard Specifications for Highway Bridges, Appendix A, HS20-44 on simple spans, one lane: the span in feet,
+  the greatest moment in foot-kips and the greatest end shear in kips, where the truck and not the lane load gives them.
+  The spans are those that the tests of `hs20_truck` have. 1,524.0 stands for an exact 1,523.92, so they are compared to
+  less than a tenth.
 
-Two more things are tried on the model: that no second spacing of HS20-44 from 14 to 30 ft exceeds 14 ft, and that no place of
-some trucks, at whole and at half inches, exceeds the peaks.
+Two more things are tried on the model: that no second spacing of HS20-44 from 14 to 30 ft exceeds 14 ft, and that no
+place of some trucks, at whole and at half inches, exceeds the peaks.
 """
 import subprocess
+from collections.abc import Iterator, Sequence
+from typing import NamedTuple
 
 from model.bridges import HS20, design, moment, peak_moment, peak_shear
 from model.files import CheckFile
+from model.limits import Axles
 from model.report import report
 
 FORMULA = """
@@ -81,80 +86,110 @@ AASHTO = """
 """
 
 
-def formula_rows():
-    """Spread in inches, axles, pounds."""
-    for line in FORMULA.split("\n"):
-        spread, *columns = line.split() or [""]
+class FormulaRow(NamedTuple):
+    """A spread in inches, how many axles stand over it, and what they may weigh in pounds."""
+
+    spread: int
+    axles: int
+    limit: int
+
+
+class AashtoRow(NamedTuple):
+    """A span in inches, and the moment and the shear in tenths of a foot-kip and of a kip."""
+
+    inches: int
+    moment: int
+    shear: int
+
+
+def formula_rows() -> Iterator[FormulaRow]:
+    """The cells of the federal table."""
+    for line in FORMULA.strip().split("\n"):
+        spread, *columns = line.split()
+        inches = 97 if spread == "8+" else 12 * int(spread)
         for axles, thousands in enumerate(columns, 2):
             if thousands != "-":
-                yield 97 if spread == "8+" else 12 * int(spread), axles, round(1000 * float(thousands))
+                yield FormulaRow(inches, axles, round(1000 * float(thousands)))
 
 
-def aashto_rows():
-    """Inches, and the moment and the shear in tenths of a foot-kip and of a kip."""
-    for line in AASHTO.split("\n"):
-        if line:
-            feet, *effects = line.split()
-            yield 12 * int(feet), *(round(10 * float(effect)) for effect in effects)
+def aashto_rows() -> Iterator[AashtoRow]:
+    """The rows of the AASHTO table."""
+    for line in AASHTO.strip().split("\n"):
+        feet, moment_printed, shear_printed = line.split()
+        yield AashtoRow(12 * int(feet), round(10 * float(moment_printed)), round(10 * float(shear_printed)))
 
 
-def spread_out(spread, count, gross):
+def spread_out(spread: int, count: int, gross: int) -> Axles:
     """So many axles over a spread, as far from each other as they go, of so much weight together."""
     places = [spread * i // (count - 1) for i in range(count)]
     return [(place, gross // count + (i < gross % count)) for i, place in enumerate(places)]
 
 
-def check(program, axles, probes=()):
+def check(program: str | None, axles: Axles, probes: Sequence[int] = ()) -> list[str]:
     """What `check` says of a truck with these axles: by the program, or by the model where there is none."""
-    text = "truck,T,C,150,100,700,%s,\n" % " ".join("%d:%d" % pair for pair in axles)
-    text += "".join("probe,%d,1000,,,,,\n" % inches for inches in probes) + "end,,,,,,,\n"
+    pairs = " ".join(f"{place}:{weight}" for place, weight in axles)
+    rows = [f"truck,T,C,150,100,700,{pairs},", *(f"probe,{inches},1000,,,,," for inches in probes), "end,,,,,,,"]
+    text = "".join(f"{row}\n" for row in rows).encode()
     if program is None:
-        return report(CheckFile(text.encode())).split("\n")
-    return subprocess.run([program, "check"], input=text.encode(), capture_output=True).stdout.decode("latin-1").split("\n")
+        return report(CheckFile(text)).split("\n")
+    return subprocess.run([program, "check"], input=text, capture_output=True).stdout.decode("latin-1").split("\n")
 
 
-def wrong_formula(program, name):
+def wrong_formula(program: str | None, name: str) -> Iterator[str]:
     """A pound over a printed limit is told with that limit, and the limit itself is not over."""
     for spread, count, limit in formula_rows():
-        told = "over 1-%d %d %d formula" % (count, limit + 1, limit)
+        told = f"over 1-{count} {limit + 1} {limit} formula"
         if told not in check(program, spread_out(spread, count, limit + 1)):
-            yield "%s: %d axles over %d in: %d is not the limit that is told" % (name, count, spread, limit)
-        if any(line.startswith("over 1-%d %d " % (count, limit)) and line.endswith("formula")
+            yield f"{name}: {count} axles over {spread} in: {limit} is not the limit that is told"
+        if any(line.startswith(f"over 1-{count} {limit} ") and line.endswith("formula")
                for line in check(program, spread_out(spread, count, limit))):
-            yield "%s: %d axles over %d in: %d is over" % (name, count, spread, limit)
+            yield f"{name}: {count} axles over {spread} in: {limit} is over"
 
 
-def tenths(ratio, unit):
+def tenths(ratio: str, unit: int) -> float:
+    """What the report tells as a fraction, in tenths as they are printed."""
     numerator, denominator = map(int, ratio.split("/"))
     return numerator / denominator / unit
 
 
-def wrong_aashto(program, name):
+def wrong_aashto(program: str | None, name: str) -> Iterator[str]:
+    """Each printed moment and shear is told, to less than a tenth."""
     rows = list(aashto_rows())
-    told = [line.split()[1:] for line in check(program, HS20, [row[0] for row in rows]) if line.startswith("hs20")]
-    for (inches, moment_printed, shear_printed), pair in zip(rows, told):
-        if abs(tenths(pair[0], 1200) - moment_printed) >= 1 or abs(tenths(pair[1], 100) - shear_printed) >= 1:
-            yield "%s: HS20-44 on %d in: %s is not what is printed" % (name, inches, pair)
+    lines = check(program, HS20, [row.inches for row in rows])
+    told = [line.split()[1:] for line in lines if line.startswith("hs20")]
+    for row, pair in zip(rows, told):
+        if abs(tenths(pair[0], 1200) - row.moment) >= 1 or abs(tenths(pair[1], 100) - row.shear) >= 1:
+            yield f"{name}: HS20-44 on {row.inches} in: {pair} is not what is printed"
     if len(told) != len(rows):
-        yield "%s: %d of %d spans are told" % (name, len(told), len(rows))
+        yield f"{name}: {len(told)} of {len(rows)} spans are told"
 
 
-def wrong_model():
-    for inches, _, _ in aashto_rows():
+def wrong_spacing() -> Iterator[str]:
+    """No second spacing of HS20-44 exceeds the least one."""
+    for row in aashto_rows():
+        most = design(row.inches)
         for gap in range(168, 361, 12):
             longer = ((0, 8000), (168, 32000), (168 + gap, 32000))
-            if peak_moment(longer, inches)[0] > design(inches)[0] or peak_shear(longer, inches)[0] > design(inches)[1]:
-                yield "model: HS20-44 with %d in between its last axles exceeds 14 ft on %d in" % (gap, inches)
-    for axles, span in (([(0, 5), (3, 7), (4, 2), (9, 6)], 8), ([(0, 1), (2, 9), (5, 9), (7, 1)], 11), ([(0, 3), (6, 4)], 5)):
-        most, (_, _, _, scale, lead, section) = peak_moment(axles, span)
+            if peak_moment(longer, row.inches)[0] > most.moment or peak_shear(longer, row.inches)[0] > most.shear:
+                yield f"model: HS20-44 with {gap} in between its last axles exceeds 14 ft on {row.inches} in"
+
+
+def wrong_peaks() -> Iterator[str]:
+    """No place of some trucks exceeds the peak, which is reached at the place that is told."""
+    trains: list[tuple[Axles, int]] = [
+        ([(0, 5), (3, 7), (4, 2), (9, 6)], 8), ([(0, 1), (2, 9), (5, 9), (7, 1)], 11), ([(0, 3), (6, 4)], 5),
+    ]
+    for axles, span in trains:
+        most, at = peak_moment(axles, span)
         places = [(q, x, r) for q in (1, 2) for x in range(-9 * q, span * q + 1) for r in range(span * q + 1)]
-        if any(moment(axles, span, *place) > most for place in places) or moment(axles, span, scale, lead, section) != most:
-            yield "model: %d over a span of %d in is not the peak" % (most, span)
+        is_over = any(moment(axles, span, *place) > most for place in places)
+        if is_over or moment(axles, span, at.scale, at.lead, at.section) != most:
+            yield f"model: {most} over a span of {span} in is not the peak"
 
 
-def compared(program):
+def compared(program: str) -> tuple[int, list[str]]:
     """How many rows were compared, and what is wrong."""
-    wrong = [*wrong_model()]
+    wrong = [*wrong_spacing(), *wrong_peaks()]
     for tried, name in ((program, "program"), (None, "model")):
         wrong += [*wrong_formula(tried, name), *wrong_aashto(tried, name)]
     return len(list(formula_rows())) + len(list(aashto_rows())), wrong

@@ -1,16 +1,29 @@
 """Ways to break a file. What comes of one may still be good; that is for the model to say."""
+from collections.abc import Collection, Iterator, Sequence
+from dataclasses import dataclass
+from random import Random
+
 from model.files import CHECK_KINDS, DAY_KINDS
 from model.forms import LIMITS, POSTED
 
-BAD_NUMBERS = ("", "-1", "+1", " 1", "1 ", "1.0", "1e3", "0x10", "1,000", "1234567890", "0000000001", "000000001", "\u0661",
-               "one")
+from .texts import Record
+
+BAD_NUMBERS = (
+    "", "-1", "+1", " 1", "1 ", "1.0", "1e3", "0x10", "1,000", "1234567890", "0000000001", "000000001", "\u0661", "one",
+)
 BAD_NAMES = ("", "a b", "ann!", "x" * 17, "\u00e4", "a.b", " a", "a\t", "Zz", "A\x00")
-BAD_AXLES = ("", "0", "0:", ":1", "0:1:2", "0:8000", "0:8000 ", " 0:8000 9:1", "0:8000  168:32000", "0:8000,168:1",
-             "0:8000;168:1", "0 :8000 168:32000", "-0:1 2:3", "0:8000\t168:1", "0:8000 168:1234567890", "00:08000 168:32000")
-BAD_DAYS = ("", "2026-3-2", "2026-03-2", "2026/03/02", "02.03.2026", "2026-03-02 ", " 2026-03-02", "20260302", "2026-02-29",
-            "2028-02-29", "1900-02-29", "2000-02-29", "2100-02-29", "0000-01-01", "0001-01-01", "9999-12-31", "2026-00-10",
-            "2026-13-01", "2026-04-31", "2026-12-00", "2026-12-32", "10000-01-01", "2026-03-0\u0662")
+BAD_AXLES = (
+    "", "0", "0:", ":1", "0:1:2", "0:8000", "0:8000 ", " 0:8000 9:1", "0:8000  168:32000", "0:8000,168:1",
+    "0:8000;168:1", "0 :8000 168:32000", "-0:1 2:3", "0:8000\t168:1", "0:8000 168:1234567890", "00:08000 168:32000",
+)
+BAD_DAYS = (
+    "", "2026-3-2", "2026-03-2", "2026/03/02", "02.03.2026", "2026-03-02 ", " 2026-03-02", "20260302", "2026-02-29",
+    "2028-02-29", "1900-02-29", "2000-02-29", "2100-02-29", "0000-01-01", "0001-01-01", "9999-12-31", "2026-00-10",
+    "2026-13-01", "2026-04-31", "2026-12-00", "2026-12-32", "10000-01-01", "2026-03-0\u0662",
+)
 BAD_WORDS = ("", "Height", "rating", "closed ", "weight", "height", "allowance", "axle")
+BAD_ROUTES = (" ", "a  b", "a ", " a", "a,b", "\u00e4", "x" * 17)
+BAD_KINDS = ("", "Node", "node ", "nodes", " day", "truck", "probe", "day", "end", "span", "#", "\ufeffday")
 TRAINS = (
     [(0, 8000)], [(i, 1) for i in range(33)], [(1, 8000), (2, 8000)], [(0, 1), (0, 1)], [(0, 1), (5, 1), (4, 1)],
     [(0, 0), (1, 1)], [(0, 200001), (1, 1)], [(0, 200000), (1, 200000)], [(40 * i, 200000) for i in range(11)],
@@ -18,27 +31,47 @@ TRAINS = (
     [(0, 1), (3000, 1)], [(0, 1), (3001, 1)], [(1, 0)], [(i, 200001) for i in range(33)], [(0, 200000)] * 12,
     [(0, 1), (5000, 200001)], [(900 * i, 200000) for i in range(11)],
 )
+# The form of each field behind the kind: a day, a name, a number, a word for a limit, axles, or a route.
 FORMS = {
     "day": "d", "node": "n", "segment": "nnn#", "limit": "nw#", "span": "nn##", "truck": "nn###a", "actor": "n",
     "apply": "nnnnrdd", "post": "nnw#", "setday": "nd", "surrender": "n#", "show": "n#", "probe": "##", "end": "",
 }
-BAD = {"n": BAD_NAMES, "#": BAD_NUMBERS, "a": BAD_AXLES, "d": BAD_DAYS, "w": BAD_WORDS,
-       "r": (" ", "a  b", "a ", " a", "a,b", "\u00e4", "x" * 17)}
-BYTES = [b'"', b'""', b",", b"\n", b"\r", b" ", b"\0", b"\xff", b"\xc3", b"\xc3\xa4", b"\xef\xbb\xbf", b"0", b"9", b":", b"-",
-         b"a", b"\t"]
+BAD = {"n": BAD_NAMES, "#": BAD_NUMBERS, "a": BAD_AXLES, "d": BAD_DAYS, "w": BAD_WORDS, "r": BAD_ROUTES}
+BYTES = (
+    b'"', b'""', b",", b"\n", b"\r", b" ", b"\0", b"\xff", b"\xc3", b"\xc3\xa4", b"\xef\xbb\xbf", b"0", b"9",
+    b":", b"-", b"a", b"\t",
+)
 
 
-def place(rng, records, kinds=None):
+@dataclass(frozen=True)
+class End:
+    """A number at an end of its range or just beyond it, and where it stands.
+
+    What it limits, if that is said in the record, stands in the field before it.
+    """
+
+    kind: str
+    column: int
+    what: str | None
+    number: int
+
+
+def kind_of(record: Record) -> str:
+    """The kind of a record, if it has one that is text."""
+    return record[0] if record and isinstance(record[0], str) else ""
+
+
+def place(rng: Random, records: Sequence[Record], kinds: Collection[str] = ()) -> int | None:
     """The place of a record that has fields behind its kind, or of one of these kinds; or None."""
     fit = [at for at, record in enumerate(records)
-           if len(record) == 8 and FORMS.get(record[0]) and (not kinds or record[0] in kinds)]
+           if len(record) == 8 and FORMS.get(kind_of(record)) and (not kinds or record[0] in kinds)]
     if not fit:
         return None
-    kind = rng.choice(sorted({records[at][0] for at in fit}))
-    return rng.choice([at for at in fit if records[at][0] == kind])
+    chosen = rng.choice(sorted({kind_of(records[at]) for at in fit}))
+    return rng.choice([at for at in fit if records[at][0] == chosen])
 
 
-def fields(rng, records):
+def fields(rng: Random, records: list[Record]) -> None:
     """A comma too few or too many, or a field that is no UTF-8."""
     record = rng.choice(records)
     how = rng.randrange(3)
@@ -50,12 +83,13 @@ def fields(rng, records):
         record[rng.randrange(len(record))] = rng.choice((b"\xff", b"a\xc3", b"\xed\xa0\x80", b"\xc0\x80"))
 
 
-def kind(rng, records):
+def kind(rng: Random, records: list[Record]) -> None:
+    """A kind that is not there, or is another's."""
     record = rng.choice(records)
-    record[:1] = [rng.choice(("", "Node", "node ", "nodes", " day", "truck", "probe", "day", "end", "span", "#", "\ufeffday"))]
+    record[:1] = [rng.choice(BAD_KINDS)]
 
 
-def order(rng, records):
+def order(rng: Random, records: list[Record]) -> None:
     """A record that is moved, doubled or left out, the first and the last one most often."""
     at = rng.choice((0, len(records) - 1, rng.randrange(len(records))))
     record = records.pop(at)
@@ -65,43 +99,44 @@ def order(rng, records):
         records.append(list(record))
 
 
-def extra(rng, records):
-    at = rng.randrange(len(records))
-    used = len(FORMS.get(records[at][0] if records[at] else "", "")) + 1
-    if used < len(records[at]):
-        records[at][rng.randrange(used, len(records[at]))] = rng.choice(("ft", " ", "0", "-"))
+def extra(rng: Random, records: list[Record]) -> None:
+    """Something in a field that is to be empty."""
+    record = records[rng.randrange(len(records))]
+    used = len(FORMS.get(kind_of(record), "")) + 1
+    if used < len(record):
+        record[rng.randrange(used, len(record))] = rng.choice(("ft", " ", "0", "-"))
 
 
-def field(rng, records):
+def field(rng: Random, records: list[Record]) -> None:
     """A field that has not its form, or only just has it."""
     at = place(rng, records)
     if at is not None:
-        forms = FORMS[records[at][0]]
+        forms = FORMS[kind_of(records[at])]
         column = rng.randrange(len(forms))
         records[at][column + 1] = rng.choice(BAD[forms[column]])
 
 
-def range_(rng, records):
+def range_(rng: Random, records: list[Record]) -> None:
     """A number at a limit of its range or beside it."""
     at = place(rng, records, [kind for kind, forms in FORMS.items() if "#" in forms])
     if at is not None:
-        record = records[at]
-        kinds = DAY_KINDS if record[0] in DAY_KINDS else CHECK_KINDS
-        column = rng.choice([i for i, form in enumerate(FORMS[record[0]]) if form == "#"])
-        least, most = kinds[record[0]][column].range(record[1:])
-        numbers = (least - 1, least, most, most + 1) if least is not None else (0, 1, 999999999)
+        record, its_kind = records[at], kind_of(records[at])
+        kinds = DAY_KINDS if its_kind in DAY_KINDS else CHECK_KINDS
+        column = rng.choice([i for i, form in enumerate(FORMS[its_kind]) if form == "#"])
+        least, most = kinds[its_kind][column].range(record[1:])
+        numbers = (0, 1, 999999999) if least is None or most is None else (least - 1, least, most, most + 1)
         record[column + 1] = str(max(0, rng.choice(numbers)))
 
 
-def date(rng, records):
+def date(rng: Random, records: list[Record]) -> None:
     """A day that is there or is not."""
     at = place(rng, records, ("day", "setday", "apply"))
     if at is not None:
-        column = rng.choice([i for i, form in enumerate(FORMS[records[at][0]]) if form == "d"])
+        column = rng.choice([i for i, form in enumerate(FORMS[kind_of(records[at])]) if form == "d"])
         records[at][column + 1] = rng.choice(BAD_DAYS)
 
 
-def same(rng, records):
+def same(rng: Random, records: list[Record]) -> None:
     """A name that another record of the kind has too."""
     at = place(rng, records, ("node", "segment", "span", "truck", "actor"))
     if at is not None:
@@ -109,91 +144,98 @@ def same(rng, records):
         records[at][1] = rng.choice(others)[1]
 
 
-def unknown(rng, records):
+def unknown(rng: Random, records: list[Record]) -> None:
     """A name that is not there, or is one of another kind, in some place where a name may stand."""
     at = place(rng, records)
     if at is not None:
-        columns = [i for i, form in enumerate(FORMS[records[at][0]]) if form in "nr"]
+        columns = [i for i, form in enumerate(FORMS[kind_of(records[at])]) if form in "nr"]
         if columns:
-            known = [record[1] for record in records if len(record) == 8 and record[0] in ("node", "segment", "truck", "actor")]
-            records[at][rng.choice(columns) + 1] = rng.choice(known + ["nowhere"])
+            named = ("node", "segment", "truck", "actor")
+            known = [record[1] for record in records if len(record) == 8 and record[0] in named]
+            records[at][rng.choice(columns) + 1] = rng.choice([*known, "nowhere"])
 
 
-def train(rng, records):
+def train(rng: Random, records: list[Record]) -> None:
+    """A truck whose axles break a rule of trains, or only just keep it."""
     at = place(rng, records, ("truck",))
     if at is not None:
-        records[at][6] = " ".join("%d:%d" % pair for pair in rng.choice(TRAINS))
+        records[at][6] = " ".join(f"{place}:{weight}" for place, weight in rng.choice(TRAINS))
 
 
-def trip(rng, records):
+def trip(rng: Random, records: list[Record]) -> None:
     """An application from a node to itself, on a route that is no walk, or with its days exchanged."""
     trips = [record for record in records if len(record) == 8 and record[0] == "apply"]
     if not trips:
         return
     record, how = rng.choice([record for record in trips if record[5]] or trips), rng.randrange(5)
-    known = {kind: [other[1] for other in records if len(other) == 8 and other[0] == kind] for kind in ("segment", "node")}
+    nodes, segments = ([it[1] for it in records if len(it) == 8 and it[0] == kind] for kind in ("node", "segment"))
     if how == 0:
         record[4] = record[3]
     elif how == 1:
         record[6], record[7] = record[7], record[6]
-    elif how == 2 and known["node"]:
-        record[rng.choice((3, 4))] = rng.choice(known["node"])
-    elif known["segment"]:
-        route = str(record[5]).split() + [rng.choice(known["segment"])]
+    elif how == 2 and nodes:
+        record[rng.choice((3, 4))] = rng.choice(nodes)
+    elif segments:
+        route = [*str(record[5]).split(), str(rng.choice(segments))]
         if how == 3:
             rng.shuffle(route)
         record[5] = " ".join(route)
 
 
-WAYS = (fields, kind, order, extra, field, field, field, range_, range_, date, same, unknown, train, train, trip, trip)
+WAYS = (
+    fields, kind, order, extra, field, field, field, range_, range_, date, same, unknown, train, train, trip, trip,
+)
 
 
-def ends(check):
-    """Each number that has a range, as its kind of record, its column, what it limits, if that is said in the record, and a value:
-    the ends of the range, and what lies just beyond them."""
-    for kind, columns in (CHECK_KINDS if check else DAY_KINDS).items():
+def ends(is_check: bool) -> Iterator[End]:
+    """The ends of each range that a number has in a file, and what lies just beyond them."""
+    for kind, columns in (CHECK_KINDS if is_check else DAY_KINDS).items():
+        limits: Sequence[str | None] = {"limit": LIMITS, "post": POSTED}.get(kind, (None,))
         for at, column in enumerate(columns):
-            for what in {"limit": LIMITS, "post": POSTED}.get(kind, (None,)) if FORMS[kind][at] == "#" else ():
-                # What is limited stands in the field before the number.
+            if FORMS[kind][at] != "#":
+                continue
+            for what in limits:
+                # what is limited stands in the field before the number
                 least, most = column.range([None] * (at - 1) + [what] if what else [])
-                if least is not None:
-                    yield from ((kind, at + 1, what, number) for number in (least, most, most + 1, *([least - 1] * (least > 0))))
+                if least is not None and most is not None:
+                    below = [least - 1] if least > 0 else []
+                    yield from (End(kind, at + 1, what, number) for number in (least, most, most + 1, *below))
 
 
-def set_number(rng, records, end):
+def set_number(rng: Random, records: list[Record], end: End) -> None:
     """Sets a number in a record of a kind, if there is one, and what it limits there."""
-    kind, at, what, number = end
-    fit = [record for record in records if record[0] == kind]
-    # A rating is that of a span, and all else is a segment's.
-    fit = [record for record in fit if kind != "post" or (record[3] == "rating") == (what == "rating")] or fit
+    fit = [record for record in records if record[0] == end.kind]
+    # a rating is that of a span, and all else is a segment's
+    is_rating = end.what == "rating"
+    fit = [record for record in fit if end.kind != "post" or (record[3] == "rating") == is_rating] or fit
     if fit:
         record = rng.choice(fit)
-        record[at] = str(number)
-        if what:
-            record[at - 1] = what
+        record[end.column] = str(end.number)
+        if end.what:
+            record[end.column - 1] = end.what
 
 
-def broken(rng, records):
+def broken(rng: Random, records: Sequence[Record]) -> list[Record]:
     """A file that is broken in one to three places."""
-    records = [list(record) for record in records]
+    copied = [list(record) for record in records]
     for _ in range(rng.choice((1, 1, 1, 2, 3))):
-        rng.choice(WAYS)(rng, records)
-    return records
+        rng.choice(WAYS)(rng, copied)
+    return copied
 
 
-def scratched(rng, text):
+def scratched(rng: Random, text: bytes) -> bytes:
     """A text with a few bytes changed, left out or put in."""
-    text = bytearray(text)
+    made = bytearray(text)
     for _ in range(rng.choice((1, 1, 2, 4))):
-        at, how = rng.randint(0, len(text)), rng.randrange(5)
+        at, how = rng.randint(0, len(made)), rng.randrange(5)
         if how == 0:
-            del text[at:at + 1]
+            del made[at:at + 1]
         elif how == 1:
-            text[at:at + 1] = rng.choice(BYTES)
+            made[at:at + 1] = rng.choice(BYTES)
         elif how == 2:
-            text[at:at] = rng.choice(BYTES)
+            made[at:at] = rng.choice(BYTES)
         elif how == 3:
-            del text[at:at + rng.randint(1, 40)]
+            del made[at:at + rng.randint(1, 40)]
         else:
-            text[at:at] = text[max(0, at - rng.randint(1, 60)):at]
-    return bytes(text[:rng.randrange(len(text) + 1)] if rng.random() < 0.1 else text)
+            made[at:at] = made[max(0, at - rng.randint(1, 60)):at]
+    return bytes(made[:rng.randrange(len(made) + 1)] if rng.random() < 0.1 else made)

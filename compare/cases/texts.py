@@ -1,23 +1,29 @@
 """The ways in which the same records may be written down."""
+from collections.abc import Iterable, Sequence
+from random import Random
 
+# A field is text, a number, or bytes where these are no text.
+Field = str | int | bytes
+Record = list[Field]
 ENDS = (b"\n", b"\n", b"\r\n", b"\r")
 
 
-def encoded(field):
+def encoded(field: Field) -> bytes:
+    """The bytes of a field."""
     return field if isinstance(field, bytes) else str(field).encode()
 
 
-def full(record):
+def full(record: Sequence[Field]) -> Record:
     """A record with empty fields at its end to make eight."""
-    return list(record) + [""] * (8 - len(record))
+    return [*record, *[""] * (8 - len(record))]
 
 
-def plain(records):
+def plain(records: Iterable[Record]) -> bytes:
     """The text with a line feed behind each record and no quotes."""
     return b"".join(b",".join(map(encoded, record)) + b"\n" for record in records)
 
 
-def dressed(rng, records):
+def dressed(rng: Random, records: Iterable[Record]) -> bytes:
     """The text in one of the ways of spreadsheets, and in some that none of them has."""
     end, quoting, blanks = rng.choice(ENDS), rng.choice((0, 0, 0.1, 1)), rng.choice((0, 0, 0.2))
     text = [b"\xef\xbb\xbf"] if rng.random() < 0.3 else []
@@ -30,7 +36,7 @@ def dressed(rng, records):
     return b"".join(text)
 
 
-def written(rng, field, quoting):
+def written(rng: Random, field: bytes, quoting: float) -> bytes:
     """A field, in quotes or not; also with a part of it behind the closing quote, which reads the same."""
     if rng.random() >= quoting and b'"' not in field:
         return field

@@ -1,7 +1,7 @@
 """The permit office once more, in plain Python: a second reading of docs/FORMATS.md and docs/DEFINITIONS.md.
 
-It shares no code with the program and was written from those two pages alone, with whole numbers and fractions of the standard
-library. Read it in this order:
+It shares no code with the program and was written from those two pages alone, with whole numbers and fractions of the
+standard library. Read it in this order:
 
 - `records`  bytes to records;
 - `forms`    what a name, a number, a day, axles and a route look like;

@@ -1,21 +1,46 @@
 """Trucks on a simple span: influence lines, peak moments, peak end shears, and the HS20-44 design truck.
 
-A load off the span does nothing; one exactly on a support counts as on it. Under one axle the moment is, while the same axles
-are on the span, a parabola in the place of the train, which is greatest where that axle and the centre of weight of those on the
-span lie on both sides of the middle, as far from it. An axle that comes on or goes off does so at a support, where it adds
-nothing, and adds more on the span than off it: so no peak lies where the axles on the span change, unless at such a vertex. All
-vertices of all axles and all runs are tried here, each with the moment of all axles that are on the span there.
+A load off the span does nothing; one exactly on a support counts as on it. While the same axles are on the span, the
+moment under one axle is a parabola in the place of the train. It is greatest where that axle and the centre of weight
+of those on the span lie on both sides of the middle, as far from it. An axle that comes on or goes off does so at a
+support, where it adds nothing, and adds more on the span than off it. So no peak lies where the axles on the span
+change, unless at such a vertex. All vertices of all axles and all runs are tried here, each with the moment of all
+axles that are on the span there.
 """
 import functools
 import math
 from bisect import bisect_left, bisect_right
 from collections.abc import Iterator
 from fractions import Fraction
+from typing import NamedTuple
 
 from .limits import Axles
 
-# axle, first and last of the run, scale, lead, section
-Vertex = tuple[int, int, int, int, int, int]
+
+class Vertex(NamedTuple):
+    """An axle, a run from its first to its last axle, and the place: lead and section in 1/scale inches."""
+
+    axle: int
+    first: int
+    last: int
+    scale: int
+    lead: int
+    section: int
+
+
+class End(NamedTuple):
+    """Where an end shear is taken: the first axle at the lead, at the left or the right support."""
+
+    lead: int
+    side: str
+
+
+class Effects(NamedTuple):
+    """The peak moment and the peak end shear of a truck on a span."""
+
+    moment: Fraction
+    shear: Fraction
+
 
 HS20 = ((0, 8000), (168, 32000), (336, 32000))
 
@@ -31,7 +56,7 @@ def moment(axles: Axles, span: int, scale: int, lead: int, section: int) -> Frac
 
 
 def vertices(axles: Axles, span: int) -> Iterator[Vertex]:
-    """Each vertex whose section is on the span: axle, first and last of the run, scale, lead, section; in this order."""
+    """Each vertex whose section is on the span, by its axle, and then by the first and the last axle of the run."""
     for axle, (place, _) in enumerate(axles):
         for first in range(len(axles)):
             weight = turn = 0
@@ -41,7 +66,7 @@ def vertices(axles: Axles, span: int) -> Iterator[Vertex]:
                 lead = weight * (span - place) - turn
                 section = weight * (span + place) - turn
                 if 0 <= section <= 2 * weight * span:
-                    yield axle, first, last, 2 * weight, lead, section
+                    yield Vertex(axle, first, last, 2 * weight, lead, section)
 
 
 def peak_moment(axles: Axles, span: int) -> tuple[Fraction, Vertex]:
@@ -52,7 +77,7 @@ def peak_moment(axles: Axles, span: int) -> tuple[Fraction, Vertex]:
         weights.append(weights[-1] + weight)
         turns.append(turns[-1] + weight * place)
     # an axle at the middle of the span alone is a vertex, so there is one
-    most, scaled, where = -1, 1, (0, 0, 0, 1, 0, 0)
+    most, scaled, where = -1, 1, Vertex(0, 0, 0, 1, 0, 0)
     for vertex in vertices(axles, span):
         axle, _, _, scale, lead, section = vertex
         end = scale * span
@@ -63,31 +88,31 @@ def peak_moment(axles: Axles, span: int) -> tuple[Fraction, Vertex]:
         total = left * (end - section) + right * section
         if total * scaled > most * scale * scale:
             most, scaled, where = total, scale * scale, vertex
-    axle, first, last, scale, lead, section = where
-    common = math.gcd(scale, lead, section)
-    return Fraction(most, scaled * span), (axle, first, last, scale // common, lead // common, section // common)
+    common = math.gcd(where.scale, where.lead, where.section)
+    reduced = (where.scale // common, where.lead // common, where.section // common)
+    return Fraction(most, scaled * span), Vertex(where.axle, where.first, where.last, *reduced)
 
 
-def peak_shear(axles: Axles, span: int) -> tuple[Fraction, tuple[int, str]]:
-    """The peak end shear, and the lead and the support at which it is reached first: the left one, by the order of axles."""
-    most, where = Fraction(-1), (0, "left")
+def peak_shear(axles: Axles, span: int) -> tuple[Fraction, End]:
+    """The peak end shear, and where it is reached first: the left support comes first, then the order of axles."""
+    most, where = Fraction(-1), End(0, "left")
     for side in ("left", "right"):
         for at, _ in axles:
             lead = -at if side == "left" else span - at
             on = [(lead + place, weight) for place, weight in axles if 0 <= lead + place <= span]
             total = Fraction(sum(weight * (span - x if side == "left" else x) for x, weight in on), span)
             if total > most:
-                most, where = total, (lead, side)
+                most, where = total, End(lead, side)
     return most, where
 
 
 @functools.lru_cache(maxsize=None)
-def design(span: int) -> tuple[Fraction, Fraction]:
-    """The peak moment and the peak end shear of HS20-44. Of the second spacings from 14 to 30 ft the least is the worst."""
-    return peak_moment(HS20, span)[0], peak_shear(HS20, span)[0]
+def design(span: int) -> Effects:
+    """The peaks of HS20-44. Of its second spacings, from 14 to 30 ft, the least is the worst."""
+    return Effects(peak_moment(HS20, span)[0], peak_shear(HS20, span)[0])
 
 
-def fit(effects: tuple[Fraction, Fraction], span: int, rating: int) -> str:
+def fit(effects: Effects, span: int, rating: int) -> str:
     """The first effect that is over so many thousandths of that of HS20-44, or `fits`."""
     for word, has, most in zip(("moment", "shear"), effects, design(span)):
         if 1000 * has > rating * most:
@@ -96,4 +121,5 @@ def fit(effects: tuple[Fraction, Fraction], span: int, rating: int) -> str:
 
 
 def ratio(fraction: Fraction) -> str:
-    return "%d/%d" % (fraction.numerator, fraction.denominator)
+    """A fraction in lowest terms, as the report and the journal write it."""
+    return f"{fraction.numerator}/{fraction.denominator}"

@@ -1,11 +1,12 @@
 """The check file and the day file: what some bytes say, or the first record that is refused and the cause.
 
-A kind of record is a list of columns. A column knows the form of its field, whether it defines a name or refers to one, and the
-range of its value. So the causes `field`, `same`, `unknown` and `range` are each one pass over the columns, in that order; what
-else may be wrong with a record follows them, and that there are too many of its kind comes last.
+A kind of record is a list of columns. A column knows the form of its field, whether it defines a name or refers to one,
+and the range of its value. So the causes `field`, `same`, `unknown` and `range` are each one pass over the columns, in
+that order; what else may be wrong with a record follows them, and that there are too many of its kind comes last.
 """
 from collections.abc import Callable
-from typing import Any
+from dataclasses import dataclass
+from typing import Any, NamedTuple
 
 from . import forms
 from .limits import Axles
@@ -25,16 +26,71 @@ class Refused(Exception):
 
     def __init__(self, status: int, what: str) -> None:
         super().__init__(what)
-        self.status, self.line = status, "refused: %s\n" % what
+        self.status, self.line = status, f"refused: {what}\n"
 
 
+class Probe(NamedTuple):
+    """The length of a span and its rating."""
+
+    inches: int
+    rating: int
+
+
+class Segment(NamedTuple):
+    """The numbers of two nodes, and how far it is from the one to the other."""
+
+    start: int
+    end: int
+    feet: int
+
+
+class Span(NamedTuple):
+    """The number of its segment, its length, and its rating before anything is posted."""
+
+    segment: int
+    inches: int
+    rating: int
+
+
+class Trip(NamedTuple):
+    """An application: a truck, two nodes, the segments that are asked for (none: the shortest route), and two days."""
+
+    truck: int
+    start: int
+    end: int
+    asked: tuple[int, ...]
+    first: str
+    last: str
+
+
+class Posting(NamedTuple):
+    """A value of a limit of a segment, or of the rating of a span."""
+
+    item: int
+    limit: str
+    value: int
+
+
+class Command(NamedTuple):
+    """What an actor gives: of kind `setday` a day, of `surrender` and `show` the number of a permit."""
+
+    actor: int
+    kind: str
+    what: Trip | Posting | str | int
+
+
+@dataclass(frozen=True)
 class Column:
-    """A field of a kind of record: its form, the kind of name that it defines or refers to, and the range of its number."""
+    """A field of a kind of record: its form, the kind of name that it defines or refers to, and its range.
 
-    def __init__(self, form: Callable[[bytes], Any], defines: str | None = None,
-                 refers: str | Callable[[Values], str] | None = None,
-                 least: int | Callable[[Values], Bounds] | None = None, most: int | None = None) -> None:
-        self.form, self.defines, self.refers, self.least, self.most = form, defines, refers, least, most
+    What a field refers to, and its range, may rest on the record: then a function of the record's values gives it.
+    """
+
+    form: Callable[[bytes], Any]
+    defines: str | None = None
+    refers: str | Callable[[Values], str] | None = None
+    least: int | Callable[[Values], Bounds] | None = None
+    most: int | None = None
 
     def referred(self, record: Values) -> str | None:
         """The kind of name that this field refers to, in this record."""
@@ -57,14 +113,17 @@ class Column:
 
 
 def defines(kind: str) -> Column:
+    """A name that is defined here."""
     return Column(forms.name, defines=kind)
 
 
 def refers(kind: str) -> Column:
+    """A name that has to be defined above."""
     return Column(forms.name, refers=kind)
 
 
 def number(least: int | None = None, most: int | None = None) -> Column:
+    """A number of this range."""
     return Column(forms.number, least=least, most=most)
 
 
@@ -103,6 +162,7 @@ COMMANDS = ("apply", "post", "setday", "surrender", "show")
 
 class File:
     """What some bytes say, record by record. `names` has the number of each name of each kind."""
+
     kinds: dict[str, list[Column]] = {}
     first = ""
 
@@ -123,9 +183,11 @@ class File:
             raise Refused(6, "bytes")
 
     def refuse(self, cause: str, status: int = 5) -> None:
-        raise Refused(status, "record %d %s" % (self.row, cause))
+        """Refuses the record at hand."""
+        raise Refused(status, f"record {self.row} {cause}")
 
     def demand(self, holds: bool, cause: str) -> None:
+        """Refuses the record at hand for this cause, unless something holds of it."""
         if not holds:
             self.refuse(cause)
 
@@ -135,6 +197,7 @@ class File:
             self.refuse(kind, 6)
 
     def take(self, record: list[bytes]) -> None:
+        """Takes in the record at hand, or refuses it for the first cause there is."""
         self.demand(len(record) == 8 and is_text(record), "fields")
         kind = record[0].decode()
         self.demand(kind in self.kinds, "kind")
@@ -146,37 +209,41 @@ class File:
         if kind == "end":
             self.ended = True
         else:
-            getattr(self, "add_" + kind)(*values)
+            getattr(self, f"add_{kind}")(*values)
 
     def in_form(self, columns: list[Column], fields: list[bytes]) -> Values:
+        """The values of the fields, each of which has its form."""
         values: Values = []
         for at, (column, field) in enumerate(zip(columns, fields), 2):
             values.append(column.form(field))
-            self.demand(values[-1] is not None, "field %d" % at)
+            self.demand(values[-1] is not None, f"field {at}")
         return values
 
     def in_place(self, columns: list[Column], values: Values) -> None:
+        """Whether names are new where defined and known where used, and whether values are in their ranges."""
         for column, it in zip(columns, values):
             self.demand(not column.defines or it not in self.names[column.defines], "same")
         for at, (column, it) in enumerate(zip(columns, values), 2):
             kind = column.referred(values)
-            self.demand(not kind or all(name in self.names[kind] for name in column.names(it)), "unknown %d" % at)
+            self.demand(not kind or all(name in self.names[kind] for name in column.names(it)), f"unknown {at}")
         for at, (column, it) in enumerate(zip(columns, values), 2):
-            self.demand(column.fits(it, values), "range %d" % at)
+            self.demand(column.fits(it, values), f"range {at}")
 
     def truck_of(self, name: str, carrier: str, height: int, width: int, length: int, axles: Axles) -> Truck:
+        """A truck whose axles keep the rules of trains."""
         broken = broken_rule(axles)
-        self.demand(broken is None, "train %s" % broken)
+        self.demand(broken is None, f"train {broken}")
         return Truck(name, carrier, height, width, length, axles)
 
 
 class CheckFile(File):
-    """One truck and its probes, each the inches of a span and its rating."""
+    """One truck and its probes."""
+
     kinds, first = CHECK_KINDS, "truck"
     truck: Truck
 
     def __init__(self, data: bytes) -> None:
-        self.probes: list[tuple[int, int]] = []
+        self.probes: list[Probe] = []
         super().__init__(data)
 
     def add_truck(self, *values: Any) -> None:
@@ -184,28 +251,29 @@ class CheckFile(File):
 
     def add_probe(self, inches: int, rating: int) -> None:
         self.room("probes", len(self.probes))
-        self.probes.append((inches, rating))
+        self.probes.append(Probe(inches, rating))
 
 
 class DayFile(File):
     """Roads, trucks and actors, each numbered from 0 in the order of the records, and the commands in their order.
 
-    A segment is its start, its end and its feet; a span is its segment, its inches and its rating; `values` are the limits of
-    each segment before anything is posted. A command is the number of its actor, its kind and what it asks for.
+    `values` are the limits of each segment before anything is posted.
     """
+
     kinds, first = DAY_KINDS, "day"
     day: str
 
     def __init__(self, data: bytes) -> None:
-        self.segments: list[tuple[int, int, int]] = []
+        self.segments: list[Segment] = []
         self.values: list[dict[str, int]] = []
-        self.spans: list[tuple[int, int, int]] = []
+        self.spans: list[Span] = []
         self.trucks: list[Truck] = []
         self.actors = 0
-        self.commands: list[tuple[int, str, Any]] = []
+        self.commands: list[Command] = []
         super().__init__(data)
 
     def add(self, kind: str, name: str) -> None:
+        """Gives a name of this kind the next number."""
         numbers = self.names[kind]
         self.room(kind, len(numbers))
         numbers[name] = len(numbers)
@@ -219,7 +287,7 @@ class DayFile(File):
     def add_segment(self, name: str, start: str, end: str, feet: int) -> None:
         self.add("segments", name)
         nodes = self.names["nodes"]
-        self.segments.append((nodes[start], nodes[end], feet))
+        self.segments.append(Segment(nodes[start], nodes[end], feet))
         self.values.append({what: 0 if what == "closed" else forms.RANGES[what][1] for what in forms.LIMITS})
 
     def add_limit(self, segment: str, what: str, it: int) -> None:
@@ -228,10 +296,10 @@ class DayFile(File):
     def add_span(self, name: str, segment: str, inches: int, rating: int) -> None:
         on = self.names["segments"][segment]
         self.room("spans", len(self.spans))
-        if sum(span[0] == on for span in self.spans) >= MOST_SPANS_OF_SEGMENT:
+        if sum(span.segment == on for span in self.spans) >= MOST_SPANS_OF_SEGMENT:
             self.refuse("spans-of-segment", 6)
         self.add("spans", name)
-        self.spans.append((on, inches, rating))
+        self.spans.append(Span(on, inches, rating))
 
     def add_truck(self, *values: Any) -> None:
         truck = self.truck_of(*values)
@@ -242,9 +310,10 @@ class DayFile(File):
         self.add("actors", name)
         self.actors += 1
 
-    def command(self, actor: str, kind: str, what: Any) -> None:
+    def command(self, actor: str, kind: str, what: Trip | Posting | str | int) -> None:
+        """Takes in one more command."""
         self.room("commands", len(self.commands))
-        self.commands.append((self.names["actors"][actor], kind, what))
+        self.commands.append(Command(self.names["actors"][actor], kind, what))
 
     def add_apply(self, actor: str, truck: str, start: str, end: str, route: list[str], first: str, last: str) -> None:
         nodes = self.names["nodes"]
@@ -252,19 +321,20 @@ class DayFile(File):
         asked = [self.names["segments"][name] for name in route]
         self.demand(not asked or self.is_walk(asked, nodes[start], nodes[end]), "broken-route")
         self.demand(first <= last, "day-order")
-        trip = (self.names["trucks"][truck], nodes[start], nodes[end], tuple(asked), first, last)
+        trip = Trip(self.names["trucks"][truck], nodes[start], nodes[end], tuple(asked), first, last)
         self.command(actor, "apply", trip)
 
     def is_walk(self, route: list[int], start: int, end: int) -> bool:
+        """Whether each segment of a route begins where the one before it ends."""
         for number in route:
-            if self.segments[number][0] != start:
+            if self.segments[number].start != start:
                 return False
-            start = self.segments[number][1]
+            start = self.segments[number].end
         return start == end
 
     def add_post(self, actor: str, item: str, what: str, it: int) -> None:
         kind = "spans" if what == "rating" else "segments"
-        self.command(actor, "post", (self.names[kind][item], what, it))
+        self.command(actor, "post", Posting(self.names[kind][item], what, it))
 
     def add_setday(self, actor: str, day: str) -> None:
         self.command(actor, "setday", day)

@@ -1,13 +1,13 @@
 """The federal weight limits of axle groups, 23 CFR 658.17 with the words of 658.5.
 
-A group is a run of axles next to each other, a single axle among them. Its spread is the distance in whole inches from its first
-axle to its last.
+A group is a run of axles next to each other; a single axle is one too. Its spread is the distance in whole inches from
+its first axle to its last.
 """
 from collections.abc import Sequence
+from typing import NamedTuple
 
+# the place in inches and the weight in pounds of each axle
 Axles = Sequence[tuple[int, int]]
-# the first and the last axle from 0 on, the weight, the limit and its rule
-Group = tuple[int, int, int, int, str]
 
 SINGLE, TANDEM, GROSS = 20000, 34000, 80000
 SINGLE_SPREAD, TANDEM_SPREAD = 40, 96
@@ -15,14 +15,25 @@ TWO_TANDEM, TWO_TANDEM_SPREAD = 68000, 432
 LEGAL_WIDTH, LEGAL_HEIGHT = 102, 162
 
 
+class Group(NamedTuple):
+    """A group from its first to its last axle, counted from 0, with its weight, its limit and the limit's rule."""
+
+    first: int
+    last: int
+    weight: int
+    limit: int
+    rule: str
+
+
 def formula(spread: int, count: int) -> int:
-    """W = 500 (L N / (N - 1) + 12 N + 36) with L in feet, to the nearest 500 lb; of two that are as near the lesser one."""
+    """W = 500 (L N / (N - 1) + 12 N + 36), L in feet, to the nearest 500 lb; of two that are as near, the lesser."""
     over, base = spread * count, 12 * (count - 1)
     nearest = (2 * over - base + 2 * base - 1) // (2 * base)
     return 500 * (nearest + 12 * count + 36)
 
 
 def is_tandem(axles: Axles) -> bool:
+    """Whether the spread of a group is that of a tandem."""
     return SINGLE_SPREAD < axles[-1][0] - axles[0][0] <= TANDEM_SPREAD
 
 
@@ -41,24 +52,24 @@ def group_limit(axles: Axles) -> tuple[int, str]:
 
 
 def groups(axles: Axles) -> list[Group]:
-    """All groups, by first and then by last axle: both places, the weight, the limit and its rule."""
-    return [(i, j, sum(weight for _, weight in axles[i:j + 1]), *group_limit(axles[i:j + 1]))
+    """All groups, by first and then by last axle."""
+    return [Group(i, j, sum(weight for _, weight in axles[i:j + 1]), *group_limit(axles[i:j + 1]))
             for i in range(len(axles)) for j in range(i, len(axles))]
 
 
 def findings(axles: Axles) -> list[Group]:
     """The groups over their limits, and then the gross weight over its own."""
-    found = [group for group in groups(axles) if group[2] > group[3]]
+    found = [group for group in groups(axles) if group.weight > group.limit]
     gross = sum(weight for _, weight in axles)
     if gross > GROSS:
-        found.append((0, len(axles) - 1, gross, GROSS, "gross"))
+        found.append(Group(0, len(axles) - 1, gross, GROSS, "gross"))
     return found
 
 
 def worst(axles: Axles) -> Group:
-    """The first group than which none has a weight that is a greater part of its limit."""
+    """The group whose weight is the greatest part of its limit; the first of those that are equal in this."""
     greatest, *others = groups(axles)
     for group in others:
-        if group[2] * greatest[3] > greatest[2] * group[3]:
+        if group.weight * greatest.limit > greatest.weight * group.limit:
             greatest = group
     return greatest

@@ -1,136 +1,169 @@
 """The office of one thread: what it answers to each call, and what it keeps.
 
-An application is a truck, the nodes between which it goes, the asked segments (none: the shortest route), the first and the last
-day. All numbers begin at 0 here and are printed from 1 on, but for permits and versions.
+All numbers begin at 0 here and are printed from 1 on, but for those of permits and versions.
 """
+from collections.abc import Sequence
+from dataclasses import dataclass
+from typing import NamedTuple
+
+from .files import DayFile, Posting, Trip
 from .roads import Roads
 
 
-def numbers(values, first=1):
+class Found(NamedTuple):
+    """What is found for an application: its kind, and the segments or the nodes that are listed with it.
+
+    `none` needs no permit, `fails` lists a segment that was asked for and fails the truck, `route` lists a route, and
+    `cut` the nodes that the truck reaches, where the end is not among them.
+    """
+
+    kind: str
+    listed: Sequence[int] = ()
+
+    def __str__(self) -> str:
+        """What was found, as a submit says it."""
+        return self.kind if self.kind == "none" else f"{self.kind} {numbers(self.listed)}"
+
+
+class Recall(NamedTuple):
+    """A permit that was recalled, and the version that recalled it."""
+
+    permit: int
+    version: int
+
+
+@dataclass
+class Permit:
+    """A permit, and the mark that ends it: `recalled` with a version, or `surrendered`."""
+
+    caller: int
+    trip: Trip
+    route: Sequence[int]
+    version: int
+    seen: int
+    mark: str = ""
+
+
+def numbers(values: Sequence[int], first: int = 1) -> str:
+    """Numbers as the journal lists them, the first of all numbers being this one."""
     return ",".join(str(value + first) for value in values) if values else "-"
 
 
-def trip_text(trip):
-    truck, start, end, asked, first, last = trip
-    asked = numbers(asked) if asked else "none"
-    return "truck %d from %d to %d asked %s days %s %s" % (truck + 1, start + 1, end + 1, asked, first, last)
-
-
-def what_text(what):
-    """What was found, as a submit says it."""
-    kind, listed = what
-    if kind == "none":
-        return "none"
-    return "%s %s" % (kind, numbers(listed))
-
-
-class Permit:
-    def __init__(self, caller, trip, route, version, seen):
-        self.caller, self.trip, self.route, self.version, self.seen, self.mark = caller, trip, route, version, seen, None
+def trip_text(trip: Trip) -> str:
+    """An application, as a submit says it."""
+    asked = numbers(trip.asked) if trip.asked else "none"
+    return (f"truck {trip.truck + 1} from {trip.start + 1} to {trip.end + 1} asked {asked} "
+            f"days {trip.first} {trip.last}")
 
 
 class Office:
-    """The roads with what is posted, the day, the permits so far, and the recalls: permit, version."""
+    """The roads with what is posted, the day, the permits so far, and the recalls."""
 
-    def __init__(self, file):
+    def __init__(self, file: DayFile) -> None:
         self.roads, self.trucks, self.today = Roads(file), file.trucks, file.day
-        self.permits, self.recalls, self.found = [], [], {}
+        self.permits: list[Permit] = []
+        self.recalls: list[Recall] = []
+        self.found: dict[tuple[int, int, int, tuple[int, ...], int], Found] = {}
 
-    def finding(self, trip, version):
+    def finding(self, trip: Trip, version: int) -> Found:
         """What is found for an application at a version."""
-        key = (trip[:4], version)
+        key = (trip.truck, trip.start, trip.end, trip.asked, version)
         if key not in self.found:
-            self.found[key] = self.find(*trip[:4], version)
+            self.found[key] = self.find(*key)
         return self.found[key]
 
-    def find(self, truck, start, end, asked, version):
+    def find(self, truck: int, start: int, end: int, asked: tuple[int, ...], version: int) -> Found:
+        """The same, searched for."""
         roads = self.roads
         if self.trucks[truck].is_legal():
-            return "none", ()
+            return Found("none")
         for segment in asked:
             if not roads.meets(truck, segment, version):
-                return "fails", (segment,)
+                return Found("fails", (segment,))
         route = asked or roads.shortest(truck, start, end, version)
         if route:
-            return "route", route
+            return Found("route", route)
         anywhere = roads.reached(start, lambda segment: True)
         if end not in anywhere:
-            return "cut", anywhere
-        return "cut", roads.reached(start, lambda segment: roads.meets(truck, segment, version))
+            return Found("cut", anywhere)
+        return Found("cut", roads.reached(start, lambda segment: roads.meets(truck, segment, version)))
 
-    def answer(self, caller, trip, seen, what):
+    def answer(self, caller: int, trip: Trip, seen: int, found: Found) -> str:
         """The reply to an application for which this was found at the version seen."""
-        truck, roads = trip[0], self.roads
-        if trip[4] < self.today:
-            return "late " + self.today
+        truck, roads = trip.truck, self.roads
+        if trip.first < self.today:
+            return f"late {self.today}"
         if self.trucks[truck].is_legal():
             return "notneeded"
-        kind, listed = what
-        if kind == "route":
-            return self.answer_route(caller, trip, seen, listed)
-        in_the_way = roads.leaving(listed) if kind == "cut" else listed
+        if found.kind == "route":
+            return self.answer_route(caller, trip, seen, found.listed)
+        in_the_way = roads.leaving(found.listed) if found.kind == "cut" else found.listed
         if not in_the_way:
             return "noroad"
         for segment in in_the_way:
             if roads.meets(truck, segment, roads.version):
-                return "outdated %d meets segment %d" % (roads.version, segment + 1)
-        return "refused %d %s" % (roads.version, roads.limit(truck, in_the_way[0], roads.version))
+                return f"outdated {roads.version} meets segment {segment + 1}"
+        return f"refused {roads.version} {roads.limit(truck, in_the_way[0], roads.version)}"
 
-    def answer_route(self, caller, trip, seen, route):
+    def answer_route(self, caller: int, trip: Trip, seen: int, route: Sequence[int]) -> str:
+        """The reply where a route was found."""
         version = self.roads.version
         for segment in route:
-            limit = self.roads.limit(trip[0], segment, version)
+            limit = self.roads.limit(trip.truck, segment, version)
             if limit:
-                return "outdated %d fails %s" % (version, limit)
+                return f"outdated {version} fails {limit}"
         self.permits.append(Permit(caller, trip, route, version, seen))
-        return "issued %d at %d route %s" % (len(self.permits), version, numbers(route))
+        return f"issued {len(self.permits)} at {version} route {numbers(route)}"
 
-    def status(self, permit):
-        if permit.mark:
-            return permit.mark
-        return "expired" if permit.trip[5] < self.today else "inforce"
+    def status(self, permit: Permit) -> str:
+        """What has become of a permit by today."""
+        return permit.mark or ("expired" if permit.trip.last < self.today else "inforce")
 
-    def post(self, item, what, value):
+    def post(self, posting: Posting) -> str:
         """A posting recalls the permits in force whose route then holds a segment that the truck may not pass."""
-        if not self.roads.post(item, what, value):
+        if not self.roads.post(posting):
             return "range"
         version, gone = self.roads.version, []
         for number, permit in enumerate(self.permits, 1):
-            meets = all(self.roads.meets(permit.trip[0], segment, version) for segment in permit.route)
+            meets = all(self.roads.meets(permit.trip.truck, segment, version) for segment in permit.route)
             if self.status(permit) == "inforce" and not meets:
-                permit.mark = "recalled %d" % version
+                permit.mark = f"recalled {version}"
                 gone.append(number)
-        self.recalls += [(number, version) for number in gone]
-        return "posted %d recalled %s" % (version, numbers(gone, 0))
+        self.recalls += [Recall(number, version) for number in gone]
+        return f"posted {version} recalled {numbers(gone, 0)}"
 
-    def set_day(self, day):
+    def set_day(self, day: str) -> str:
+        """The day may stay or go on, and never goes back."""
         if day < self.today:
-            return "dayback " + self.today
+            return f"dayback {self.today}"
         self.today = day
-        return "day " + day
+        return f"day {day}"
 
-    def permit(self, number):
+    def permit(self, number: int) -> Permit | None:
+        """The permit of a number, counted from 1."""
         return self.permits[number - 1] if 1 <= number <= len(self.permits) else None
 
-    def surrender(self, caller, number):
+    def surrender(self, caller: int, number: int) -> str:
+        """A permit is surrendered by the actor that has it, while it is in force."""
         permit = self.permit(number)
         if not permit:
             return "unknown"
         if permit.caller != caller:
             return "notyours"
         if self.status(permit) != "inforce":
-            return "notinforce " + self.status(permit)
+            return f"notinforce {self.status(permit)}"
         permit.mark = "surrendered"
         return "surrendered"
 
-    def show(self, number):
+    def show(self, number: int) -> str:
+        """What is known of a permit."""
         permit = self.permit(number)
         if not permit:
             return "unknown"
-        truck, _, _, _, first, last = permit.trip
-        return "shown %d caller %d truck %d days %s %s at %d seen %d %s" % (
-            number, permit.caller + 1, truck + 1, first, last, permit.version, permit.seen, self.status(permit))
+        trip = permit.trip
+        return (f"shown {number} caller {permit.caller + 1} truck {trip.truck + 1} days {trip.first} {trip.last} "
+                f"at {permit.version} seen {permit.seen} {self.status(permit)}")
 
-    def notices(self):
+    def notices(self) -> str:
         """What standard error is told of the recalls."""
-        return "".join("recall %d %d\n" % recall for recall in self.recalls)
+        return "".join(f"recall {recall.permit} {recall.version}\n" for recall in self.recalls)

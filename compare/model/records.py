@@ -1,9 +1,9 @@
 """From bytes to records: comma-separated text as the Rust crate `csv` reads it by default, without a header row.
 
-A quote opens a quoted field only as the first byte of the field; anywhere else in a field that is not quoted it stands for
-itself. In a quoted field two quotes are one. What follows the closing quote, up to the next comma or line end, belongs to the
-field. A quote that is never closed runs to the end of the text, and that is no mistake. A line end is a line feed, a carriage
-return or both. A line with nothing in it is no record.
+A quote opens a quoted field only as the first byte of the field; anywhere else in a field that is not quoted it stands
+for itself. In a quoted field two quotes are one. What follows the closing quote, up to the next comma or line end,
+belongs to the field. A quote that is never closed runs to the end of the text, and that is no mistake. A line end is a
+line feed, a carriage return or both. A line with nothing in it is no record.
 """
 import re
 from collections.abc import Iterator

@@ -6,27 +6,28 @@ from .trucks import Truck
 
 
 def report(file: CheckFile) -> str:
+    """The whole report."""
     truck = file.truck
-    lines = ["truck %s axles %d gross %d" % (truck.name, len(truck.axles), truck.gross)]
-    broken = ["over %d-%d %d %d %s" % (i + 1, j + 1, weight, limit, rule) for i, j, weight, limit, rule in truck.findings()]
+    lines = [f"truck {truck.name} axles {len(truck.axles)} gross {truck.gross}"]
+    broken = [f"over {it.first + 1}-{it.last + 1} {it.weight} {it.limit} {it.rule}" for it in truck.findings()]
     if truck.height > LEGAL_HEIGHT:
-        broken.append("high %d %d" % (truck.height, LEGAL_HEIGHT))
+        broken.append(f"high {truck.height} {LEGAL_HEIGHT}")
     if truck.width > LEGAL_WIDTH:
-        broken.append("wide %d %d" % (truck.width, LEGAL_WIDTH))
+        broken.append(f"wide {truck.width} {LEGAL_WIDTH}")
     lines += broken + ["legal no" if broken else "legal yes"]
-    for span, rating in file.probes:
-        lines += probe(truck, span, rating)
-    return "".join(line + "\n" for line in lines)
+    for asked in file.probes:
+        lines += probe(truck, asked.inches, asked.rating)
+    return "".join(f"{line}\n" for line in lines)
 
 
 def probe(truck: Truck, span: int, rating: int) -> list[str]:
     """The five lines of a probe."""
-    moment, (axle, first, last, scale, lead, section) = truck.moment(span)
-    shear, (shear_lead, side) = truck.shear(span)
+    (moment, at), (shear, end), hs20 = truck.moment(span), truck.shear(span), design(span)
+    place = f"{at.scale} {at.lead} {at.section} axle {at.axle + 1} run {at.first + 1}-{at.last + 1}"
     return [
-        "span %d" % span,
-        "moment %s at %d %d %d axle %d run %d-%d" % (ratio(moment), scale, lead, section, axle + 1, first + 1, last + 1),
-        "shear %s at %d %s" % (ratio(shear), shear_lead, side),
-        "hs20 %s %s" % tuple(map(ratio, design(span))),
-        "rating %d %s" % (rating, fit((moment, shear), span, rating)),
+        f"span {span}",
+        f"moment {ratio(moment)} at {place}",
+        f"shear {ratio(shear)} at {end.lead} {end.side}",
+        f"hs20 {ratio(hs20.moment)} {ratio(hs20.shear)}",
+        f"rating {rating} {fit(truck.effects(span), span, rating)}",
     ]

@@ -1,61 +1,70 @@
-"""The road network: what is posted at each version, which limit of a segment fails a truck first, and the shortest route.
+"""The road network: what is posted at each version, which limit fails a truck first, and the shortest route.
 
-A version is the number of postings so far. What is posted on a segment is a record of its limits with the ratings of its spans;
-each posting writes one such record anew.
+A version is the number of postings so far. What is posted on a segment is a record of its limits with the ratings of
+its spans; each posting writes one such record anew.
 """
 import heapq
 from bisect import bisect_right
-from typing import NamedTuple
+from collections.abc import Callable, Iterable
+from dataclasses import dataclass, replace
 
 from .bridges import design, fit, ratio
+from .files import DayFile, Posting
 from .forms import RANGES
+from .trucks import Truck
 
 
-class Posted(NamedTuple):
+@dataclass(frozen=True)
+class Posted:
+    """What is posted on a segment and its spans."""
+
     closed: int
     height: int
     width: int
     length: int
     gross: int
     allowance: int
-    ratings: tuple
+    ratings: tuple[int, ...]
 
 
 class Roads:
     """A network with its trucks, and all that was posted on it."""
 
-    def __init__(self, file):
-        self.segments, self.spans, self.trucks, self.nodes = file.segments, file.spans, file.trucks, len(file.names["nodes"])
-        self.outgoing = [[] for _ in range(self.nodes)]
-        for number, (start, _, _) in enumerate(self.segments):
-            self.outgoing[start].append(number)
-        self.spans_of = [[] for _ in self.segments]
-        for number, (segment, _, _) in enumerate(self.spans):
-            self.spans_of[segment].append(number)
+    def __init__(self, file: DayFile) -> None:
+        self.segments, self.spans, self.trucks = file.segments, file.spans, file.trucks
+        self.outgoing: list[list[int]] = [[] for _ in file.names["nodes"]]
+        for number, segment in enumerate(self.segments):
+            self.outgoing[segment.start].append(number)
+        self.spans_of: list[list[int]] = [[] for _ in self.segments]
+        for number, span in enumerate(self.spans):
+            self.spans_of[span.segment].append(number)
         # for each segment the versions from which on something else is posted there, and what
         self.since = [[0] for _ in self.segments]
-        self.posted = [[Posted(**values, ratings=tuple(self.spans[span][2] for span in spans))]
+        self.posted = [[Posted(**values, ratings=tuple(self.spans[span].rating for span in spans))]
                        for values, spans in zip(file.values, self.spans_of)]
-        self.version, self.limits = 0, {}
+        self.version = 0
+        # the first limit that fails a truck on a segment, by how many postings had changed that one
+        self.limits: dict[tuple[int, int, int], str | None] = {}
 
-    def post(self, item, what, value):
+    def post(self, posting: Posting) -> bool:
         """Posts a value; whether the network takes it."""
-        least, most = RANGES[what]
-        if not least <= value <= most:
+        least, most = RANGES[posting.limit]
+        if not least <= posting.value <= most:
             return False
-        segment = self.spans[item][0] if what == "rating" else item
+        is_rating = posting.limit == "rating"
+        segment = self.spans[posting.item].segment if is_rating else posting.item
         now = self.posted[segment][-1]
-        if what == "rating":
-            at = self.spans_of[segment].index(item)
-            now = now._replace(ratings=now.ratings[:at] + (value,) + now.ratings[at + 1:])
+        if is_rating:
+            at = self.spans_of[segment].index(posting.item)
+            now = replace(now, ratings=(*now.ratings[:at], posting.value, *now.ratings[at + 1:]))
         else:
-            now = now._replace(**{what: value})
+            now = replace(now, **{posting.limit: posting.value})
         self.version += 1
         self.since[segment].append(self.version)
         self.posted[segment].append(now)
         return True
 
-    def limit(self, truck, segment, version):
+    def limit(self, truck: int, segment: int, version: int) -> str | None:
         """The first limit of the segment that fails the truck at that version, as the journal names it, or None."""
         at = bisect_right(self.since[segment], version) - 1
         key = (truck, segment, at)
@@ -63,38 +72,42 @@ class Roads:
             self.limits[key] = self.first_limit(self.trucks[truck], segment, self.posted[segment][at])
         return self.limits[key]
 
-    def meets(self, truck, segment, version):
+    def meets(self, truck: int, segment: int, version: int) -> bool:
+        """Whether the truck may pass the segment at that version."""
         return self.limit(truck, segment, version) is None
 
-    def first_limit(self, truck, segment, posted):
-        here = "segment %d" % (segment + 1)
+    def first_limit(self, truck: Truck, segment: int, posted: Posted) -> str | None:
+        """The first limit that fails the truck where this is posted on the segment."""
+        here = f"segment {segment + 1}"
         if posted.closed:
-            return here + " closed"
+            return f"{here} closed"
         for what in ("height", "width", "length", "gross"):
             has, most = getattr(truck, what), getattr(posted, what)
             if has > most:
-                return here + " %s %d over %d" % (what, has, most)
-        i, j, weight, limit, _ = truck.worst()
-        if 1000 * weight > posted.allowance * limit:
-            return here + " group %d-%d weight %d limit %d allowance %d" % (i + 1, j + 1, weight, limit, posted.allowance)
+                return f"{here} {what} {has} over {most}"
+        group, allowance = truck.worst, posted.allowance
+        if 1000 * group.weight > allowance * group.limit:
+            axles = f"{group.first + 1}-{group.last + 1}"
+            return f"{here} group {axles} weight {group.weight} limit {group.limit} allowance {allowance}"
         for span, rating in zip(self.spans_of[segment], posted.ratings):
-            inches = self.spans[span][1]
-            effects = truck.effects(inches)
+            inches = self.spans[span].inches
+            effects, hs20 = truck.effects(inches), design(inches)
             over = fit(effects, inches, rating)
             if over != "fits":
-                has, most = [both["moment shear".split().index(over)] for both in (effects, design(inches))]
-                return here + " span %d %s %s hs20 %s rating %d" % (span + 1, over, ratio(has), ratio(most), rating)
+                of_truck, of_design = ratio(getattr(effects, over)), ratio(getattr(hs20, over))
+                return f"{here} span {span + 1} {over} {of_truck} hs20 {of_design} rating {rating}"
         return None
 
-    def shortest(self, truck, start, end, version):
+    def shortest(self, truck: int, start: int, end: int, version: int) -> tuple[int, ...] | None:
         """Of the shortest walks that the truck may pass, the first by segment numbers; or None.
 
-        A walk is carried along as its feet and its segments, and the least of all is always taken next: first by feet, then by
-        the order of lists. Two walks to one node that are as long are never a beginning of each other, since every segment has
-        at least a foot; so the one that comes first stays first whatever follows, and the first walk taken at a node is its
-        own.
+        A walk is carried along as its feet and its segments, and the least of all is always taken next: first by feet,
+        then by the order of lists. Two walks to one node that are as long are never a beginning of each other, since
+        every segment has at least a foot. So the one that comes first stays first whatever follows, and the first walk
+        taken at a node is its own.
         """
-        waiting, done = [(0, (), start)], set()
+        waiting: list[tuple[int, tuple[int, ...], int]] = [(0, (), start)]
+        done: set[int] = set()
         while waiting:
             feet, route, node = heapq.heappop(waiting)
             if node == end:
@@ -102,24 +115,24 @@ class Roads:
             if node in done:
                 continue
             done.add(node)
-            for segment in self.outgoing[node]:
-                _, to, more = self.segments[segment]
-                if to not in done and self.meets(truck, segment, version):
-                    heapq.heappush(waiting, (feet + more, route + (segment,), to))
+            for number in self.outgoing[node]:
+                segment = self.segments[number]
+                if segment.end not in done and self.meets(truck, number, version):
+                    heapq.heappush(waiting, (feet + segment.feet, (*route, number), segment.end))
         return None
 
-    def reached(self, start, may_pass):
+    def reached(self, start: int, may_pass: Callable[[int], bool]) -> list[int]:
         """All nodes to which some walk over such segments leads, rising."""
         seen, waiting = {start}, [start]
         while waiting:
-            for segment in self.outgoing[waiting.pop()]:
-                to = self.segments[segment][1]
-                if to not in seen and may_pass(segment):
+            for number in self.outgoing[waiting.pop()]:
+                to = self.segments[number].end
+                if to not in seen and may_pass(number):
                     seen.add(to)
                     waiting.append(to)
         return sorted(seen)
 
-    def leaving(self, nodes):
+    def leaving(self, nodes: Iterable[int]) -> list[int]:
         """The segments that begin among some nodes and do not end there, rising."""
         inside = set(nodes)
-        return [number for number, (start, end, _) in enumerate(self.segments) if start in inside and end not in inside]
+        return [number for number, it in enumerate(self.segments) if it.start in inside and it.end not in inside]

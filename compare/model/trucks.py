@@ -1,9 +1,9 @@
-"""A truck: what it is, whether it is a train at all, and what is found of it once."""
-from collections.abc import Callable
+"""A truck: what it is, whether its axles keep the rules of trains, and what is found of it once."""
+from dataclasses import dataclass, field
 from fractions import Fraction
-from typing import Any
+from functools import cached_property
 
-from .bridges import Vertex, peak_moment, peak_shear
+from .bridges import Effects, End, Vertex, peak_moment, peak_shear
 from .limits import GROSS, LEGAL_HEIGHT, LEGAL_WIDTH, Axles, Group, findings, worst
 
 MOST_PLACE, MOST_WEIGHT, MOST_GROSS = 3000, 200000, 2000000
@@ -27,41 +27,50 @@ def broken_rule(axles: Axles) -> int | None:
     return None
 
 
+@dataclass(eq=False)
 class Truck:
-    """A truck with its axles, each a place in inches and a weight in pounds."""
+    """A truck with its sizes in inches and its axles. What is found of it is kept, since many ask for the same."""
 
-    def __init__(self, name: str, carrier: str, height: int, width: int, length: int, axles: Axles) -> None:
-        self.name, self.carrier, self.height, self.width, self.length, self.axles = name, carrier, height, width, length, axles
-        self.gross = sum(weight for _, weight in axles)
-        self.kept: dict[tuple[str, int], Any] = {}
-        self.group: Group | None = None
+    name: str
+    carrier: str
+    height: int
+    width: int
+    length: int
+    axles: Axles
+    moments: dict[int, tuple[Fraction, Vertex]] = field(default_factory=dict, init=False, repr=False)
+    shears: dict[int, tuple[Fraction, End]] = field(default_factory=dict, init=False, repr=False)
 
+    @cached_property
+    def gross(self) -> int:
+        """The weight of all axles."""
+        return sum(weight for _, weight in self.axles)
+
+    @cached_property
     def worst(self) -> Group:
-        self.group = self.group or worst(self.axles)
-        return self.group
+        """The worst group."""
+        return worst(self.axles)
 
     def is_legal(self) -> bool:
-        """Whether it needs no permit: every group and the gross weight within their limits, the width and the height too."""
-        _, _, weight, limit, _ = self.worst()
-        return weight <= limit and self.gross <= GROSS and self.width <= LEGAL_WIDTH and self.height <= LEGAL_HEIGHT
+        """Whether it needs no permit: each group, the gross weight, the width and the height are within limits."""
+        is_light = self.worst.weight <= self.worst.limit and self.gross <= GROSS
+        return is_light and self.width <= LEGAL_WIDTH and self.height <= LEGAL_HEIGHT
 
     def findings(self) -> list[Group]:
+        """What is over a weight limit."""
         return findings(self.axles)
 
     def moment(self, span: int) -> tuple[Fraction, Vertex]:
         """The peak moment with its place."""
-        found: tuple[Fraction, Vertex] = self.once("moment", span, peak_moment)
-        return found
+        if span not in self.moments:
+            self.moments[span] = peak_moment(self.axles, span)
+        return self.moments[span]
 
-    def shear(self, span: int) -> tuple[Fraction, tuple[int, str]]:
+    def shear(self, span: int) -> tuple[Fraction, End]:
         """The peak end shear with its place."""
-        found: tuple[Fraction, tuple[int, str]] = self.once("shear", span, peak_shear)
-        return found
+        if span not in self.shears:
+            self.shears[span] = peak_shear(self.axles, span)
+        return self.shears[span]
 
-    def effects(self, span: int) -> tuple[Fraction, Fraction]:
-        return self.moment(span)[0], self.shear(span)[0]
-
-    def once(self, what: str, span: int, find: Callable[[Axles, int], Any]) -> Any:
-        if (what, span) not in self.kept:
-            self.kept[what, span] = find(self.axles, span)
-        return self.kept[what, span]
+    def effects(self, span: int) -> Effects:
+        """Both peaks, without their places."""
+        return Effects(self.moment(span)[0], self.shear(span)[0])

@@ -1,21 +1,33 @@
-"""What the words of the command line ask for: one COMMAND, and two options with a number each, as the crate `clap` reads them."""
+"""What the words of the command line ask for, as the crate `clap` reads them: a command, and two options."""
 import re
+from collections.abc import Sequence
+from dataclasses import dataclass
 
 COMMANDS = ("check", "day", "make", "trial")
 RANGES = {"--seed": (0, 65535), "--size": (1, 40)}
 USAGE = "usage: permit_cli check|day|make|trial [--seed N] [--size N]\n"
 
 
-def number(option, word):
-    """The number that a word spells, with a plus or zeros in front or not; or None where it is out of the option's range."""
+@dataclass(frozen=True)
+class Asked:
+    """What is asked for. Where an option is not given its number is 1."""
+
+    command: str
+    seed: int = 1
+    size: int = 1
+
+
+def number(option: str, word: str | None) -> int | None:
+    """The number that a word spells, a plus or zeros in front or not; or None where the option does not take it."""
     if not re.fullmatch(r"\+?[0-9]+|-0+", word or ""):
         return None
     least, most = RANGES[option]
-    return int(word) if least <= int(word) <= most else None
+    spelt = int(word or "")
+    return spelt if least <= spelt <= most else None
 
 
-def asked(words):
-    """The command, the seed and the size; or None where the words ask for nothing."""
+def asked(words: Sequence[str]) -> Asked | None:
+    """What the words ask for; or None where they ask for nothing."""
     waiting, commands, found = list(words), [], {}
     while waiting:
         word = waiting.pop(0)
@@ -28,11 +40,12 @@ def asked(words):
         option, equals, value = word.partition("=")
         if option not in RANGES or option in found:
             return None
-        if not equals:
-            value = waiting.pop(0) if waiting and not waiting[0].startswith("-") else None
-        found[option] = number(option, value)
-        if found[option] is None:
+        if not equals and waiting and not waiting[0].startswith("-"):
+            value = waiting.pop(0)
+        spelt = number(option, value)
+        if spelt is None:
             return None
+        found[option] = spelt
     if len(commands) != 1 or commands[0] not in COMMANDS:
         return None
-    return commands[0], found.get("--seed", 1), found.get("--size", 1)
+    return Asked(commands[0], found.get("--seed", 1), found.get("--size", 1))
