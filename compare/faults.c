@@ -1,4 +1,4 @@
-/* Lets one call of a program fail, for `try_faults.py`: the call number FAULT_AT of the kind FAULT_KIND, counted from 1. Where
+/* Lets one call of a program fail, for compare/faults: the call number FAULT_AT of the kind FAULT_KIND, counted from 1. Where
  * that call came, one byte goes to the file descriptor FAULT_TOLD.
  *
  * Kinds: `memory` (malloc and realloc answer null), `read` (of standard input), `write` (to standard output), `tell` (to standard
