@@ -3,17 +3,17 @@
 
     bench/hold_snapshots.py
 
-A program in a temporary folder, over a copy of the crates that it needs, makes the greatest network (4,096 nodes, 16,384
-segments, 2,048 spans), posts 4,096 changes one after another, each on another segment or span, and keeps a snapshot of each
-version. This prints the most memory that it held, with and without the snapshots. The kit proves the program before it builds
-it, and first each crate below it that is not kept as proved.
+A program in a temporary folder, over a copy of the crates that it needs, makes the greatest network (4,096 nodes,
+16,384 segments, 2,048 spans), posts 4,096 changes one after another, each on another segment or span, and keeps a
+snapshot of each version. This prints the most memory that it held, with and without the snapshots. The kit proves the
+program before it builds it, and first each crate below it that is not kept as proved.
 """
-import os
 import subprocess
 import sys
 import tempfile
+from typing import NamedTuple
 
-from programs import built
+from programs import built, ended, parser
 
 MAIN = """// Holds a snapshot of each of 4,096 versions, where one is asked for, and says how many it holds.
 #![tactic(auto)]
@@ -105,13 +105,7 @@ invariant-versions l = l.network ≡ l.store.roads
 """
 
 
-def most_memory(program, text):
-    """What the program prints, and the most memory that it held, in megabytes."""
-    with tempfile.NamedTemporaryFile() as told:
-        ran = subprocess.run(["/usr/bin/env", "python3", "-c", PEAK, program, told.name], input=text, stdout=subprocess.PIPE)
-        return ran.stdout.decode().strip(), int(told.read()) / 1024
-
-
+# A process of its own runs the program, so that what it says of its children is said of this one.
 PEAK = """import resource, subprocess, sys
 subprocess.run([sys.argv[1]])
 open(sys.argv[2], "w").write(str(resource.getrusage(resource.RUSAGE_CHILDREN).ru_maxrss))
@@ -119,10 +113,31 @@ open(sys.argv[2], "w").write(str(resource.getrusage(resource.RUSAGE_CHILDREN).ru
 
 FILES = {"src/main.rt": MAIN, "proofs/post_each/Invariants.antt": INVARIANTS}
 
-if len(sys.argv) != 1:
-    sys.exit(__doc__)
-with tempfile.TemporaryDirectory() as folder:
-    PROGRAM = built(folder, "hold_snapshots", "snapshot_store", FILES)
-    for TEXT in (b"", b"keep"):
-        count, megabytes = most_memory(PROGRAM, TEXT)
-        print("%s snapshots held: %.1f MB at most" % (count, megabytes))
+
+class Held(NamedTuple):
+    """What the program prints, and the most memory that it held."""
+
+    printed: str
+    megabytes: float
+
+
+def most_memory(program: str, text: bytes) -> Held:
+    """Runs the program on a text."""
+    with tempfile.NamedTemporaryFile() as told:
+        ran = subprocess.run([sys.executable, "-c", PEAK, program, told.name], input=text, stdout=subprocess.PIPE)
+        return Held(ran.stdout.decode().strip(), int(told.read()) / 1024)
+
+
+def main() -> int:
+    """Takes the words of the command line, of which there are none."""
+    parser(__doc__).parse_args()
+    with tempfile.TemporaryDirectory() as folder:
+        program = built(folder, "hold_snapshots", "snapshot_store", FILES)
+        for text in (b"", b"keep"):
+            held = most_memory(program, text)
+            print(f"{held.printed} snapshots held: {held.megabytes:.1f} MB at most")
+    return 0
+
+
+if __name__ == "__main__":
+    ended(main)

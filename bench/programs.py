@@ -1,38 +1,80 @@
-"""Programs of a measuring script's own, over crates of the repository. The kit proves each before it builds it."""
+"""What the measuring scripts share: programs of their own over crates of the repository, and how they take words.
+
+The kit proves each such program before it builds it.
+"""
+import argparse
 import os
 import re
 import shutil
 import subprocess
 import sys
+from collections.abc import Callable, Mapping
+from pathlib import Path
+from typing import NoReturn
+
+HOME = Path(__file__).resolve().parent.parent
+PARTS = ("src", "specs", "proofs", "out/rlib")
+CANNOT = 2
 
 
-def built(folder, name, top, files):
+def parser(text: str | None) -> argparse.ArgumentParser:
+    """A parser that shows this text for `--help`."""
+    return argparse.ArgumentParser(description=text, formatter_class=argparse.RawDescriptionHelpFormatter)
+
+
+def whole_path(program: str) -> str:
+    """The whole path of a program, so that it is found wherever it is run."""
+    if not os.access(program, os.X_OK) or not Path(program).is_file():
+        raise OSError(f"{program} is not there, or is no program")
+    return str(Path(program).absolute())
+
+
+def ended(main: Callable[[], int]) -> NoReturn:
+    """Ends with the status of `main`, or with one line and 2 where a file or a program is not as it has to be."""
+    try:
+        status = main()
+    except (OSError, subprocess.SubprocessError) as fault:
+        said = f"{fault.filename}: {fault.strerror}" if isinstance(fault, OSError) and fault.filename else fault
+        print(f"{Path(sys.argv[0]).name}: {said}", file=sys.stderr)
+        status = CANNOT
+    sys.exit(status)
+
+
+def uses_of_crates() -> dict[str, list[str]]:
+    """What each crate of the repository uses, as crates.txt says it."""
+    crates = (HOME / "crates.txt").read_text(encoding="utf-8")
+    return {crate: line.split() for crate, line in re.findall(r"^(\w+)[^:#\n]*:(.*)", crates, re.M)}
+
+
+def crates_below(top: str, uses: Mapping[str, list[str]]) -> set[str]:
+    """A crate and all that it rests on."""
+    below: set[str] = set()
+    more = {top}
+    while more - below:
+        below |= more
+        more = {used for crate in below for used in uses.get(crate, [])}
+    return below
+
+
+def built(folder: str, name: str, top: str, files: Mapping[str, str]) -> str:
     """Builds a program of these files over a crate of the repository and all that are below it, and gives its path."""
-    home = os.path.dirname(os.path.dirname(os.path.realpath(__file__)))
-    with open(home + "/crates.txt") as file:
-        crates = file.read()
-    uses = {crate: line.split() for crate, line in re.findall(r"^(\w+)[^:#\n]*:(.*)", crates, re.M)}
-    below = {top}
-    while not below >= {used for crate in below for used in uses.get(crate, [])}:
-        below |= {used for crate in below for used in uses.get(crate, [])}
-    with open(folder + "/crates.txt", "w") as file:
-        for crate in below & set(uses):
-            file.write("%s: %s\n" % (crate, " ".join(uses[crate])))
-        file.write("%s: %s\n" % (name, " ".join(below)))
-    for crate in below & set(uses):
-        for part in ("src", "specs", "proofs", "out/rlib"):
-            of = "/crates/%s/%s" % (crate, part)
-            if os.path.isdir(home + of):
-                shutil.copytree(home + of, folder + of)
-    crate = folder + "/crates/" + name
+    there, uses = Path(folder), uses_of_crates()
+    below = crates_below(top, uses)
+    own = sorted(below & set(uses))
+    lines = [f"{crate}: {' '.join(uses[crate])}" for crate in own] + [f"{name}: {' '.join(sorted(below))}"]
+    (there / "crates.txt").write_text("".join(f"{line}\n" for line in lines), encoding="utf-8")
+    for crate in own:
+        for part in PARTS:
+            source = HOME / "crates" / crate / part
+            if source.is_dir():
+                shutil.copytree(source, there / "crates" / crate / part)
+    crate_folder = there / "crates" / name
     for path, text in files.items():
-        os.makedirs(os.path.dirname(crate + "/" + path), exist_ok=True)
-        with open(crate + "/" + path, "w") as file:
-            file.write(text)
-    ran = subprocess.run(
-        ["rt", "run"], cwd=crate, stdin=subprocess.DEVNULL, stdout=subprocess.PIPE, stderr=subprocess.STDOUT
-    )
-    program = crate + "/out/" + name
-    if not os.path.isfile(program):
-        sys.exit(ran.stdout.decode() + "the program is not built")
-    return program
+        (crate_folder / path).parent.mkdir(parents=True, exist_ok=True)
+        (crate_folder / path).write_text(text, encoding="utf-8")
+    ran = subprocess.run(["rt", "run"], cwd=crate_folder, stdin=subprocess.DEVNULL, stdout=subprocess.PIPE,
+                         stderr=subprocess.STDOUT)
+    program = crate_folder / "out" / name
+    if not program.is_file():
+        sys.exit(f"{ran.stdout.decode()}the program is not built")
+    return str(program)

@@ -3,18 +3,20 @@
 
     bench/time_calls.py
 
-A program in a temporary folder, over a copy of the crates that it needs, has 64 trains of 32 axles, each with spacings of 40 to
-93 in and axles of 20,000 to 62,500 lb, and finds the peak moment of each on spans of four lengths, alone and with its place,
-and the peak end shear. It also searches a grid of 41 by 41 nodes, with segments of 1,000 to 8,999 ft both ways, from corner to
-corner: with the potentials of all nodes (`search`), and for the start alone (`shortest_walk`). It is run five times, and this
-prints the best of each as tables in Markdown. The kit proves the program before it builds it, and first each crate below it
-that is not kept as proved. What it measures rests on how busy the machine is.
+A program in a temporary folder, over a copy of the crates that it needs, has 64 trains of 32 axles, each with spacings
+of 40 to 93 in and axles of 20,000 to 62,500 lb, and finds the peak moment of each on spans of four lengths, alone and
+with its place, and the peak end shear. It also searches a grid of 41 by 41 nodes, with segments of 1,000 to 8,999 ft
+both ways, from corner to corner: with the potentials of all nodes (`search`), and for the start alone
+(`shortest_walk`). It is run five times, and this prints the best of each as tables in Markdown. The kit proves the
+program before it builds it, and first each crate below it that is not kept as proved. What it measures rests on how
+busy the machine is.
 """
 import subprocess
 import sys
 import tempfile
+from collections.abc import Mapping, Sequence
 
-from programs import built
+from programs import built, ended, parser
 
 MAIN = """// Times the peaks of trains of 32 axles and searches on a grid of 41 by 41 nodes, in nanoseconds a call.
 #![tactic(auto)]
@@ -259,38 +261,50 @@ fn walk_each(alloc: Global, network: &Network, passable: &[bool]) -> u32
 """
 
 TRAINS_TIMED, ROUNDS_OF_TRAINS, ROUNDS_OF_SEARCHES = 64, 400, 200
+FILES = {"src/main.rt": MAIN, "src/trains.rt": TRAINS, "src/grid.rt": GRID}
+SIDE_OF_GRID = "41"
 
 
-def best(program):
+def best(program: str) -> dict[str, list[int]]:
     """The least nanoseconds of each row, by its first word."""
-    fastest = {}
+    fastest: dict[str, list[int]] = {}
     for _ in range(5):
         ran = subprocess.run([program], stdin=subprocess.DEVNULL, stdout=subprocess.PIPE, check=True)
         for line in ran.stdout.decode().splitlines():
             name, *numbers = line.split(" ")
             if not name.isdigit():
-                sys.exit("the program says: " + line)
+                sys.exit(f"the program says: {line}")
             times = [int(number) for number in numbers[:len(numbers) // 2]]
             fastest[name] = [min(pair) for pair in zip(fastest.get(name, times), times)]
     return fastest
 
 
-def main():
-    if len(sys.argv) != 1:
-        sys.exit(__doc__)
-    with tempfile.TemporaryDirectory() as folder:
-        files = {"src/main.rt": MAIN, "src/trains.rt": TRAINS, "src/grid.rt": GRID}
-        fastest = best(built(folder, "time_calls", "trip_analysis", files))
-    searches = fastest.pop("41")
-    print("| Microseconds for 32 axles | " + " | ".join("%s in" % span for span in fastest) + " |")
-    print("|---|" + "---|" * len(fastest))
+def tell_peaks(times_on: Mapping[str, Sequence[int]]) -> None:
+    """Prints the table of peaks: a column for each length of a span."""
+    print("| Microseconds for 32 axles | " + " | ".join(f"{span} in" for span in times_on) + " |")
+    print("|---|" + "---|" * len(times_on))
     for at, name in enumerate(("peak moment", "peak moment with its place", "peak end shear")):
-        cells = ["%.2f" % (times[at] / 1000 / TRAINS_TIMED / ROUNDS_OF_TRAINS) for times in fastest.values()]
-        print("| %s | %s |" % (name, " | ".join(cells)))
+        cells = [f"{times[at] / 1000 / TRAINS_TIMED / ROUNDS_OF_TRAINS:.2f}" for times in times_on.values()]
+        print(f"| {name} | {' | '.join(cells)} |")
+
+
+def tell_searches(times: Sequence[int]) -> None:
+    """Prints the table of searches."""
     print("\n| A search from corner to corner of 41 by 41 nodes | Microseconds |\n|---|---|")
-    for name, time in zip(("with all potentials", "for the start alone"), searches):
-        print("| %s | %.1f |" % (name, time / 1000 / ROUNDS_OF_SEARCHES))
+    for name, time in zip(("with all potentials", "for the start alone"), times):
+        print(f"| {name} | {time / 1000 / ROUNDS_OF_SEARCHES:.1f} |")
+
+
+def main() -> int:
+    """Takes the words of the command line, of which there are none."""
+    parser(__doc__).parse_args()
+    with tempfile.TemporaryDirectory() as folder:
+        fastest = best(built(folder, "time_calls", "trip_analysis", FILES))
+    searches = fastest.pop(SIDE_OF_GRID)
+    tell_peaks(fastest)
+    tell_searches(searches)
+    return 0
 
 
 if __name__ == "__main__":
-    main()
+    ended(main)

@@ -3,52 +3,82 @@
 
     bench/time_turns.py PROGRAM DAYFILE [TIMES]
 
-A turn is held while the office carries out one call, in the one function that does so under the lock. The kernel notes when
-that function begins and ends (by probes of its own, which want root, and tracefs at /sys/kernel/tracing). The day is run
-TIMES (5) times; for each run it prints how many turns there were, and for how many microseconds half of them, all but one of
-a hundred, and the longest one were held. A turn whose thread loses its processor meanwhile counts with all that time, and each
-notice of the kernel costs about a microsecond.
+A turn is held while the office carries out one call, in the one function that does so under the lock. The kernel notes
+when that function begins and ends, by probes of its own, which want root, and tracefs at /sys/kernel/tracing. The day
+is run TIMES (5) times. For each run it prints how many turns there were, and for how many microseconds a turn was held:
+the median, the 99th percentile and the longest. A turn whose thread loses its processor meanwhile counts with all that
+time, and each notice of the kernel costs about a microsecond.
 """
 import os
-import pathlib
 import re
 import subprocess
 import sys
+from collections.abc import Iterator
+from contextlib import contextmanager
+from pathlib import Path
 
-TRACING = pathlib.Path("/sys/kernel/tracing")
+from programs import ended, parser, whole_path
+
+TRACING = Path("/sys/kernel/tracing")
 EVENTS = "permit_turns"
 # the function that carries out a call under the lock, as the linker names it
 STEP = re.compile(r"\boffice_core::.*\bOffice::step\b")
+LARGE, USUAL = "65536", "1408"
 
 
-def symbol(program):
-    """The address and the name of the function in the program."""
-    found = [line.split() for line in subprocess.run(["nm", program], capture_output=True, text=True, check=True).stdout.splitlines()]
-    found = [(int(row[0], 16), row[2]) for row in found if len(row) == 3 and row[1] in "tT" and STEP.search(row[2])]
+def output(*command: str) -> str:
+    """What a command writes."""
+    return subprocess.run(command, capture_output=True, text=True, check=True).stdout
+
+
+def address_of_step(program: str) -> int:
+    """The address of the function in the program."""
+    rows = [line.split() for line in output("nm", program).splitlines()]
+    found = [row for row in rows if len(row) == 3 and row[1] in "tT" and STEP.search(row[2])]
     if len(found) != 1:
-        sys.exit("the program has %d functions of that name: %s" % (len(found), [name for _, name in found]))
-    return found[0]
+        sys.exit(f"the program has {len(found)} functions of that name: {[row[2] for row in found]}")
+    return int(found[0][0], 16)
 
 
-def offset(program, address):
+def offset(program: str, address: int) -> int:
     """Where in the file the code of this address stands."""
-    rows = subprocess.run(["readelf", "-lW", program], capture_output=True, text=True, check=True).stdout
-    for row in re.findall(r"^ +LOAD +(0x\w+) (0x\w+) 0x\w+ (0x\w+)", rows, re.M):
+    for row in re.findall(r"^ +LOAD +(0x\w+) (0x\w+) 0x\w+ (0x\w+)", output("readelf", "-lW", program), re.M):
         start, virtual, size = (int(value, 16) for value in row)
         if virtual <= address < virtual + size:
             return start + address - virtual
     sys.exit("no part of the program has that address")
 
 
-def write(name, text, how=os.O_TRUNC):
+def write(name: str, text: str, how: int = os.O_TRUNC) -> None:
+    """Tells the kernel something in one write, as tracefs wants it."""
     file = os.open(TRACING / name, os.O_WRONLY | how)
-    os.write(file, text.encode())
-    os.close(file)
+    try:
+        os.write(file, text.encode())
+    finally:
+        os.close(file)
 
 
-def held(trace):
-    """The microseconds for which each turn was held."""
-    began, times = {}, []
+@contextmanager
+def probes(program: str) -> Iterator[None]:
+    """While this lasts, the kernel notes where the function begins and ends. Its own settings come back afterwards."""
+    place = f"{program}:0x{offset(program, address_of_step(program)):x}"
+    write("uprobe_events", f"p:{EVENTS}/began {place}\n", os.O_APPEND)
+    write("uprobe_events", f"r:{EVENTS}/ended {place}\n", os.O_APPEND)
+    try:
+        write("buffer_size_kb", LARGE)
+        write(f"events/{EVENTS}/enable", "1")
+        yield
+    finally:
+        write(f"events/{EVENTS}/enable", "0")
+        write("uprobe_events", f"-:{EVENTS}/began\n", os.O_APPEND)
+        write("uprobe_events", f"-:{EVENTS}/ended\n", os.O_APPEND)
+        write("buffer_size_kb", USUAL)
+
+
+def held(trace: str) -> list[float]:
+    """The microseconds for which each turn was held, rising."""
+    began: dict[str, float] = {}
+    times = []
     for thread, seconds, event in re.findall(r"-(\d+) +\[\d+\][^:]*? +(\d+\.\d+): (began|ended):", trace):
         if event == "began":
             began[thread] = float(seconds)
@@ -57,29 +87,34 @@ def held(trace):
     return sorted(times)
 
 
-def main(program, day, times=5):
-    place = "%s:0x%x" % (program, offset(program, symbol(program)[0]))
-    write("uprobe_events", "p:%s/began %s\n" % (EVENTS, place), os.O_APPEND)
-    write("uprobe_events", "r:%s/ended %s\n" % (EVENTS, place), os.O_APPEND)
-    try:
-        write("buffer_size_kb", "65536")
-        write("events/%s/enable" % EVENTS, "1")
-        for _ in range(times):
-            write("trace", "")
-            with open(day, "rb") as file:
-                subprocess.run([program, "day"], stdin=file, stdout=subprocess.DEVNULL, stderr=subprocess.DEVNULL, check=True)
-            took = held((TRACING / "trace").read_text())
-            if not took:
-                sys.exit("no turn was seen")
-            print("%d turns, half of them at most %.1f us, all but one of a hundred %.1f, the longest %.1f"
-                  % (len(took), took[len(took) // 2], took[len(took) * 99 // 100], took[-1]), flush=True)
-    finally:
-        write("events/%s/enable" % EVENTS, "0")
-        write("uprobe_events", "-:%s/began\n" % EVENTS, os.O_APPEND)
-        write("uprobe_events", "-:%s/ended\n" % EVENTS, os.O_APPEND)
-        write("buffer_size_kb", "1408")
+def run_once(program: str, day: Path) -> None:
+    """Runs the day once, and prints for how long its turns were held."""
+    write("trace", "")
+    with day.open("rb") as file:
+        subprocess.run([program, "day"], stdin=file, stdout=subprocess.DEVNULL, stderr=subprocess.DEVNULL, check=True)
+    took = held((TRACING / "trace").read_text())
+    if not took:
+        sys.exit("no turn was seen")
+    half, most, longest = took[len(took) // 2], took[len(took) * 99 // 100], took[-1]
+    print(f"{len(took)} turns, half of them at most {half:.1f} us, all but one of a hundred {most:.1f}, "
+          f"the longest {longest:.1f}", flush=True)
 
 
-if not 3 <= len(sys.argv) <= 4:
-    sys.exit(__doc__)
-main(str(pathlib.Path(sys.argv[1]).resolve()), sys.argv[2], *map(int, sys.argv[3:]))
+def main() -> int:
+    """Takes the words of the command line."""
+    asked = parser(__doc__)
+    asked.add_argument("program", metavar="PROGRAM")
+    asked.add_argument("day", type=Path, metavar="DAYFILE")
+    asked.add_argument("times", nargs="?", type=int, default=5, metavar="TIMES", help="how many runs (5)")
+    words = asked.parse_args()
+    program = str(Path(whole_path(words.program)).resolve())
+    if not words.day.is_file():
+        raise OSError(f"{words.day} is not there")
+    with probes(program):
+        for _ in range(words.times):
+            run_once(program, words.day)
+    return 0
+
+
+if __name__ == "__main__":
+    ended(main)
