@@ -296,7 +296,7 @@ class DayFile(File):
     def add_span(self, name: str, segment: str, inches: int, rating: int) -> None:
         on = self.names["segments"][segment]
         self.room("spans", len(self.spans))
-        if sum(span.segment == on for span in self.spans) >= MOST_SPANS_OF_SEGMENT:
+        if sum(segment == on for segment, _, _ in self.spans) >= MOST_SPANS_OF_SEGMENT:
             self.refuse("spans-of-segment", 6)
         self.add("spans", name)
         self.spans.append(Span(on, inches, rating))
@@ -327,9 +327,10 @@ class DayFile(File):
     def is_walk(self, route: list[int], start: int, end: int) -> bool:
         """Whether each segment of a route begins where the one before it ends."""
         for number in route:
-            if self.segments[number].start != start:
+            begins, ends, _ = self.segments[number]
+            if begins != start:
                 return False
-            start = self.segments[number].end
+            start = ends
         return start == end
 
     def add_post(self, actor: str, item: str, what: str, it: int) -> None:
