@@ -9,7 +9,7 @@ from dataclasses import dataclass, field
 from typing import Any
 
 from model import forms
-from model.files import CHECK_KINDS, DAY_KINDS, CheckFile, DayFile, File, Refused, Values
+from model.files import CHECK_KINDS, DAY_KINDS, CheckFile, DayFile, File, Refused, Segment, Span, Values
 from model.records import MOST_BYTES, is_text, placed_records, unmarked
 from model.trucks import broken_rule
 
@@ -186,11 +186,11 @@ class Lenient(File):
                 ends = [nodes.get(text.decode("utf-8", "replace"), -1) for text in (record + [b""] * 4)[2:4]]
                 if -1 in ends:
                     self.astray.add(numbers[name])
-                self.segments.append((ends[0], ends[1], 1))
+                self.segments.append(Segment(ends[0], ends[1], 1))
                 self.values.append({what: 0 for what in forms.LIMITS})
             elif kind == "span":
                 segment = record[2].decode("utf-8", "replace") if len(record) > 2 else ""
-                self.spans.append((self.names["segments"].get(segment, -1), 1, 0))
+                self.spans.append(Span(self.names["segments"].get(segment, -1), 1, 0))
             elif kind == "actor":
                 self.actors += 1
 

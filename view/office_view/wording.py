@@ -113,7 +113,7 @@ class Words:
                     return f"{effect}, the bridge carries {texts[1]}"
             return ""
         if posting.what == "allowance":
-            first, last, weight, limit, _ = truck.worst()
+            first, last, weight, limit, _ = truck.worst
             texts = two_rounded(Fraction(weight), Fraction(limit * posting.value, 1000))
             return f"the truck's {axles_text(first, last)} {texts[0]} lb, {texts[1]} are allowed"
         has = getattr(truck, posting.what)

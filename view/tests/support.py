@@ -29,7 +29,7 @@ def check_examples() -> list[pathlib.Path]:
 def made_day(seed: int, size: int) -> bytes:
     from model.making import made_day as make
 
-    return str(make(seed, size)).encode()  # type: ignore[no-untyped-call]
+    return str(make(seed, size)).encode()
 
 
 def journal_of(day: bytes) -> bytes:
@@ -41,8 +41,8 @@ def journal_of(day: bytes) -> bytes:
     from model.files import DayFile
     from model.journal import serial, text_of
 
-    entries = serial(DayFile(day))[1]  # type: ignore[no-untyped-call]
-    return str(text_of(entries)).encode()  # type: ignore[no-untyped-call]
+    entries = serial(DayFile(day))[1]
+    return str(text_of(entries)).encode()
 
 
 def names(day: bytes, kind: str) -> list[str]:
