@@ -6,7 +6,7 @@ ghost use Rattle.analyst_pool.specs.Interrupted.{Interrupts};
 ghost use Rattle.office_words.specs.Commands.{MayCarryOut};
 ghost use Rattle.analyst_pool.specs.Ran.{IsReady};
 
-use crate::fixtures::{ALONE, AROUND, application, base, day, journal_ends, office};
+use crate::fixtures::{ALONE, AROUND, application, base, day, full_at, journal_ends, office};
 use analyst_pool::{
     Docket, Gate, OpenGate, Outcome, Worker, carry_out, decide, most_entries, run_actors,
 };
@@ -111,12 +111,7 @@ impl<R: Abort> OfficeCalls for Interrupted<'_, R> {
     }
 }
 
-// Whether a reply is that the history is full.
-fn is_full(reply: Reply) -> bool {
-    matches!(reply, Reply::Full { .. })
-}
-
-// Carries out a command, of which the gate is told this. Whether the history was full.
+// Carries out a command, of which the gate is told this. How many entries the history held, where it was full, and else 0.
 fn tell<C: OfficeCalls>(
     rt: &impl Abort,
     alloc: Global,
@@ -124,7 +119,7 @@ fn tell<C: OfficeCalls>(
     base: &Base,
     command: &Command,
     told: u64,
-) -> bool
+) -> u32
     requires base { base.now ≡ (C.view calls.old).who.base }
     requires sound { MayCarryOut base.now command.now }
 {
@@ -139,7 +134,7 @@ fn tell<C: OfficeCalls>(
     let reply = carry_out(alloc, calls, &mut analyst, command, &docket);
     drop(analyst);
     assert_eq!(rt; gate.told.get(), told);
-    is_full(reply)
+    full_at(reply)
 }
 
 // Segments, the height of segment 1, what caller 2 posts, the last first; and then what the gate is told, and
@@ -244,32 +239,26 @@ fn decides_in(rt: &impl Abort, alloc: Global, office: Office, base: &Base, row: 
     drop(command);
     journal_ends(rt, alloc, &calls.office, ends);
     drop(calls);
-    assert!(rt; !full);
+    assert_eq!(rt; full, 0);
 }
 
-// How many entries the history may hold, and which command is asked; and then whether the history was full, what the
-// gate is told and how the journal ends.
-type Asked = (u32, u32, bool, u64, &'static str);
+// How many entries the history may hold, and which command is asked; and then how many a full history held, what the gate
+// is told and how the journal ends.
+type Asked = (u32, u32, u32, u64, &'static str);
 
 const ASKED: &[Asked] = &[
     // a history that is full ahead of the submit
-    (1, 0, true, 1_019, "1 snapshot = at 0\nend 1\n"),
+    (1, 0, 1, 1_019, "1 snapshot = at 0\nend 1\n"),
     (
         100,
         1,
-        false,
+        0,
         109,
         "1 post segment 1 closed 1 = posted 1 recalled -\nend 1\n",
     ),
-    (
-        100,
-        2,
-        false,
-        109,
-        "1 day 2026-03-03 = day 2026-03-03\nend 1\n",
-    ),
-    (100, 3, false, 109, "1 surrender 1 = unknown\nend 1\n"),
-    (100, 4, false, 109, "1 show 1 = unknown\nend 1\n"),
+    (100, 2, 0, 109, "1 day 2026-03-03 = day 2026-03-03\nend 1\n"),
+    (100, 3, 0, 109, "1 surrender 1 = unknown\nend 1\n"),
+    (100, 4, 0, 109, "1 show 1 = unknown\nend 1\n"),
 ];
 
 // An application, a posting, the next day, a permit that is given back, or a look at one.
@@ -319,11 +308,11 @@ fn decides_an_application(rt: HostRuntime) {
     let alloc = rt.alloc();
     let base = shared_base(&rt, alloc, ALONE, 168);
     let mut office = office(&rt, alloc, share(&rt, &base), 17);
-    let full = is_full(decided(&rt, alloc, &mut office, &base));
+    let full = full_at(decided(&rt, alloc, &mut office, &base));
     drop(base);
     journal_ends(&rt, alloc, &office, "= issued 1 at 0 route 1\nend 2\n");
     drop(office);
-    assert!(rt; !full);
+    assert_eq!(rt; full, 0);
 }
 
 fn decided(rt: &impl Abort, alloc: Global, office: &mut Office, base: &Base) -> Reply
@@ -386,19 +375,20 @@ fn script(
     Ok(script)
 }
 
-// An actor with commands of these kinds for an office that nobody else calls.
+// An actor of this number with commands of these kinds, for an office that nobody else calls.
 fn worker<'a>(
     rt: &impl Abort,
     alloc: Global,
     base: &Base,
     office: &'a mut Office,
+    actor: u32,
     kinds: &[u32],
 ) -> Worker<OneSeat<'a>>
     requires base { office.old.base ≡ base.now }
     ensures { IsReady base.now calls_of result }
 {
     let script = script(rt, alloc, base, kinds).expect(rt, "memory");
-    Worker::new(OneSeat::new(office, 0), 0, script)
+    Worker::new(OneSeat::new(office, 0), actor, script)
 }
 
 // Two workers carry out their scripts at once, and end with this outcome.
@@ -438,8 +428,8 @@ fn run_each<R: Threads + Abort + Sync, G: Gate + Sync>(
     requires two { two.old.base ≡ base.now }
 {
     let &(_, kinds, wanted, _) = scripted;
-    let first = worker(rt, alloc, base, one, kinds);
-    let second = worker(rt, alloc, base, two, kinds);
+    let first = worker(rt, alloc, base, one, 0, kinds);
+    let second = worker(rt, alloc, base, two, 1, kinds);
     let ran = run_both(rt, alloc, base, (first, second), gate, wanted);
     assert!(rt; ran.is_ok());
 }

@@ -6,7 +6,7 @@ ghost use Rattle.office_core.specs.Machine.{MayAsk};
 ghost use Rattle.office_core.specs.Offices.{machine_in};
 ghost use Rattle.office_core.specs.Calls.{machine_seen};
 
-use crate::fixtures::{ALONE, AROUND, application, base, day, named, office};
+use crate::fixtures::{ALONE, AROUND, application, base, day, full_at, named, office};
 use clearance_rules::Steps;
 use journal_text::print;
 use notice_desk::Recall;
@@ -194,23 +194,23 @@ fn found_for(
     None
 }
 
-// Makes the call of a line, by a seat or not. Whether the history was full.
+// Makes the call of a line, by a seat or not. How many entries the history held, where it was full, and else 0.
 fn serve(
     rt: &impl Abort,
     office: &mut Office,
     found: &mut Option<Call>,
     line: &str,
     by_seat: bool,
-) -> bool
+) -> u32
     requires { IfSome found.old (MayAsk office.old.base (machine_in office.old)) }
     ensures { IfSome found.new (MayAsk office.new.base (machine_in office.new)) }
 {
     let call = call_of(rt, office, found, line);
     let reply = answer(office, place(line, 0) % 65_536, call, by_seat);
-    matches!(reply, Reply::Full { .. })
+    full_at(reply)
 }
 
-// Makes the calls of all lines. How often the history was full.
+// Makes the calls of all lines. The sum of what the replies say that a full history held.
 fn serve_each(
     rt: &impl Abort,
     alloc: Global,
@@ -221,7 +221,7 @@ fn serve_each(
     let mut full = 0u32;
     let mut found = None;
     'lines: for (i, line) in lines.lines().enumerate() {
-        full = full.wrapping_add(u32::from(serve(rt, office, &mut found, line, by_seat)));
+        full = full.wrapping_add(serve(rt, office, &mut found, line, by_seat));
         if word(line, 1) == "snapshot" {
             found = found_for(rt, alloc, office, lines, i);
         }
@@ -239,7 +239,8 @@ fn has_lines(rt: &impl Abort, alloc: Global, office: &Office, lines: &str, entri
     );
 }
 
-// The history takes so many entries. The calls of these lines make it, and those of the last lines find that it is full.
+// The history takes so many entries. The calls of these lines make it, and those of the last lines find that it is full, and say
+// how many it holds.
 fn check(
     rt: &impl Abort,
     alloc: Global,
@@ -256,7 +257,8 @@ fn check(
         let full_then = serve_each(rt, alloc, &mut office, last, by_seat);
         has_lines(rt, alloc, &office, lines, lines.lines().count());
         drop(office);
-        assert_eq!(rt; (full, full_then as usize), (0, last.lines().count()));
+        let wanted = (last.lines().count() as u32).wrapping_mul(most);
+        assert_eq!(rt; (full, full_then), (0, wanted));
     }
 }
 

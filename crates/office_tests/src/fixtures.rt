@@ -8,6 +8,7 @@ use day_text::read_day;
 use journal_text::print;
 use names::Name;
 use office_core::Office;
+use office_words::Reply;
 use permit_days::Day;
 use std::alloc::Global;
 use std::process::Abort;
@@ -72,6 +73,14 @@ pub fn application(rt: &impl Abort, base: &Base, truck: u32, to: u32, first: &st
     assert!(rt; (truck as usize) < base.fleet().len() && to < base.network().nodes());
     let (first, last) = (day(rt, first), day(rt, "2026-03-06"));
     Application::new(base, truck, 0, to, None, first, last).expect(rt, "an application")
+}
+
+// How many entries a full history holds, where that is the reply, and else 0.
+pub fn full_at(reply: Reply) -> u32 {
+    match reply {
+        Reply::Full { entries } => entries,
+        _ => 0,
+    }
 }
 
 // The journal of the office ends with this text: the last reply, and how many entries there are.
