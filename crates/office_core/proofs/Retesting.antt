@@ -1,6 +1,7 @@
 -- What did not change after a version is as it was then: along a route that met, and out of a cut that failed.
-use Rattle.std.proofs.Common.{◌≡◌, ◌∷◌, List, ℕ, ◌+◌, ◌<◌, ◌≤◌, ◌&&◌, Bool, cond, true, false, length, get_or, take, drop, filter, refl, ap, sym, ◌∙◌, arith}
+use Rattle.std.proofs.Common.{◌≡◌, ◌∷◌, List, ℕ, zero, suc, ◌+◌, ◌-◌, ◌<◌, ◌≤◌, ◌&&◌, Bool, cond, true, false, length, get_or, take, drop, filter, inl, inr, refl, ap, sym, subst, ◌∙◌, arith}
 use Rattle.std.specs.Prelude.{Option, Some, None, is_none}
+use Rattle.std.proofs.lemmas.Bool.{and_parts, cases_Bool}
 use Rattle.std.proofs.lemmas.List.{drop_more}
 use Rattle.restriction_log.specs.declared.change.Change.{Change}
 use Rattle.restriction_log.specs.States.{state_of}
@@ -11,7 +12,8 @@ use Rattle.trip_analysis.specs.declared.finding.Failing.{Failing}
 use Rattle.trip_analysis.specs.declared.finding.What.{What}
 use Rattle.trip_analysis.specs.declared.finding.What.TheVariants as what
 use Rattle.trip_analysis.specs.Bases.{BaseLists, truck_of}
-use Rattle.trip_analysis.specs.Findings.{first_meeting, first_on, first_or, is_passable, leaving, leaving_from, limit_for}
+use Rattle.trip_analysis.specs.Findings.{first_meeting, first_on, first_or, is_passable, leaves, leaving, leaving_from, limit_for}
+use Rattle.trip_analysis.proofs.Crossing.{leaving_no, leaving_none, leaving_yes}
 use Rattle.office_words.specs.declared.entry.Call.{Call}
 use Rattle.office_words.specs.declared.entry.Call.TheVariants as call
 use Rattle.office_core.specs.Costs.{IsCost}
@@ -112,6 +114,83 @@ cut_more base postings seen truck nodes start s before now after there out shut 
       failed = then.1;
       steps = omega (arith, on.steps, more, count);
     }
+
+-- the same where only what changed is looked at: one that did not change needs no look, one that changed is tested if it leaves
+module _ (base : BaseLists) (postings : List Change) (seen truck : ℕ) (nodes : List ℕ) where
+  unmoved : (now : ℕ) → now + cond {A = ℕ} false 1 0 ≡ now
+  unmoved now = omega arith
+
+  inside : (s before now : ℕ) → s < length base.roads.segments → leaves base.roads nodes s ≡ false → CutOn base postings seen truck nodes s before now
+      → CutOn base postings seen truck nodes (s + 1) before now
+  inside s before now there in_it on =
+      let same = leaving_no base.roads nodes s there in_it in
+      record {
+        within = omega (arith, there);
+        left = ap (first_meeting base (state_of base.roads postings) truck) (sym same) ∙ on.left;
+        failed = ap (first_meeting base (state_of base.roads (take seen postings)) truck) (sym same) ∙ on.failed;
+        steps = (let count = ap (changed_on base postings seen) same in omega (arith, on.steps, count));
+      }
+
+  kept : (s before now : ℕ) → s < length base.roads.segments → is_changed base postings seen s ≡ false → CutOn base postings seen truck nodes s before now
+      → CutOn base postings seen truck nodes (s + 1) before now
+  kept s before now there same on = elim (cases_Bool (leaves base.roads nodes s)) [
+    | inl out ↦ cut_more base postings seen truck nodes s s before now now there (leaving_yes base.roads nodes s there out)
+        (ap (λ b. b && is_passable base (state_of base.roads postings) truck s) same)
+        (sym (ap (λ b. now + cond {A = ℕ} b 1 0) same ∙ unmoved now)) on
+    | inr in_it ↦ inside s before now there in_it on
+  ]
+
+  passed : (from k before now : ℕ) → from + k ≤ length base.roads.segments → ((s : ℕ) → from ≤ s → s < from + k → is_changed base postings seen s ≡ false)
+      → CutOn base postings seen truck nodes from before now → CutOn base postings seen truck nodes (from + k) before now
+  passed from zero before now there same on = let at : from ≡ from + 0 = omega arith in subst (λ k. CutOn base postings seen truck nodes k before now) at on
+  passed from (suc k) before now there same on = let at : from + k + 1 ≡ from + suc k = omega arith in subst (λ k. CutOn base postings seen truck nodes k before now) at
+      (kept (from + k) before now (omega (arith, there)) (same (from + k) (omega arith) (omega arith))
+      (passed from k before now (omega (arith, there)) (λ s low high. same s low (omega (arith, high))) on))
+
+  pub cut_passed : (from s before now : ℕ) → from ≤ s → s ≤ length base.roads.segments → ((i : ℕ) → from ≤ i → i < s → is_changed base postings seen i ≡ false)
+      → CutOn base postings seen truck nodes from before now → CutOn base postings seen truck nodes s before now
+  cut_passed from s before now low there same on =
+      let at : from + (s - from) ≡ s = omega (arith, low) in
+      subst (λ k. CutOn base postings seen truck nodes k before now) at
+      (passed from (s - from) before now (omega (arith, low, there)) (λ i first h. same i first (omega (arith, h, low))) on)
+
+  pub cut_tried : (s before now after : ℕ) → s < length base.roads.segments → is_changed base postings seen s ≡ true
+      → (leaves base.roads nodes s && is_passable base (state_of base.roads postings) truck s) ≡ false
+      → after ≡ now + cond (leaves base.roads nodes s) 1 0 → CutOn base postings seen truck nodes s before now
+      → CutOn base postings seen truck nodes (s + 1) before after
+  cut_tried s before now after there changed shut more on = elim (cases_Bool (leaves base.roads nodes s)) [
+    | inl out ↦ let new = is_passable base (state_of base.roads postings) truck s in
+        cut_more base postings seen truck nodes s s before now after there (leaving_yes base.roads nodes s there out)
+        (ap (λ b. b && new) changed ∙ (ap (λ b. b && new) (sym out) ∙ shut))
+        (more ∙ (ap (λ b. now + cond b 1 0) out ∙ ap (λ b. now + cond b 1 0) (sym changed))) on
+    | inr in_it ↦ let none : after ≡ now = more ∙ (ap (λ b. now + cond {A = ℕ} b 1 0) in_it ∙ unmoved now) in
+        subst (λ k. CutOn base postings seen truck nodes (s + 1) before k) (sym none) (inside s before now there in_it on)
+  ]
+
+  -- one that leaves and may be passed is the least
+  pub cut_found : (s before now after : ℕ) → s < length base.roads.segments → is_changed base postings seen s ≡ true
+      → (leaves base.roads nodes s && is_passable base (state_of base.roads postings) truck s) ≡ true
+      → after ≡ now + cond (leaves base.roads nodes s) 1 0 → CutOn base postings seen truck nodes s before now
+      → (Some s ≡ first_meeting base (state_of base.roads postings) truck (leaving base.roads nodes))
+      × (after ≤ before + changed_on base postings seen (leaving base.roads nodes))
+  cut_found s before now after there changed meets more on =
+      let new = state_of base.roads postings in
+      let rest = leaving_from base.roads nodes (s + 1) in
+      let both = and_parts (leaves base.roads nodes s) (is_passable base new truck s) meets in
+      let out = leaving_yes base.roads nodes s there both.0 in
+      let first : first_meeting base new truck (s ∷ rest) ≡ Some s = ap (λ b. cond b (Some s) (first_meeting base new truck rest)) both.1 in
+      let count : changed_on base postings seen (leaving_from base.roads nodes s) ≡ 1 + changed_on base postings seen rest =
+      ap (changed_on base postings seen) out ∙ (counted base postings seen s rest ∙ ap (λ b. cond b 1 0 + changed_on base postings seen rest) changed) in
+      let one : after ≡ now + 1 = more ∙ ap (λ b. now + cond b 1 0) both.0 in
+      (sym first ∙ (ap (first_meeting base new truck) (sym out) ∙ on.left), omega (arith, on.steps, count, one))
+
+  -- behind the last segment none is left
+  pub cut_done : (before now : ℕ) → CutOn base postings seen truck nodes (length base.roads.segments) before now
+      → (None ≡ first_meeting base (state_of base.roads postings) truck (leaving base.roads nodes))
+      × (now ≤ before + changed_on base postings seen (leaving base.roads nodes))
+  cut_done before now on =
+      let none = leaving_none base.roads nodes (length base.roads.segments) (omega arith) in
+      (sym (ap (first_meeting base (state_of base.roads postings) truck) none) ∙ on.left, omega (arith, on.steps))
 
 -- to test nothing is within what any call may cost
 within_none : (base : BaseLists) (postings : List Change) (seen : ℕ) (w : What) (n : ℕ) → IsWithin base postings seen w n n

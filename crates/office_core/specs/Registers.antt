@@ -1,5 +1,5 @@
 -- What contracts see of what an office keeps, and what its answers say of it.
-use Rattle.std.specs.Prelude.{◌≡◌, ℕ, ◌+◌, Bool, true, List, length, Option}
+use Rattle.std.specs.Prelude.{◌≡◌, ℕ, ◌+◌, ◌≤◌, ◌<◌, Bool, true, false, List, length, Option}
 use Rattle.std.specs.Arc.{arc_value}
 use Rattle.road_graph.specs.Roads.{IsRoads}
 use Rattle.restriction_log.specs.declared.change.Change.{Change}
@@ -119,10 +119,15 @@ is_recalled_in r state n = is_recalled r.base state r.machine.day (permit_of r.m
 abbrev pub MeetElsewhere : RegisterParts → InForce → ℕ → Type 0
 MeetElsewhere r state segment = InForceMeetElsewhere r.base state segment r.machine.day r.machine.permits
 
--- whether the segment changed after a version, and how many segments out of these nodes did
+-- whether the segment changed after a version
 abbrev pub has_changed : RegisterParts → ℕ → ℕ → Bool
 has_changed r seen s = is_changed r.base r.machine.postings seen s
 
+-- no segment changed after a version, from this one up to that
+abbrev pub AreUnchanged : RegisterParts → ℕ → ℕ → ℕ → Type 0
+AreUnchanged r seen from to = (s : ℕ) → from ≤ s → s < to → has_changed r seen s ≡ false
+
+-- how many segments out of these nodes changed after a version
 abbrev pub changed_out : RegisterParts → ℕ → List ℕ → ℕ
 changed_out r seen nodes = changed_on r.base r.machine.postings seen (leaving r.base.roads nodes)
 

@@ -1,14 +1,14 @@
 // Answers to an application: by what was proposed for it, or by what the office finds itself.
 
-ghost use Rattle.std.specs.Prelude.{◌≡◌, ◌+◌, ◌<◌, ◌≤◌, ◌&&◌, length, All, IfOk, OnErr, None, if◌then◌else◌};
+ghost use Rattle.std.specs.Prelude.{◌≡◌, ◌+◌, ◌<◌, ◌≤◌, ◌&&◌, length, All, IfOk, IfSome, IfNone, OnErr, None, true, if◌then◌else◌};
 ghost use Rattle.trip_analysis.specs.declared.finding.What.TheVariants as what;
 ghost use Rattle.trip_analysis.specs.Applications.{Sound};
-ghost use Rattle.trip_analysis.specs.Findings.{AreRising, InRange, first_on as first_in, is_passable, limit_for};
+ghost use Rattle.trip_analysis.specs.Findings.{InRange, first_on as first_in, is_passable, leaves, limit_for};
 ghost use Rattle.office_words.specs.declared.entry.Call.TheVariants.{Held, Submit};
 ghost use Rattle.office_words.specs.declared.entry.Reply.TheVariants as reply;
 ghost use Rattle.office_core.specs.Replies.{early_reply};
 ghost use Rattle.office_core.specs.Machine.{HasRoom, IsFound, version_of};
-ghost use Rattle.office_core.specs.Registers.{Gives, HeldAt, IsFoundNow, IsReplyTo, IsRetested, Issues, Leaves, MayLack, Permits, changed_out, found_reply, has_changed, least_out, next_issue, state_now, state_seen};
+ghost use Rattle.office_core.specs.Registers.{AreUnchanged, Gives, HeldAt, IsFoundNow, IsReplyTo, IsRetested, Issues, Leaves, MayLack, Permits, changed_out, found_reply, has_changed, least_out, next_issue, state_now, state_seen};
 
 use crate::answer::Answer;
 use crate::register::Register;
@@ -19,7 +19,7 @@ use permit_book::BookRefusal;
 use permit_days::Day;
 use road_graph::Numbers;
 use std::sync::ledger::Ledger;
-use trip_analysis::{Application, Base, Failing, Proposal, What, is_passable, next_leaving};
+use trip_analysis::{Application, Base, Cut, Failing, Proposal, What, is_passable};
 
 impl Register {
     /// Answers a proposal, which is what was found at its version.
@@ -113,7 +113,7 @@ impl Register {
                 None => self.issue(caller, application, seen, route),
             },
             What::Fails { segment } => Ok(self.answer_fails(truck, *segment, steps)),
-            What::Cut(nodes) => Ok(self.answer_cut(truck, seen, nodes.as_slice(), steps)),
+            What::Cut(nodes) => Ok(self.answer_cut(truck, seen, nodes, steps)),
         }
     }
 
@@ -165,48 +165,57 @@ impl Register {
     }
 
     // The least segment out of these nodes that the truck may pass, where it could pass none at the version seen: only what
-    // changed since is tested. Takes no memory.
+    // changed since is looked at, and only what leaves the nodes is tested. Takes no memory.
     fn first_meeting<L: Ledger>(
         &self,
         truck: u32,
         seen: u32,
-        nodes: &[u32],
+        nodes: &Cut,
         steps: &mut Steps<L>,
     ) -> Option<u32>
         requires truck { truck < length self.now.base.fleet }
-        requires rising { AreRising nodes.now }
         requires met { least_out self.now.base (state_seen self.now seen) truck nodes.now ≡ None }
         ensures value { result ≡ least_out self.now.base (state_now self.now) truck nodes.now }
         ensures steps { steps.new ≤ steps.old + changed_out self.now seen nodes.now }
     {
-        if seen == self.version() {
-            return None;
-        }
-        let mut start = 0;
-        'out: while let Some(segment) = next_leaving(self.base().network(), nodes, start) {
-            if self.meets_if_changed(truck, seen, segment, steps) {
+        let mut from = 0;
+        'out: while let Some(segment) = self.next_changed(seen, from) {
+            if self.meets_if_leaving(truck, nodes, segment, steps) {
                 return Some(segment);
             }
-            start = segment + 1;
+            from = segment + 1;
         }
         None
     }
 
-    // Whether the segment changed after the version seen, and the truck may pass it now. Takes no memory.
-    fn meets_if_changed<L: Ledger>(
+    // Whether the segment leaves these nodes, and the truck may pass it now. Takes no memory.
+    fn meets_if_leaving<L: Ledger>(
         &self,
         truck: u32,
-        seen: u32,
+        nodes: &Cut,
         segment: u32,
         steps: &mut Steps<L>,
     ) -> bool
         requires truck { truck < length self.now.base.fleet }
         requires segment { segment < length self.now.base.roads.segments }
-        ensures value { result ≡ (has_changed self.now seen segment
+        ensures value { result ≡ (leaves self.now.base.roads nodes.now segment
             && is_passable self.now.base (state_now self.now) truck segment) }
-        ensures steps { steps.new ≡ steps.old + (if has_changed self.now seen segment then 1 else 0) }
+        ensures steps { steps.new ≡ steps.old + (if leaves self.now.base.roads nodes.now segment then 1 else 0) }
     {
-        self.changed(segment, seen) && is_passable(self.base(), self.state(), truck, segment, steps)
+        nodes.is_left_by(self.base().network(), segment)
+            && is_passable(self.base(), self.state(), truck, segment, steps)
+    }
+
+    // The first segment from a number on that a posting above the version seen names, it or one of its spans. Takes no memory.
+    #[tactic(auto, using(crate::proofs::Registers::stored_is))]
+    fn next_changed(&self, seen: u32, from: u32) -> Option<u32>
+        ensures changed { IfSome result (λ s. has_changed self.now seen s ≡ true) }
+        ensures within { IfSome result (λ s. (from ≤ s) × (s < length self.now.base.roads.segments)) }
+        ensures few { IfSome result (λ s. s < 16384) }
+        ensures first { IfSome result (λ s. AreUnchanged self.now seen from s) }
+        ensures none { IfNone result (AreUnchanged self.now seen from (length self.now.base.roads.segments)) }
+    {
+        self.store.next_changed(seen, from)
     }
 
     // Whether a posting above the version seen names the segment or one of its spans. Takes no memory.
@@ -237,19 +246,19 @@ impl Register {
         &self,
         truck: u32,
         seen: u32,
-        nodes: &[u32],
+        nodes: &Numbers,
         steps: &mut Steps<L>,
     ) -> Answer
         requires truck { truck < length self.now.base.fleet }
-        requires rising { AreRising nodes.now }
         requires met { least_out self.now.base (state_seen self.now seen) truck nodes.now ≡ None }
         ensures reply { result ≡ found_reply self.now truck (what.Cut nodes.now) }
         ensures steps { IsRetested self.now seen (what.Cut nodes.now) steps.old steps.new }
     {
-        let Some(first) = next_leaving(self.base().network(), nodes, 0) else {
+        let cut = Cut::of(nodes);
+        let Some(first) = cut.next_leaving(self.base().network(), 0) else {
             return Answer::plain(Reply::NoRoad);
         };
-        if let Some(segment) = self.first_meeting(truck, seen, nodes, steps) {
+        if let Some(segment) = self.first_meeting(truck, seen, &cut, steps) {
             return self.outdated(Cause::NowMeets { segment });
         }
         let version = self.version();

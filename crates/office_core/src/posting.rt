@@ -161,14 +161,15 @@ fn push_if(numbers: &mut Vec<u32>, is_one: bool, number: u32) -> Result<(), Allo
     Ok(())
 }
 
-// Recalls these permits, which are live, and takes them out of the index.
+// Recalls these permits, which are live, and takes them out of the index. The last comes first: numbers rise, so each stands at
+// the end of its lists.
 fn recall_each(book: &mut Book, index: &mut Index, numbers: &[u32], version: u32)
     requires live { AreLive (mark.Recalled version) book.old numbers.now }
     requires index { IsIndexed (length index.old) book.old index.old }
     ensures marked { book.new ≡ marked_all (mark.Recalled version) book.old numbers.now }
     ensures index { IsIndexed (length index.old) book.new index.new }
 {
-    for i in 0..numbers.len() {
+    for i in (0..numbers.len()).rev() {
         recall(book, index, numbers[i], version);
     }
 }

@@ -1,5 +1,7 @@
 -- Rising numbers: whether one is among them, and what is left without it.
-use Rattle.std.proofs.Common.{◌≡◌, ◌≢◌, ◌∷◌, ◌++◌, [], List, ℕ, suc, ◌+◌, ◌-◌, ◌<◌, ◌≤◌, ◌⊎◌, inl, inr, Bool, true, false, nat_eq, not, ◌||◌, cond, length, get_or, take, drop, Ok, Err, refl, ap, sym, ◌∙◌, arith}
+use Rattle.std.proofs.Common.{◌≡◌, ◌≢◌, ◌∷◌, ◌++◌, [], List, ℕ, suc, ◌+◌, ◌-◌, ◌<◌, ◌≤◌, ◌⊎◌, inl, inr, Bool, true, false, nat_eq, not, ◌||◌, cond, length, get_or, take, drop, Ok, Err, Result, Some, refl, ap, sym, ◌∙◌, arith}
+use Rattle.std.specs.Prelude.{IfNone, IfSome, slice_get}
+use Rattle.std.specs.Result.{result_ok}
 use Rattle.std.specs.List.{All, remove}
 use Rattle.std.specs.List.Sorted.{IsBinarySearchResult, IsStrictlyIncreasing}
 use Rattle.std.specs.Ordering.{nat_cmp}
@@ -10,6 +12,7 @@ use Rattle.std.proofs.lemmas.List.Elements.{filter-append}
 use Rattle.std.proofs.lemmas.List.Folds.{list_any_none, list_any-from_Any}
 use Rattle.std.proofs.lemmas.List.Kept.{AllPairs-from_increasing}
 use Rattle.std.proofs.lemmas.List.Sorted.{searched}
+use Rattle.std.proofs.lemmas.Option.{get_or_from_slice_get, slice_get-get_or}
 use Rattle.recall_index.specs.Uses.{is_in, without}
 
 -- a number from which all differ is not among them
@@ -70,15 +73,21 @@ not_falling xs rising i j within low = by (cases_lt i j)
     by (inl less) = let h : get_or xs i 0 < get_or xs j 0 = AllPairs-from_increasing xs rising i j 0 less low in omega (arith, h)
     by (inr more) = let same : i ≡ j = omega (arith, within, more) in let e : get_or xs i 0 ≡ get_or xs j 0 = ap (λ k. get_or xs k 0) same in omega (arith, e)
 
--- what a search of rising numbers found
-pub found_there : (n : ℕ) (xs : List ℕ) (i : ℕ) → IsStrictlyIncreasing xs → IsBinarySearchResult (λ y. nat_cmp y n) xs (Ok i) → i < length xs → remove xs i ≡ without n xs
-found_there n xs i rising found low = taken_out n xs i rising low (searched xs n (Ok i) found (not_falling xs rising)).1
-
-pub found_none : (n : ℕ) (xs : List ℕ) (i : ℕ) → IsStrictlyIncreasing xs → IsBinarySearchResult (λ y. nat_cmp y n) xs (Err i) → xs ≡ without n xs
-found_none n xs i rising none =
+-- a number that a search of rising ones does not find is not among them
+pub none_found : (n : ℕ) (xs : List ℕ) (r : Result ℕ ℕ) → IsStrictlyIncreasing xs → IsBinarySearchResult (λ y. nat_cmp y n) xs r → IfNone (result_ok r) (is_in n xs ≡ false)
+none_found n xs (Ok i) rising found = tt
+none_found n xs (Err i) rising none =
     let at = searched xs n (Err i) none (not_falling xs rising) in
-    sym (without_absent n xs (absent n xs (λ k low e. by k low e (cases_lt k i) at)))
+    absent n xs (λ k low e. by k low e (cases_lt k i) at)
   where
     by : (k : ℕ) → k < length xs → get_or xs k 0 ≡ n → (k < i) ⊎ (i ≤ k) → (i ≤ length xs) × ((k : ℕ) → k < i → get_or xs k 0 < n) × ((k : ℕ) → i ≤ k → k < length xs → n < get_or xs k 0) → ⊥
     by k low e (inl front) at = let h = at.1 k front in omega (arith, e, h)
     by k low e (inr back) at = let h = at.2 k back low in omega (arith, e, h)
+
+pub there_found : (n : ℕ) (xs : List ℕ) (r : Result ℕ ℕ) → IsStrictlyIncreasing xs → IsBinarySearchResult (λ y. nat_cmp y n) xs r → IfSome (result_ok r) (λ i. slice_get xs i ≡ Some n)
+there_found n xs (Ok i) rising found = let (low, is) = searched xs n (Ok i) found (not_falling xs rising) in slice_get-get_or xs i 0 low ∙ ap (λ (k : ℕ). Some k) is
+there_found n xs (Err i) rising none = tt
+
+-- the place of a number taken out leaves the others
+pub out : (n : ℕ) (xs : List ℕ) (i : ℕ) → IsStrictlyIncreasing xs → i < length xs → slice_get xs i ≡ Some n → remove xs i ≡ without n xs
+out n xs i rising low at = taken_out n xs i rising low (get_or_from_slice_get xs i n 0 at)

@@ -1,6 +1,6 @@
 // The numbers that use one segment.
 
-ghost use Rattle.std.specs.Prelude.{◌≡◌, ◌≤◌, [], All, OnOk, OnErr};
+ghost use Rattle.std.specs.Prelude.{◌≡◌, ◌≤◌, ◌<◌, [], length, All, OnOk, OnErr, IfSome, IfNone, Some, false, slice_get};
 ghost use Rattle.std.specs.List.Sorted.{IsStrictlyIncreasing};
 ghost use Rattle.recall_index.specs.Uses.{is_in, with_last, without};
 
@@ -59,9 +59,22 @@ impl Users {
     pub(crate) fn remove(&mut self, number: u32)
         ensures { self.new ≡ without number self.old }
     {
-        if let Ok(i) = self.numbers.binary_search(&number) {
+        if let Some(i) = place_of(&self.numbers, number) {
             self.numbers.remove(i);
         }
+    }
+}
+
+// Where a number stands among rising ones, if it is there. Whoever takes out falling numbers finds each at the end.
+fn place_of(numbers: &[u32], number: u32) -> Option<usize>
+    requires { IsStrictlyIncreasing numbers.now }
+    ensures within { IfSome result (λ i. i < length numbers.now) }
+    ensures found { IfSome result (λ i. slice_get numbers.now i ≡ Some number) }
+    ensures none { IfNone result (is_in number numbers.now ≡ false) }
+{
+    match numbers.last() {
+        Some(last) if *last == number => Some(numbers.len() - 1),
+        _ => numbers.binary_search(&number).ok(),
     }
 }
 

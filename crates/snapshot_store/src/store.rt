@@ -35,13 +35,13 @@ impl Model for Store {
 }
 
 impl Store {
-    ghost use Rattle.std.specs.Prelude.{◌≡◌, ◌+◌, ◌<◌, ◌≤◌, length, drop, None, true, IfOk, IfErr, OnOk, OnErr};
+    ghost use Rattle.std.specs.Prelude.{◌≡◌, ◌+◌, ◌<◌, ◌≤◌, length, drop, None, true, IfSome, IfNone, IfOk, IfErr, OnOk, OnErr};
     ghost use Rattle.std.specs.Arc.{arc_value};
     ghost use Rattle.restriction_log.specs.Changes.{is_touched, takes};
     ghost use Rattle.restriction_log.specs.Logs.{IsPostCause, post_refusal};
     ghost use Rattle.restriction_log.specs.Stamps.{HasStamps};
     ghost use Rattle.restriction_log.specs.States.{AreOf};
-    ghost use Rattle.snapshot_store.specs.Stores.{IsNextOf, newly_stored, state_now, version_of, with_change};
+    ghost use Rattle.snapshot_store.specs.Stores.{AreKept, IsNextOf, newly_stored, state_now, version_of, with_change};
 
     /// A store of this network, on which nothing is posted yet.
     pub fn start(alloc: Global, network: &Network) -> Result<Store, NoMemory>
@@ -97,6 +97,18 @@ impl Store {
         ensures value { result ≡ is_touched self.now.roads segment (drop after self.now.postings) }
     {
         self.stamps.stamp(segment) > after
+    }
+
+    /// The first segment from `from` on of which a posting numbered above `after` names it or one of its spans, where there
+    /// is one. Takes no memory, and passes over each page of segments that no such posting names.
+    #[tactic(auto, using(crate::proofs::Changed::changed_above, crate::proofs::Changed::kept_below))]
+    pub fn next_changed(&self, after: u32, from: u32) -> Option<u32>
+        ensures changed { IfSome result (λ s. is_touched self.now.roads s (drop after self.now.postings) ≡ true) }
+        ensures within { IfSome result (λ s. (from ≤ s) × (s < length self.now.roads.segments)) }
+        ensures first { IfSome result (λ s. AreKept self.now after from s) }
+        ensures none { IfNone result (AreKept self.now after from (length self.now.roads.segments)) }
+    {
+        self.stamps.next_above(after, from)
     }
 
     /// What a posting would make of the store. Refusals, in this order: `Range` where the network does not take the change,

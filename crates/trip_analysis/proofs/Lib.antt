@@ -1,10 +1,10 @@
 pub mod Crossing
+pub mod Marked
 pub mod Found
 pub mod OneFinding
 pub mod Unbroken
 pub mod Breaks
 pub mod Meanings
-pub mod Searched
 pub mod Flags
 pub mod KnownAt
 pub mod Following

@@ -1,0 +1,114 @@
+// A set of nodes, and the segments that leave it.
+
+ghost use Rattle.std.specs.Prelude.{◌≡◌, ◌+◌, ◌<◌, ◌≤◌, ◌∷◌, [], length, MatchOption};
+ghost use Rattle.restriction_log.specs.States.{AreOf};
+ghost use Rattle.trip_analysis.specs.Cuts.{AreMarks};
+ghost use Rattle.trip_analysis.specs.Findings.{IsNextLeaving, first_meeting, leaves, leaving, leaving_from};
+
+use crate::base::Base;
+use crate::passing::is_passable;
+use clearance_rules::Steps;
+use restriction_log::State;
+use road_graph::{Network, Numbers};
+use std::marker::Model;
+use std::snapshot::Snapshot as Told;
+use std::sync::ledger::Ledger;
+
+/// The most nodes of a network.
+const MOST_NODES: usize = 4096;
+
+/// A set of nodes of a network, in which each node is looked up at once.
+///
+/// Contracts see the list of which it was made.
+#[derive(Drop)]
+pub struct Cut {
+    // has no bytes: it tells contracts of which list the set is
+    nodes: Told<Numbers>,
+    // for each number that a node can have, whether it is one of these
+    marks: [bool; MOST_NODES],
+}
+
+impl Model for Cut {
+    ghost use Rattle.std.specs.Prelude.{List, ℕ};
+    ghost use Rattle.trip_analysis.specs.Cuts.{AreMarks};
+
+    ghost Value = { List ℕ };
+
+    ghost view = { λ c. c.nodes.value };
+
+    ghost invariant = { λ c. AreMarks c.nodes.value c.marks };
+}
+
+impl Cut {
+    /// The set of these nodes. Takes no memory.
+    pub fn of(nodes: &Numbers) -> Cut
+        ensures { result ≡ nodes.now }
+    {
+        Cut {
+            nodes: Told::of(nodes),
+            marks: marks_of(nodes.as_slice()),
+        }
+    }
+
+    /// Whether the segment begins at one of the nodes and ends at none of them. Takes no memory.
+    pub fn is_left_by(&self, network: &Network, segment: u32) -> bool
+        requires { segment < length network.now.segments }
+        ensures { result ≡ leaves network.now self.now segment }
+    {
+        network.lists_are_in_order();
+        let here = network.segment(segment);
+        self.marks[here.from as usize] && !self.marks[here.to as usize]
+    }
+
+    /// The least segment from a number on that leaves the nodes. Takes no memory.
+    #[tactic(auto, using(crate::proofs::Crossing::lemmas))]
+    pub fn next_leaving(&self, network: &Network, start: u32) -> Option<u32>
+        ensures { MatchOption result
+            (leaving_from network.now self.now start ≡ [])
+            (IsNextLeaving network.now self.now start) }
+    {
+        let count = network.segments();
+        for segment in start..count {
+            if self.is_left_by(network, segment) {
+                return Some(segment);
+            }
+        }
+        None
+    }
+}
+
+/// The least segment out of these nodes that the truck may pass. Takes no memory.
+pub fn first_meeting_out<L: Ledger>(
+    base: &Base,
+    state: &State,
+    truck: u32,
+    nodes: &Cut,
+    steps: &mut Steps<L>,
+) -> Option<u32>
+    requires truck { truck < length base.now.fleet }
+    requires state { AreOf base.now.roads state.now }
+    ensures { result ≡ first_meeting base.now state.now truck (leaving base.now.roads nodes.now) }
+{
+    let mut start = 0;
+    'out: while let Some(s) = nodes.next_leaving(base.network(), start) {
+        if is_passable(base, state, truck, s, steps) {
+            return Some(s);
+        }
+        start = s + 1;
+    }
+    None
+}
+
+// For each number that a node can have, whether it is one of these.
+fn marks_of(nodes: &[u32]) -> [bool; MOST_NODES]
+    ensures { AreMarks nodes.now result }
+{
+    let mut marks = [false; MOST_NODES];
+    for i in 0..nodes.len() {
+        let node = nodes[i] as usize;
+        if node < MOST_NODES {
+            marks[node] = true;
+        }
+    }
+    marks
+}
