@@ -1,8 +1,7 @@
-ghost use Rattle.std.specs.Prelude.{◌≡◌, ◌<◌, ◌↔◌, length, All, IfOk, IsTrue};
+ghost use Rattle.std.specs.Prelude.{◌≡◌, ◌<◌, ◌↔◌, ◌∷◌, [], length, All, IfOk, IsTrue};
 ghost use Rattle.restriction_log.specs.States.{AreOf};
 ghost use Rattle.trip_analysis.specs.Applications.{AreAskedThere, Sound};
 ghost use Rattle.snapshot_store.specs.Stores.{IsLater};
-ghost use Rattle.trip_analysis.specs.Findings.{AreRising};
 ghost use Rattle.trip_analysis.specs.Followers.{GoesOn, followed};
 
 use axle_train::{Axle, Train};
@@ -18,10 +17,9 @@ use std::marker::Brand;
 use std::process::Abort;
 use std::sync::ledger::{Blank, Ledger};
 use trip_analysis::{
-    Application, ApplicationRefusal, Base, Failing, Follower, Proposal, Truck, What,
+    Application, ApplicationRefusal, Base, Cut, Failing, Follower, Proposal, Truck, What,
     asked_findings_are_of_the_route, failing_limit, find, findings_hold, first_meeting_out,
-    first_on, free_findings_are_of_walks, is_passable, next_leaving,
-    routes_break_off_where_walks_do,
+    first_on, free_findings_are_of_walks, is_passable, routes_break_off_where_walks_do,
 };
 
 // What was built is let go by a call of `drop`: where a scope lets it go, the proof of the whole function goes through
@@ -450,27 +448,39 @@ fn tell_first<L: Ledger>(rt: &impl Abort, base: &Base, state: &State, steps: &mu
     assert!(rt; first == Some(Failing { segment, limit }));
 }
 
-// A list of one node.
-fn only(node: u32) -> [u32; 1]
-    ensures { AreRising result }
+// The set of one node.
+fn only(rt: &impl Abort, alloc: Global, node: u32) -> Cut
+    ensures { result ≡ node ∷ [] }
 {
-    [node]
+    let list = Vec::from_slice(alloc, &[node]).expect(rt, "memory");
+    let nodes = Numbers::of(list);
+    let cut = Cut::of(&nodes);
+    drop(nodes);
+    cut
 }
 
 // The segments that leave a node, where segments 0 and 1 are too low for truck 0.
-fn tell_leaving<L: Ledger>(rt: &impl Abort, base: &Base, state: &State, steps: &mut Steps<L>)
+fn tell_leaving<L: Ledger>(
+    rt: &impl Abort,
+    alloc: Global,
+    base: &Base,
+    state: &State,
+    steps: &mut Steps<L>,
+)
     requires { AreOf base.now.roads state.now }
 {
-    let (first, last) = (only(0), only(2));
-    assert!(rt; base.fleet().len() == 2);
-    assert!(rt; next_leaving(base.network(), &first, 1) == Some(1));
-    assert!(rt; next_leaving(base.network(), &first, 2).is_none());
+    let (first, last) = (only(rt, alloc, 0), only(rt, alloc, 2));
+    let network = base.network();
+    assert!(rt; base.fleet().len() == 2 && network.segments() == 3);
+    assert!(rt; first.is_left_by(network, 1) && !last.is_left_by(network, 1));
+    assert!(rt; first.next_leaving(network, 1) == Some(1));
+    assert!(rt; first.next_leaving(network, 2).is_none());
     assert!(rt; first_meeting_out(base, state, 0, &first, steps).is_none());
     assert!(rt; first_meeting_out(base, state, 0, &last, steps) == Some(2));
 }
 
 // Both with one counter.
-fn tell_both<L: Ledger>(rt: &impl Abort, base: &Base, state: &State, blank: Blank)
+fn tell_both<L: Ledger>(rt: &impl Abort, alloc: Global, base: &Base, state: &State, blank: Blank)
     requires state { AreOf base.now.roads state.now }
     requires name { blank.name ≡ L.name }
     requires parts { blank.parts ≡ L.parts }
@@ -479,13 +489,13 @@ fn tell_both<L: Ledger>(rt: &impl Abort, base: &Base, state: &State, blank: Blan
     let mut steps = Steps::<L>::new(blank);
     tell_limits(rt, base, state, &mut steps);
     tell_first(rt, base, state, &mut steps);
-    tell_leaving(rt, base, state, &mut steps);
+    tell_leaving(rt, alloc, base, state, &mut steps);
 }
 
 // The same where segments 0 and 1 are too low for truck 0.
 fn tell_lowered(rt: &impl Abort, alloc: Global, base: &Base) {
     let state = lowered(rt, alloc, base.network(), "0 1");
-    tell_both::<Brand>(rt, base, &state, Blank::new(1));
+    tell_both::<Brand>(rt, alloc, base, &state, Blank::new(1));
     drop(state);
 }
 
