@@ -221,6 +221,25 @@ def trips_of_length(side: int, length: int, count: int) -> bytes:
     return text(rows)
 
 
+# Turns that look at much ----------------------------------------------------------------------------------------------
+
+
+def many_recalls(permits: int = 4000, length: int = 1000) -> bytes:
+    """So many permits on one route of so many segments, of which the middle one is closed at last."""
+    rows = [record("day", "2026-01-01")] + [record("node", f"n{node}") for node in range(length + 1)]
+    rows += [record("segment", f"s{i}", f"n{i}", f"n{i + 1}", 1000) for i in range(length)]
+    rows += [record("truck", "t", "acme", 168, 102, 720, "0:12000 180:17000 228:17000"), record("actor", "a0")]
+    rows += [applies(0, 0, length) for _ in range(permits)]
+    return text([*rows, record("post", "a0", f"s{length // 2}", "closed", 1)])
+
+
+def shut_goal(count: int = COMMANDS) -> bytes:
+    """So many applications for a trip to a node that only closed segments reach, in a grid of all nodes that there may be."""
+    goal = SIDE * SIDE - 1
+    rows = grid(SIDE, Random(1)) + [record("limit", f"s{near}-{goal}", "closed", 1) for near in (goal - 1, goal - SIDE)]
+    return text([*rows, record("actor", "a0"), *(applies(0, start % goal, goal) for start in range(count))])
+
+
 def main() -> int:
     """Takes the words of the command line."""
     asked = parser(__doc__)

@@ -1,6 +1,6 @@
 // Answers to an application: by what was proposed for it, or by what the office finds itself.
 
-ghost use Rattle.std.specs.Prelude.{◌≡◌, ◌+◌, ◌<◌, ◌≤◌, ◌&&◌, length, All, IfOk, IfSome, IfNone, OnErr, None, true, if◌then◌else◌};
+ghost use Rattle.std.specs.Prelude.{◌≡◌, ◌+◌, ◌<◌, ◌≤◌, ◌&&◌, length, All, IfOk, OnOk, IfSome, IfNone, OnErr, None, true, if◌then◌else◌};
 ghost use Rattle.trip_analysis.specs.declared.finding.What.TheVariants as what;
 ghost use Rattle.trip_analysis.specs.Applications.{Sound};
 ghost use Rattle.trip_analysis.specs.Findings.{InRange, first_on as first_in, is_passable, leaves, limit_for};
@@ -299,6 +299,28 @@ impl Register {
             version,
             route: route.try_clone(self.alloc)?,
         })?;
+        self.enter_permit(caller, application, seen, route)?;
+        Ok(answer)
+    }
+
+    // Enters the next permit into the book and the index, for a route that meets now and was found at the version seen.
+    fn enter_permit(
+        &mut self,
+        caller: u32,
+        application: &Application,
+        seen: u32,
+        route: &Numbers,
+    ) -> Result<(), NoMemory>
+        requires truck { application.now.truck < length self.old.base.fleet }
+        requires segments { All (λ s. s < length self.old.base.roads.segments) route.now }
+        requires meets { first_in self.old.base (state_now self.old) application.now.truck route.now ≡ None }
+        requires room { HasRoom self.old.machine }
+        ensures base { self.new.base ≡ self.old.base }
+        ensures after { OnOk result (Permits self.old caller application.now seen self.new (next_issue self.old route.now)) }
+        ensures unchanged { OnErr result (self.new ≡ self.old) }
+    {
+        let number = self.book.len() + 1;
+        let version = self.store.version();
         let own = route.try_clone(self.alloc)?;
         self.index.add(number, route)?;
         let (truck, first, last) = (application.truck(), application.first(), application.last());
@@ -306,7 +328,7 @@ impl Register {
             .book
             .issue(caller, truck, own, first, last, version, seen)
         {
-            Ok(_number) => Ok(answer),
+            Ok(_number) => Ok(()),
             Err(BookRefusal::NoMemory) => {
                 self.index.remove(number, route);
                 Err(NoMemory)

@@ -1,4 +1,4 @@
-ghost use Rattle.std.specs.Prelude.{◌≡◌, ◌<◌, ◌↔◌, ◌∷◌, [], length, All, IfOk, IsTrue};
+ghost use Rattle.std.specs.Prelude.{◌≡◌, ◌<◌, ◌↔◌, length, All, IfOk, IsTrue};
 ghost use Rattle.restriction_log.specs.States.{AreOf};
 ghost use Rattle.trip_analysis.specs.Applications.{AreAskedThere, Sound};
 ghost use Rattle.snapshot_store.specs.Stores.{IsLater};
@@ -449,9 +449,7 @@ fn tell_first<L: Ledger>(rt: &impl Abort, base: &Base, state: &State, steps: &mu
 }
 
 // The set of one node.
-fn only(rt: &impl Abort, alloc: Global, node: u32) -> Cut
-    ensures { result ≡ node ∷ [] }
-{
+fn only(rt: &impl Abort, alloc: Global, node: u32) -> Cut {
     let list = Vec::from_slice(alloc, &[node]).expect(rt, "memory");
     let nodes = Numbers::of(list);
     let cut = Cut::of(&nodes);

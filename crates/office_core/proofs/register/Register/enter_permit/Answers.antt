@@ -6,11 +6,11 @@ use Rattle.permit_book.specs.declared.permit.Mark.TheVariants as mark
 use Rattle.recall_index.proofs.Lists.{there_once_added}
 use Rattle.office_core.proofs.Indexing.{index_below}
 use Rattle.office_core.proofs.Registers.{issue_keeps, route_there, undo_keeps}
-use Rattle.office_core.proofs.register.Register.issue.Goals as goal
+use Rattle.office_core.proofs.register.Register.enter_permit.Goals as goal
 
 pub add-requires-clause-above : goal.add-requires-clause-above
 add-requires-clause-above c = let i = c.self.inside in let inv = c.self.invariant in
-    index_below (length (arc_value i.base).roads.segments) i.book i.index inv.index inv.good.numbered (c.len.result + 1) (ap (λ k. k + 1) c.len.ensures.count)
+    index_below (length (arc_value i.base).roads.segments) i.book i.index inv.index inv.good.numbered (c.len-number.result + 1) (ap (λ k. k + 1) c.len-number.ensures.count)
 
 pub invariant_of-self-in-Ok : goal.invariant_of-self-in-Ok
 invariant_of-self-in-Ok c =
@@ -25,8 +25,8 @@ invariant_of-self-in-Ok c =
       seen = c.args.seen;
       mark = mark.Live;
     } in
-    let n : ℕ = c.len.result + 1 in
-    let next : n ≡ length c.self.inside.book + 1 = ap (λ k. k + 1) c.len.ensures.count in
+    let n : ℕ = c.len-number.result + 1 in
+    let next : n ≡ length c.self.inside.book + 1 = ap (λ k. k + 1) c.len-number.ensures.count in
     issue_keeps c.self.inside c.args.self.now c.issue.new.self c.add.new.self p c.args.application.now.truck n c.args.route.now c.self.view_is c.self.invariant next (sym next) c.truck-truck.ensures c.in_ok-own.ensures refl
     c.requires.truck c.requires.segments c.requires.meets c.in_ok-add.ensures.added c.in-Ok.ensures.issued
 
@@ -36,9 +36,9 @@ remove-requires-clause-segments c =
 
 pub remove-requires-clause-there : goal.remove-requires-clause-there
 remove-requires-clause-there c = let i = c.self.inside in let inv = c.self.invariant in
-    there_once_added i.index c.add.new.self (c.len.result + 1) c.args.route.now
-    (index_below (length (arc_value i.base).roads.segments) i.book i.index inv.index inv.good.numbered (c.len.result + 1) (ap (λ k. k + 1) c.len.ensures.count)) c.in_ok-add.ensures.added
+    there_once_added i.index c.add.new.self (c.len-number.result + 1) c.args.route.now
+    (index_below (length (arc_value i.base).roads.segments) i.book i.index inv.index inv.good.numbered (c.len-number.result + 1) (ap (λ k. k + 1) c.len-number.ensures.count)) c.in_ok-add.ensures.added
 
 pub invariant_of-self-in-Err-NoMemory : goal.invariant_of-self-in-Err-NoMemory
 invariant_of-self-in-Err-NoMemory c =
-    undo_keeps c.self.inside c.issue.new.self c.add.new.self c.remove.new.self (c.len.result + 1) c.args.route.now c.self.invariant (ap (λ k. k + 1) c.len.ensures.count) c.in_ok-add.ensures.added c.remove.ensures c.in-Err-NoMemory.ensures.unchanged
+    undo_keeps c.self.inside c.issue.new.self c.add.new.self c.remove.new.self (c.len-number.result + 1) c.args.route.now c.self.invariant (ap (λ k. k + 1) c.len-number.ensures.count) c.in_ok-add.ensures.added c.remove.ensures c.in-Err-NoMemory.ensures.unchanged
