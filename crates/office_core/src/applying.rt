@@ -19,7 +19,7 @@ use permit_book::BookRefusal;
 use permit_days::Day;
 use road_graph::Numbers;
 use std::sync::ledger::Ledger;
-use trip_analysis::{Application, Base, Cut, Failing, Proposal, What, is_passable};
+use trip_analysis::{Application, Base, Failing, NodeSet, Proposal, What, is_passable};
 
 impl Register {
     /// Answers a proposal, which is what was found at its version.
@@ -170,7 +170,7 @@ impl Register {
         &self,
         truck: u32,
         seen: u32,
-        nodes: &Cut,
+        nodes: &NodeSet,
         steps: &mut Steps<L>,
     ) -> Option<u32>
         requires truck { truck < length self.now.base.fleet }
@@ -192,7 +192,7 @@ impl Register {
     fn meets_if_leaving<L: Ledger>(
         &self,
         truck: u32,
-        nodes: &Cut,
+        nodes: &NodeSet,
         segment: u32,
         steps: &mut Steps<L>,
     ) -> bool
@@ -254,11 +254,11 @@ impl Register {
         ensures reply { result ≡ found_reply self.now truck (what.Cut nodes.now) }
         ensures steps { IsRetested self.now seen (what.Cut nodes.now) steps.old steps.new }
     {
-        let cut = Cut::of(nodes);
-        let Some(first) = cut.next_leaving(self.base().network(), 0) else {
+        let nodes = NodeSet::of(nodes);
+        let Some(first) = nodes.next_leaving(self.base().network(), 0) else {
             return Answer::plain(Reply::NoRoad);
         };
-        if let Some(segment) = self.first_meeting(truck, seen, &cut, steps) {
+        if let Some(segment) = self.first_meeting(truck, seen, &nodes, steps) {
             return self.outdated(Cause::NowMeets { segment });
         }
         let version = self.version();

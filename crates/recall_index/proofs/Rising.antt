@@ -84,10 +84,6 @@ none_found n xs (Err i) rising none =
     by k low e (inl front) at = let h = at.1 k front in omega (arith, e, h)
     by k low e (inr back) at = let h = at.2 k back low in omega (arith, e, h)
 
-pub there_found : (n : ℕ) (xs : List ℕ) (r : Result ℕ ℕ) → IsStrictlyIncreasing xs → IsBinarySearchResult (λ y. nat_cmp y n) xs r → IfSome (result_ok r) (λ i. slice_get xs i ≡ Some n)
-there_found n xs (Ok i) rising found = let (low, is) = searched xs n (Ok i) found (not_falling xs rising) in slice_get-get_or xs i 0 low ∙ ap (λ (k : ℕ). Some k) is
-there_found n xs (Err i) rising none = tt
-
 -- the place of a number taken out leaves the others
 pub out : (n : ℕ) (xs : List ℕ) (i : ℕ) → IsStrictlyIncreasing xs → i < length xs → slice_get xs i ≡ Some n → remove xs i ≡ without n xs
 out n xs i rising low at = taken_out n xs i rising low (get_or_from_slice_get xs i n 0 at)

@@ -1,11 +1,11 @@
 -- The marks of a set of nodes, as one node more is marked.
-use Rattle.std.proofs.Common.{◌≡◌, ◌+◌, ◌<◌, ◌≤◌, ◌⊎◌, ◌||◌, ◌&&◌, not, [], inl, inr, ℕ, List, Bool, true, false, cond, get_or, length, nat_eq, replicate, set, take, ap, refl, sym, ◌∙◌, arith}
+use Rattle.std.proofs.Common.{◌≡◌, ◌+◌, ◌<◌, ◌≤◌, ◌⊎◌, ◌||◌, ◌&&◌, not, [], inl, inr, ℕ, List, Bool, true, false, get_or, length, nat_eq, replicate, set, take, ap, refl, sym, ◌∙◌, arith}
 use Rattle.std.proofs.lemmas.Bool.{cases_eq, eq-eqb, ne_eqb, or_right}
 use Rattle.std.proofs.lemmas.List.{get_or-replicate, get_or-set_other, get_or-set_same}
 use Rattle.std.proofs.lemmas.List.Folds.{list_any_more}
 use Rattle.road_graph.specs.declared.segment.Segment.{Segment}
 use Rattle.road_graph.specs.Roads.{IsRoads, IsSegment, Roads, segment_at}
-use Rattle.trip_analysis.specs.Cuts.{AreMarks}
+use Rattle.trip_analysis.specs.NodeSets.{AreMarks}
 use Rattle.trip_analysis.specs.Findings.{is_in, leaves}
 
 -- what the marks tell of a segment

@@ -1,7 +1,7 @@
 pub mod Bases
 pub mod Applications
 pub mod Findings
-pub mod Cuts
+pub mod NodeSets
 pub mod Laws
 pub use Rattle.road_graph.specs.Roads
 pub use Rattle.route_search.specs.Walks

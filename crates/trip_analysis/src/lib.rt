@@ -16,10 +16,10 @@ mod analysis;
 mod analyst;
 mod application;
 mod base;
-mod cut;
 mod finding;
 mod follower;
 mod laws;
+mod node_set;
 mod passing;
 mod refusal;
 
@@ -27,12 +27,12 @@ pub use analysis::{analyse, find};
 pub use analyst::{Analyst, Known};
 pub use application::Application;
 pub use base::{Base, Truck};
-pub use cut::{Cut, first_meeting_out};
 pub use finding::{Failing, Proposal, What};
 pub use follower::Follower;
 pub use laws::{
     asked_findings_are_of_the_route, findings_hold, free_findings_are_of_walks,
     routes_break_off_where_walks_do,
 };
+pub use node_set::{NodeSet, first_meeting_out};
 pub use passing::{failing_limit, first_on, is_passable};
 pub use refusal::ApplicationRefusal;

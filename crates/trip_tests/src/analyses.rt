@@ -17,7 +17,7 @@ use std::marker::Brand;
 use std::process::Abort;
 use std::sync::ledger::{Blank, Ledger};
 use trip_analysis::{
-    Application, ApplicationRefusal, Base, Cut, Failing, Follower, Proposal, Truck, What,
+    Application, ApplicationRefusal, Base, Failing, Follower, NodeSet, Proposal, Truck, What,
     asked_findings_are_of_the_route, failing_limit, find, findings_hold, first_meeting_out,
     first_on, free_findings_are_of_walks, is_passable, routes_break_off_where_walks_do,
 };
@@ -449,12 +449,12 @@ fn tell_first<L: Ledger>(rt: &impl Abort, base: &Base, state: &State, steps: &mu
 }
 
 // The set of one node.
-fn only(rt: &impl Abort, alloc: Global, node: u32) -> Cut {
+fn only(rt: &impl Abort, alloc: Global, node: u32) -> NodeSet {
     let list = Vec::from_slice(alloc, &[node]).expect(rt, "memory");
     let nodes = Numbers::of(list);
-    let cut = Cut::of(&nodes);
+    let set = NodeSet::of(&nodes);
     drop(nodes);
-    cut
+    set
 }
 
 // The segments that leave a node, where segments 0 and 1 are too low for truck 0.

@@ -15,6 +15,6 @@ recall-requires-clause-live c = rw c.loop-i.invariant.marked
 pub loop-i-preserved : goal.loop-i-preserved
 loop-i-preserved c = record {
   marked = rw (c.recall.ensures.marked, c.loop-i.invariant.marked)
-    (next (mark.Recalled c.args.version) refl c.args.book.now c.args.numbers.now c.loop-i.i _ c.requires.live c.loop-i-test.true c.loop-i.auto.i refl).marks;
+      (next (mark.Recalled c.args.version) refl c.args.book.now c.args.numbers.now c.loop-i.i _ c.requires.live c.loop-i-test.true c.loop-i.auto.i refl).marks;
   index = subst (λ k. IsIndexed k c.recall.new.book c.recall.new.index) c.loop-i.invariant.index.many c.recall.ensures.index;
 }

@@ -1,7 +1,7 @@
-use Rattle.std.proofs.Common.{◌≡◌, false, sym, subst, Some}
-use Rattle.std.specs.Prelude.{IfNone, IfSome, slice_get}
+use Rattle.std.proofs.Common.{◌≡◌, false, sym, subst}
+use Rattle.std.specs.Prelude.{IfNone}
 use Rattle.recall_index.specs.Uses.{is_in}
-use Rattle.recall_index.proofs.Rising.{none_found, there_found}
+use Rattle.recall_index.proofs.Rising.{none_found}
 use Rattle.recall_index.proofs.users.place_of.Goals as goal
 
 pub returns-in_default-clause-none : goal.returns-in_default-clause-none

@@ -1,4 +1,4 @@
-use Rattle.std.proofs.Common.{sym, ◌∙◌}
+use Rattle.std.proofs.Common.{sym}
 use Rattle.recall_index.proofs.Rising.{out, without_absent}
 use Rattle.recall_index.proofs.users.Users.remove.Goals as goal
 

@@ -1,6 +1,6 @@
 use Rattle.std.proofs.Common.{false, not, ◌&&◌, get_or, ap, sym, ◌∙◌}
 use Rattle.trip_analysis.proofs.Marked.{leaves_told}
-use Rattle.trip_analysis.proofs.cut.Cut.is_left_by.Goals as goal
+use Rattle.trip_analysis.proofs.node_set.NodeSet.is_left_by.Goals as goal
 
 pub returns-then-self-here : goal.returns-then-self-here
 returns-then-self-here c = let here = c.segment-here in

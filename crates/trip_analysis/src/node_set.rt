@@ -2,7 +2,7 @@
 
 ghost use Rattle.std.specs.Prelude.{◌≡◌, ◌+◌, ◌<◌, ◌≤◌, ◌∷◌, [], length, MatchOption};
 ghost use Rattle.restriction_log.specs.States.{AreOf};
-ghost use Rattle.trip_analysis.specs.Cuts.{AreMarks};
+ghost use Rattle.trip_analysis.specs.NodeSets.{AreMarks};
 ghost use Rattle.trip_analysis.specs.Findings.{IsNextLeaving, first_meeting, leaves, leaving, leaving_from};
 
 use crate::base::Base;
@@ -21,16 +21,16 @@ const MOST_NODES: usize = 4096;
 ///
 /// Contracts see the list of which it was made.
 #[derive(Drop)]
-pub struct Cut {
+pub struct NodeSet {
     // has no bytes: it tells contracts of which list the set is
     nodes: Told<Numbers>,
     // for each number that a node can have, whether it is one of these
     marks: [bool; MOST_NODES],
 }
 
-impl Model for Cut {
+impl Model for NodeSet {
     ghost use Rattle.std.specs.Prelude.{List, ℕ};
-    ghost use Rattle.trip_analysis.specs.Cuts.{AreMarks};
+    ghost use Rattle.trip_analysis.specs.NodeSets.{AreMarks};
 
     ghost Value = { List ℕ };
 
@@ -39,12 +39,12 @@ impl Model for Cut {
     ghost invariant = { λ c. AreMarks c.nodes.value c.marks };
 }
 
-impl Cut {
+impl NodeSet {
     /// The set of these nodes. Takes no memory.
-    pub fn of(nodes: &Numbers) -> Cut
+    pub fn of(nodes: &Numbers) -> NodeSet
         ensures { result ≡ nodes.now }
     {
-        Cut {
+        NodeSet {
             nodes: Told::of(nodes),
             marks: marks_of(nodes.as_slice()),
         }
@@ -82,7 +82,7 @@ pub fn first_meeting_out<L: Ledger>(
     base: &Base,
     state: &State,
     truck: u32,
-    nodes: &Cut,
+    nodes: &NodeSet,
     steps: &mut Steps<L>,
 ) -> Option<u32>
     requires truck { truck < length base.now.fleet }
