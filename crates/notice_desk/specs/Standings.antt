@@ -33,6 +33,11 @@ standings told s = map (standing_of told) s.list.items
 abbrev pub fault_counts : {X : Type 0} {Y : X → Type 0} → (DynBox X Global Y → ℕ) → Subscribers X Y → List ℕ
 fault_counts faults s = map (λ x. faults x.notice) s.list.items
 
+-- what their objects wrote, where `text` is the member of `Notice`, in the same order
+abbrev pub texts : {X : Type 0} {Y : X → Type 0} → (DynBox X Global Y → Option (List ℕ)) → Subscribers X Y
+    → List (Option (List ℕ))
+texts text s = map (λ x. text x.notice) s.list.items
+
 -- what holds of the subscriber at this place
 abbrev pub At : List Standing → ℕ → (Standing → Type 0) → Type 0
 At standings place P = MatchOption (slice_get standings place) ⊥ P

@@ -7,7 +7,8 @@
 //!
 //! An object may fail, and counts how often it did. Contracts above rest on this: after a delivery that is done each object
 //! was told exactly its recalls, once each; after one that a fault stopped, `StoppedAt` says what was told and what was not,
-//! and the count of just that object rose.
+//! and the count of just that object rose. What an object writes for those who read it grew by the lines of just these recalls,
+//! and after a fault by no more than a front of the next.
 #![tactic(auto)]
 
 mod laws;

@@ -3,6 +3,8 @@
 ghost use Rattle.std.specs.Prelude.{◌≡◌, ◌++◌, ◌∷◌, ◌↔◌, [], Some, OnOk, OnErr, IfOk, IsErr, IsTrue, option_map};
 ghost use Rattle.office_io.specs.Causes.{HasCause, counted};
 ghost use Rattle.notice_desk.specs.Memory.{new_notice, tell_fails};
+ghost use Rattle.std.specs.Io.KnownBytes.{Appends};
+ghost use Rattle.notice_desk.specs.Lines.{AppendsFront, recall_line, recall_lines};
 ghost use Rattle.notice_desk.specs.Notices.{told_more};
 
 use crate::notice::{Notice, Recall};
@@ -56,9 +58,15 @@ impl Notice for MemoryNotice {
 
     ghost faults = { λ s. s.faults };
 
+    ghost text = { λ s. Some (recall_lines s.told) };
+
     fn tell(&mut self, recall: &Recall) -> Result<(), Failed>
         ensures ok { OnOk result (Some self.new.told ≡ told_more (Some self.old.told) (recall.now ∷ [])) }
         ensures err { OnErr result (Some self.new.told ≡ Some self.old.told) }
+        ensures wrote { OnOk result
+            (Appends (Some (recall_lines self.old.told)) (Some (recall_lines self.new.told)) (recall_line recall.now)) }
+        ensures part { OnErr result
+            (AppendsFront (Some (recall_lines self.old.told)) (Some (recall_lines self.new.told)) (recall_line recall.now)) }
         ensures cause { HasCause self.old.faults self.new.faults result }
         ensures fails { IsErr result ↔ IsTrue (tell_fails self.old) }
         ensures calls { self.new.calls ≡ counted self.old.calls }

@@ -3,7 +3,9 @@
 ghost use Rattle.std.specs.Prelude.{◌≡◌, ◌∷◌, [], ℕ, List, Option, OnOk, OnErr, option_map};
 ghost use Rattle.office_io.specs.Causes.{HasCause};
 ghost use Rattle.notice_desk.specs.declared.notice.Recall.{Recall};
+ghost use Rattle.std.specs.Io.KnownBytes.{Appends};
 ghost use Rattle.notice_desk.specs.Notices.{is_for, told_more};
+ghost use Rattle.notice_desk.specs.Lines.{AppendsFront, recall_line};
 
 use names::Name;
 use office_io::Failed;
@@ -43,10 +45,16 @@ pub trait Notice: Drop {
     /// How often it has failed.
     ghost faults: { Self → ℕ };
 
-    /// Tells it one recall. After `Failed` the list told is as it was.
+    /// What it has written for those who read it, where the object tells that.
+    ghost text: { Self → Option (List ℕ) };
+
+    /// Tells it one recall, of which it writes the line. After `Failed` the list told is as it was, and a front of the line may
+    /// have been written.
     fn tell(&mut self, recall: &Recall) -> Result<(), Failed>
         ensures ok { OnOk result (list self.new ≡ told_more (list self.old) (recall.now ∷ [])) }
         ensures err { OnErr result (list self.new ≡ list self.old) }
+        ensures wrote { OnOk result (Appends (text self.old) (text self.new) (recall_line recall.now)) }
+        ensures part { OnErr result (AppendsFront (text self.old) (text self.new) (recall_line recall.now)) }
         ensures cause { HasCause (faults self.old) (faults self.new) result };
 
     /// The list told, or `None` exactly where the object tells none. Takes no memory.

@@ -4,7 +4,9 @@ ghost use Rattle.std.specs.Prelude.{true, ◌≡◌, ◌≤◌, ◌<◌, ◌++�
 ghost use Rattle.std.specs.List.{remove};
 ghost use Rattle.office_io.specs.Causes.{HasCause};
 ghost use Rattle.notice_desk.specs.Notices.{is_for, recalls_for, told_more};
-ghost use Rattle.notice_desk.specs.Standings.{AreWithin, At, fault_counts, new_standing, standing_of, standings};
+ghost use Rattle.std.specs.Io.KnownBytes.{Appends};
+ghost use Rattle.notice_desk.specs.Standings.{AreWithin, At, fault_counts, new_standing, standing_of, standings, texts};
+ghost use Rattle.notice_desk.specs.Lines.{AppendsFront, EachWrote, WroteUntil, WroteUntilAt, lines_for, recall_line, recall_lines};
 ghost use Rattle.notice_desk.specs.Deliveries.{Delivered, RoseAt, Stopped, StoppedAt, through};
 
 use crate::notice::{Notice, Recall, Whom};
@@ -42,7 +44,9 @@ pub struct Subscribers {
 impl Subscribers {
     /// No subscribers. Takes no memory; later calls take theirs from the allocator.
     pub fn new(alloc: Global) -> Subscribers
-        ensures { standings list result ≡ [] }
+        ensures nobody { standings list result ≡ [] }
+        ensures counts { fault_counts faults result ≡ [] }
+        ensures texts { texts text result ≡ [] }
     {
         Subscribers {
             list: Vec::new(alloc),
@@ -62,9 +66,11 @@ impl Subscribers {
             (standings list self.new ≡ standings list self.old ++ new_standing whom (list notice) ∷ []) }
         ensures count { OnOk result
             (fault_counts faults self.new ≡ fault_counts faults self.old ++ faults notice ∷ []) }
+        ensures text { OnOk result (texts text self.new ≡ texts text self.old ++ text notice ∷ []) }
         ensures returned { IfErr result (λ returned. returned.notice ≡ notice) }
         ensures same { OnErr result (standings list self.new ≡ standings list self.old) }
         ensures counts { OnErr result (fault_counts faults self.new ≡ fault_counts faults self.old) }
+        ensures texts { OnErr result (texts text self.new ≡ texts text self.old) }
     {
         let subscriber = Subscriber {
             whom,
@@ -110,6 +116,11 @@ impl Subscribers {
             (λ e. StoppedAt e.at (standings list self.old) recalls.now (standings list self.new)) }
         ensures fault { IfErr result
             (λ e. RoseAt e.at (fault_counts faults self.old) (fault_counts faults self.new)) }
+        ensures wrote { OnOk result
+            (EachWrote (standings list self.old) recalls.now (texts text self.old) (texts text self.new)) }
+        ensures part { IfErr result
+            (λ e. WroteUntilAt e.at (standings list self.old) recalls.now (standings list self.new)
+            (texts text self.old) (texts text self.new)) }
     {
         for at in 0..self.list.len() {
             if let Err(Failed) = serve(&mut self.list[at], recalls) {
@@ -124,6 +135,7 @@ impl Subscribers {
         requires { at < length (standings list self.old) }
         ensures gone { standings list self.new ≡ remove (standings list self.old) at }
         ensures counts { fault_counts faults self.new ≡ remove (fault_counts faults self.old) at }
+        ensures texts { texts text self.new ≡ remove (texts text self.old) at }
     {
         drop(self.list.remove(at));
     }
@@ -149,6 +161,10 @@ fn serve(subscriber: &mut Subscriber, recalls: &[Recall]) -> Result<(), Failed>
     ensures stopped { OnErr result
         (Stopped recalls.now (standing_of list subscriber.old) (standing_of list subscriber.new)) }
     ensures cause { HasCause (faults subscriber.old.notice) (faults subscriber.new.notice) result }
+    ensures wrote { OnOk result (Appends (text subscriber.old.notice) (text subscriber.new.notice)
+        (lines_for recalls.now (standing_of list subscriber.old))) }
+    ensures part { OnErr result (WroteUntil recalls.now (standing_of list subscriber.old) (standing_of list subscriber.new)
+        (text subscriber.old.notice) (text subscriber.new.notice)) }
 {
     let rest = &recalls[subscriber.passed..];
     for recall in rest {
@@ -165,6 +181,9 @@ fn tell_own(notice: &mut Box<dyn Notice>, whom: &Whom, recall: &Recall) -> Resul
     ensures same { OnErr result (list notice.new ≡ list notice.old) }
     ensures own { OnErr result (is_for whom.now recall.now ≡ true) }
     ensures cause { HasCause (faults notice.old) (faults notice.new) result }
+    ensures wrote { OnOk result
+        (Appends (text notice.old) (text notice.new) (recall_lines (recalls_for whom.now (recall.now ∷ [])))) }
+    ensures part { OnErr result (AppendsFront (text notice.old) (text notice.new) (recall_line recall.now)) }
 {
     if !whom.is_for(recall) {
         return Ok(());
