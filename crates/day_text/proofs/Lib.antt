@@ -5,3 +5,4 @@ pub mod Commanded
 pub mod EveryDay
 pub mod Counts
 pub mod Dealt
+pub mod Dealing
