@@ -1,7 +1,7 @@
 -- A command comes from an actor who is there, and an application is sound for the roads and the trucks so far.
-use Rattle.std.proofs.Common.{◌≡◌, ◌≢◌, ◌<◌, ◌==◌, ◌∷◌, [], List, ℕ, Bool, true, false, cond, Option, Some, None, Ok, All, length, option_map, option_and_then, refl, sym, subst, arith}
+use Rattle.std.proofs.Common.{◌≡◌, ◌≢◌, ◌<◌, ◌==◌, ◌+◌, ◌∷◌, ◌++◌, ◌∙◌, [], List, ℕ, Bool, true, false, cond, Option, Some, None, Ok, All, length, append_assoc, drop, get_or, option_map, option_and_then, refl, ap, sym, subst, arith}
 use Rattle.std.specs.Str.{bytes_eq}
-use Rattle.std.proofs.lemmas.List.{length-map}
+use Rattle.std.proofs.lemmas.List.{at_drop_more, length-map}
 use Rattle.std.proofs.lemmas.List.Elements.{All-cons, All-nil}
 use Rattle.std.proofs.lemmas.List.Quantifiers.{position-Some}
 use Rattle.permit_days.specs.Days.{is_before}
@@ -46,6 +46,20 @@ numbers_within known (name ∷ names) numbers e = by (number_named name known) r
     by (Some i) is (Some found) h e =
         let same : i ∷ found ≡ numbers = cc in
         subst (All (λ i. i < length known)) same (All-cons (λ i. i < length known) i found (named_within name known i is) (h found refl))
+
+-- the numbers of some names, once one name more is looked up
+pub one_number_more : (known route : List (List ℕ)) (front : List ℕ) (i n : ℕ) (name : List ℕ) → i < length route → name ≡ get_or route i name → Some n ≡ number_named name known
+    → option_map (λ more. front ++ more) (all_numbers known (drop i route)) ≡ all_numbers known route
+    → option_map (λ more. (front ++ n ∷ []) ++ more) (all_numbers known (drop (i + 1) route)) ≡ all_numbers known route
+one_number_more known route front i n name low here is so_far =
+    by (all_numbers known (drop (i + 1) route))
+    ∙ (ap (λ (found : Option ℕ). option_map (λ more. front ++ more) (option_and_then (λ j. option_map (λ numbers. j ∷ numbers) (all_numbers known (drop (i + 1) route))) found)) is
+    ∙ (ap (λ (next : List ℕ). option_map (λ more. front ++ more) (all_numbers known (next ∷ drop (i + 1) route))) here
+    ∙ (sym (ap (option_map (λ more. front ++ more)) (at_drop_more (all_numbers known) route i name low)) ∙ so_far)))
+  where
+    by : (rest : Option (List ℕ)) → option_map (λ more. (front ++ n ∷ []) ++ more) rest ≡ option_map (λ more. front ++ more) (option_map (λ numbers. n ∷ numbers) rest)
+    by None = refl
+    by (Some more) = ap (λ (l : List ℕ). Some l) (append_assoc front (n ∷ []) more)
 
 asked_there : (roads : Roads) (route : List ℕ) → All (λ i. i < length roads.segments) route → AreAskedThere roads (asked_of route)
 asked_there roads route h = by (length route == 0)
