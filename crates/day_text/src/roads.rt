@@ -49,7 +49,7 @@ fn add_node(network: &mut Network, row: &StringRecord) -> Result<(), RecordRefus
 }
 
 // Adds the segment of a record.
-#[tactic(auto, unfolding(crate::specs::Roads::segment_of), using(crate::proofs::Naming::named_is_there))]
+#[tactic(auto, unfolding(crate::specs::Roads::segment_of))]
 fn add_segment(network: &mut Network, row: &StringRecord) -> Result<(), RecordRefusal>
     ensures { Grows result network.new (segment_of network.old (fields_of row.now)) }
 {
@@ -114,7 +114,7 @@ fn set_limit(network: &mut Network, row: &StringRecord) -> Result<(), RecordRefu
 }
 
 // Adds the span of a record.
-#[tactic(auto, unfolding(crate::specs::Roads::span_of), using(crate::proofs::Naming::named_is_there))]
+#[tactic(auto, unfolding(crate::specs::Roads::span_of))]
 fn add_span(network: &mut Network, row: &StringRecord) -> Result<(), RecordRefusal>
     ensures { Grows result network.new (span_of network.old (fields_of row.now)) }
 {
