@@ -10,4 +10,6 @@ pub use Rattle.restriction_log.specs.States
 pub mod Loads
 pub mod Limits
 pub mod Failing
+pub mod Names
+pub mod Order
 pub mod Laws

@@ -18,7 +18,10 @@ mod met_limits;
 mod steps;
 
 pub use first_limit::first_failing;
-pub use laws::{limits_are_of_their_segment, named_limit_fails};
+pub use laws::{
+    limits_are_of_their_segment, named_limit_fails, named_limit_is_first,
+    none_is_named_where_none_fails,
+};
 pub use limit::Limit;
 pub use load::{Load, Range, is_cross_section, is_length};
 pub use met_limits::meets;

@@ -13,7 +13,7 @@ use Rattle.span_rating.specs.Carrying.{Carries, CarriesFrom}
 use Rattle.span_rating.specs.declared.loading.Effects.{Effects}
 use Rattle.span_rating.specs.declared.judgement.Fit.TheVariants.{Fits, Moment, Shear}
 
-within_from : (rating n d a b n' d' a' b' : ℕ) → n' * d ≡ n * d' → a' * b ≡ a * b' → 0 < d → 0 < b → 1000 * n * b ≤ rating * a * d → 1000 * n' * b' ≤ rating * a' * d'
+pub within_from : (rating n d a b n' d' a' b' : ℕ) → n' * d ≡ n * d' → a' * b ≡ a * b' → 0 < d → 0 < b → 1000 * n * b ≤ rating * a * d → 1000 * n' * b' ≤ rating * a' * d'
 within_from rating n d a b n' d' a' b' e f p q h =
     le_of_mul-le-mul_right {m = 1000 * n' * b'} {n = rating * a' * d'} {k = d * b} (omega (arith, mul-le-mul_left (d' * b') h, ap (λ t. 1000 * b' * b * t) e, ap (λ t. rating * d * d' * t) f)) (mul-pos p q)
 
