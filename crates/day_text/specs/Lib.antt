@@ -10,5 +10,6 @@ pub mod Fleets
 pub mod Kinds
 pub mod Commands
 pub mod Days
+pub mod Bounds
 pub mod Laws
 pub mod Scripts

@@ -17,6 +17,7 @@ mod day_file;
 mod draft;
 mod fleet;
 mod kind;
+mod laws;
 mod members;
 mod name_set;
 mod orders;
@@ -28,6 +29,7 @@ mod truck;
 
 pub use check_file::{CheckFile, Probe, Probes, read_check};
 pub use day_file::{DayFile, read_day};
+pub use laws::day_files_are_bounded;
 pub use orders::Order;
 pub use record_text::{Kind, RecordCause};
 pub use refusal::DayFileRefusal;
