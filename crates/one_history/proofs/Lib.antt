@@ -1,0 +1,5 @@
+mod Limiting
+mod Fitting
+mod Asking
+mod Keys
+pub mod ReadingBack

@@ -1,0 +1,18 @@
+// Laws of the journals of day files, each on a function without code.
+
+ghost use Rattle.one_history.specs.Laws.{DayHistoriesFit, DayJournalsHaveOneHistory, DayJournalsReadBack};
+
+/// A law, and no code: each number, day and fraction in a history of a day file is within what a journal may hold.
+pub fn day_histories_fit()
+    ensures { DayHistoriesFit }
+{}
+
+/// A law, and no code: the journal of such a history is read back as that history, unless there is no memory.
+pub fn day_journals_read_back()
+    ensures { DayJournalsReadBack }
+{}
+
+/// A law, and no code: a text is the journal of one history of a day file at most, whatever the day files are.
+pub fn day_journals_have_one_history()
+    ensures { DayJournalsHaveOneHistory }
+{}
