@@ -1,3 +1,4 @@
 pub mod Lines
 pub mod Only
 pub mod Ends
+pub mod ReadingBack

@@ -1,0 +1,23 @@
+-- What a journal says of its day: it is the journal of one history, and reading it back gives that history.
+use Rattle.std.specs.Prelude.{◌≡◌, ◌⊎◌, ℕ, List, Result, Ok, Err}
+use Rattle.office_words.specs.declared.entry.Entry.{Entry}
+use Rattle.journal_reader.specs.Fits.{FitsHistory}
+use Rattle.journal_reader.specs.Journals.{IsAnswer}
+use Rattle.journal_reader.specs.declared.refusal.JournalRefusal.{JournalRefusal}
+use Rattle.journal_reader.specs.declared.refusal.JournalRefusal.TheVariants.{NoMemory}
+use Rattle.permit_program.specs.Headline.{Headline}
+
+-- the history behind a journal that was written for a day file is one that a journal can be read as
+abbrev pub HeadlineFits : Type 0
+HeadlineFits = (bytes text : List ℕ) (h : Headline bytes text) → FitsHistory h.history
+
+-- what is read of that journal is that history, unless there is no memory
+abbrev pub HeadlineReadsBack : Type 0
+HeadlineReadsBack =
+    (bytes text : List ℕ) (h : Headline bytes text) (answer : Result (List Entry) JournalRefusal)
+    → IsAnswer text answer → (answer ≡ Ok h.history) ⊎ (answer ≡ Err NoMemory)
+
+-- one text is written for one history, whatever the day files are
+abbrev pub TextHasOneHistory : Type 0
+TextHasOneHistory =
+    (bytes other text : List ℕ) (h : Headline bytes text) (k : Headline other text) → h.history ≡ k.history
