@@ -2,8 +2,8 @@
 
 ghost use Rattle.day_text.specs.Bounds.{DayFilesAreBounded};
 
-/// A law, and no code: the roads and the trucks of every day file are within their bounds, its days are days of the
-/// calendar, and each of its commands is within bounds.
+/// A law, and no code: the roads and the trucks of every day file are within their bounds, and so is each of its commands. Its
+/// days are days of the calendar.
 pub fn day_files_are_bounded()
     ensures { DayFilesAreBounded }
 {}

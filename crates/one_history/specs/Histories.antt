@@ -7,7 +7,7 @@ use Rattle.office_core.specs.Machine.{IsLegal, entries_by}
 use Rattle.analyst_pool.specs.Unfolds.{AreFinished}
 
 -- the history is one of the day file that these bytes are: it is legal from an office that opens on the file's day, over its
--- roads and trucks; each actor's own entries are those of its finished commands; and nobody else has an entry in it
+-- roads and trucks. Each actor's own entries are those of its finished commands, and nobody else has an entry
 pub record IsOfDay (bytes : List ℕ) (history : List Entry) : Type 0 where
   pub file : DayParts
   pub read : day_of bytes ≡ Ok file
