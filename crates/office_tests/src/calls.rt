@@ -6,7 +6,7 @@ ghost use Rattle.office_core.specs.Machine.{MayAsk};
 ghost use Rattle.office_core.specs.Offices.{machine_in};
 ghost use Rattle.office_core.specs.Calls.{machine_seen};
 
-use crate::fixtures::{ALONE, AROUND, application, base, day, full_at, named, office};
+use crate::fixtures::{ALONE, AROUND, application, base, day, full_at, named, office_about};
 use clearance_rules::Steps;
 use journal_text::print;
 use notice_desk::Recall;
@@ -16,7 +16,6 @@ use restriction_log::Change;
 use std::alloc::Global;
 use std::marker::Brand;
 use std::process::Abort;
-use std::sync::Arc;
 use std::sync::ledger::{Blank, Ledger};
 use trip_analysis::{Application, analyse};
 
@@ -239,8 +238,24 @@ fn has_lines(rt: &impl Abort, alloc: Global, office: &Office, lines: &str, entri
     );
 }
 
-// The history takes so many entries. The calls of these lines make it, and those of the last lines find that it is full, and say
-// how many it holds.
+// The calls of these lines make the history, and those of the last lines find that it is full. The sums of what the replies to
+// both say that it holds.
+fn full_in(
+    rt: &impl Abort,
+    alloc: Global,
+    mut office: Office,
+    lines: &str,
+    last: &str,
+    by_seat: bool,
+) -> (u32, u32) {
+    let full = serve_each(rt, alloc, &mut office, lines, by_seat);
+    let full_then = serve_each(rt, alloc, &mut office, last, by_seat);
+    has_lines(rt, alloc, &office, lines, lines.lines().count());
+    drop(office);
+    (full, full_then)
+}
+
+// The same for an office about these segments with room for so many entries, once without and once with seats.
 fn check(
     rt: &impl Abort,
     alloc: Global,
@@ -250,15 +265,11 @@ fn check(
     lines: &str,
     last: &str,
 ) {
+    let wanted = last.lines().count().wrapping_mul(most as usize);
     for by_seat in [false, true] {
-        let base = Arc::new(alloc, base(rt, alloc, segments, height)).expect(rt, "memory");
-        let mut office = office(rt, alloc, base, most);
-        let full = serve_each(rt, alloc, &mut office, lines, by_seat);
-        let full_then = serve_each(rt, alloc, &mut office, last, by_seat);
-        has_lines(rt, alloc, &office, lines, lines.lines().count());
-        drop(office);
-        let wanted = (last.lines().count() as u32).wrapping_mul(most);
-        assert_eq!(rt; (full, full_then), (0, wanted));
+        let office = office_about(rt, alloc, base(rt, alloc, segments, height), most);
+        let (full, full_then) = full_in(rt, alloc, office, lines, last, by_seat);
+        assert!(rt; full == 0 && full_then as usize == wanted, "{last}");
     }
 }
 
@@ -300,15 +311,21 @@ fn lists_what_postings_recalled(rt: HostRuntime) {
 2 post segment 1 height 149 = posted 2 recalled 2
 ";
     let alloc = rt.alloc();
-    let base = Arc::new(alloc, base(&rt, alloc, ALONE, 168)).expect(&rt, "memory");
-    let mut office = office(&rt, alloc, base, 100);
+    let mut office = office_about(&rt, alloc, base(&rt, alloc, ALONE, 168), 100);
     let full = serve_each(&rt, alloc, &mut office, lines, false);
     has_lines(&rt, alloc, &office, lines, 4);
     let listed = recalls(alloc, office.base(), office.history());
     drop(office);
-    let wanted = [recall(&rt, 1, 1, b"ACME"), recall(&rt, 2, 2, b"BETA")];
-    assert_eq!(&rt; full, 0);
-    assert!(&rt; listed.expect(&rt, "memory").as_slice() == wanted.as_slice());
+    are_recalls(&rt, listed.expect(&rt, "memory"));
+    assert!(rt; full == 0);
+}
+
+// The first permit was recalled by the first posting, and the second by the second.
+fn are_recalls(rt: &impl Abort, listed: Vec<Recall>) {
+    let wanted = [recall(rt, 1, 1, b"ACME"), recall(rt, 2, 2, b"BETA")];
+    let are_wanted = listed.as_slice() == wanted.as_slice();
+    drop(listed);
+    assert!(rt; are_wanted);
 }
 
 fn recall(rt: &impl Abort, permit: u32, version: u32, carrier: &[u8]) -> Recall {

@@ -2,7 +2,7 @@ ghost use Rattle.office_core.specs.Machine.{MayAsk};
 ghost use Rattle.office_core.specs.Offices.{machine_in};
 
 use crate::calls::{answer, submission};
-use crate::fixtures::{application, base_of, office};
+use crate::fixtures::{application, base_of, office_about};
 use crate::many::{LONG_TRAIN, submit_copies};
 use clearance_rules::Limit;
 use office_core::Office;
@@ -10,7 +10,6 @@ use office_words::{Call, Cause, Reply};
 use restriction_log::Change;
 use std::alloc::Global;
 use std::process::Abort;
-use std::sync::Arc;
 use trip_analysis::Base;
 
 // Roads in one line: a segment from each node to the next, with some spans on each, for a truck of these axles.
@@ -58,8 +57,7 @@ fn base(rt: &impl Abort, alloc: Global, line: &Line) -> Base {
 
 // An office about these roads.
 fn start(rt: &impl Abort, alloc: Global, line: &Line, most: u32) -> Office {
-    let base = Arc::new(alloc, base(rt, alloc, line)).expect(rt, "memory");
-    office(rt, alloc, base, most)
+    office_about(rt, alloc, base(rt, alloc, line), most)
 }
 
 // What is found now for the trip from the first node to the last, as it is submitted.

@@ -66,6 +66,11 @@ pub fn office(rt: &impl Abort, alloc: Global, base: Arc<Base, Global>, most: u32
     Office::start(alloc, base, day(rt, "2026-03-02"), most).expect(rt, "memory")
 }
 
+// The same about a base that nobody else has.
+pub fn office_about(rt: &impl Abort, alloc: Global, base: Base, most: u32) -> Office {
+    office(rt, alloc, Arc::new(alloc, base).expect(rt, "memory"), most)
+}
+
 // The trip of a truck from the first node to another, without an asked route, from a day of March 2026 to the sixth.
 pub fn application(rt: &impl Abort, base: &Base, truck: u32, to: u32, first: &str) -> Application
     ensures { Sound base.now result }

@@ -4,14 +4,13 @@ ghost use Rattle.office_core.specs.Machine.{MayAsk};
 ghost use Rattle.office_core.specs.Offices.{machine_in};
 
 use crate::calls::{answer, submission};
-use crate::fixtures::{TWO_WAYS, base, base_of, day, office};
+use crate::fixtures::{TWO_WAYS, base, base_of, day, office_about};
 use office_core::Office;
 use office_words::{Call, Reply};
 use restriction_log::Change;
 use road_graph::Numbers;
 use std::alloc::Global;
 use std::process::Abort;
-use std::sync::Arc;
 use trip_analysis::{Application, Base, Proposal, What};
 
 // Days of many permits on two segments that lead from node 0 to node 1.
@@ -74,8 +73,7 @@ fn are_wanted(recalled: &[u32], but: u32) -> bool {
 // Permits 1 to 100 by the first segment and 101 to 200 by the second, of which one may be given back before the second is
 // closed. Who is recalled then is in the list, but for the one that was given back.
 fn close_second(rt: &impl Abort, alloc: Global, given_back: u32) {
-    let base = Arc::new(alloc, base(rt, alloc, TWO_WAYS, 168)).expect(rt, "memory");
-    let mut office = office(rt, alloc, base, 300);
+    let mut office = office_about(rt, alloc, base(rt, alloc, TWO_WAYS, 168), 300);
     for number in 1..=200u32 {
         let segment = if number <= 100 { 0 } else { 1 };
         let issued = is_issued(rt, alloc, &mut office, segment, number);
@@ -179,8 +177,7 @@ pub(crate) fn submit_copies(
 #[test]
 fn costs_what_changed_and_what_stands_there(rt: HostRuntime) {
     let alloc = rt.alloc();
-    let base = Arc::new(alloc, heavy(&rt, alloc)).expect(&rt, "memory");
-    let mut office = office(&rt, alloc, base, 50_100);
+    let mut office = office_about(&rt, alloc, heavy(&rt, alloc), 50_100);
     let trip = by_segment(&rt, alloc, office.base(), 0);
     let call = submission(&rt, alloc, &office, trip);
     submit_copies(&rt, alloc, &mut office, &call, 50_000);
