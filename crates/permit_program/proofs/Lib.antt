@@ -1,4 +1,3 @@
 pub mod Lines
 pub mod Only
 pub mod Ends
-pub mod ReadingBack

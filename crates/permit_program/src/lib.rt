@@ -6,13 +6,11 @@
 //! the text is that a day's run writes stands on one page, `specs/Headline.antt`.
 #![tactic(auto)]
 
-mod laws;
 mod notices;
 mod output;
 mod runs;
 mod task;
 
-pub use laws::{headlines_fit, headlines_read_back, texts_have_one_history};
 pub use notices::{LineNotice, add_listener};
 pub use output::OutputRefusal;
 pub use runs::{Alone, refuse_words, run, run_alone};

@@ -26,11 +26,11 @@ use Rattle.journal_reader.specs.Fits.{FitsChange, FitsIndex}
 use Rattle.journal_text.specs.Journals.{journal_of}
 use Rattle.journal_reader.proofs.Answers.{printed_is_read}
 use Rattle.journal_reader.proofs.Whole.{one_history}
-use Rattle.one_history.specs.Laws.{DayHistoriesFit, DayJournalsHaveOneHistory, DayJournalsReadBack}
-use Rattle.one_history.proofs.Asking.{Asks, FitsCommand, finished_ask}
-use Rattle.one_history.proofs.Keys.{all_by}
-use Rattle.one_history.proofs.Fitting.{fits_opened, history_fits}
-use Rattle.one_history.proofs.Limiting.{both, most}
+use Rattle.journal_laws.specs.Laws.{DayHistoriesFit, DayJournalsHaveOneHistory, DayJournalsReadBack}
+use Rattle.journal_laws.proofs.Asking.{Asks, FitsCommand, finished_ask}
+use Rattle.journal_laws.proofs.Keys.{all_by}
+use Rattle.journal_laws.proofs.Fitting.{fits_opened, history_fits}
+use Rattle.journal_laws.proofs.Limiting.{both, most}
 
 -- a change that the roads take may stand in a journal
 index : (roads : Roads) (i : ℕ) (b : Bool) → IsRoads roads → (nat_lt i (length roads.segments) && b) ≡ true → FitsIndex i × (b ≡ true)

@@ -3,3 +3,4 @@ mod Fitting
 mod Asking
 mod Keys
 pub mod ReadingBack
+pub mod Headlines

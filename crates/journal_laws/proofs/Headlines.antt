@@ -1,10 +1,10 @@
 -- The journal of a day file is the journal of one history, which is read back.
 use Rattle.std.proofs.Common.{List, ℕ, sym, subst, ◌∙◌}
 use Rattle.journal_reader.specs.Journals.{IsAnswer}
-use Rattle.one_history.specs.Histories.{IsOfDay}
-use Rattle.one_history.proofs.ReadingBack.{histories_fit, journals_have_one_history, journals_read_back}
+use Rattle.journal_laws.specs.Histories.{IsOfDay}
+use Rattle.journal_laws.proofs.ReadingBack.{histories_fit, journals_have_one_history, journals_read_back}
 use Rattle.permit_program.specs.Headline.{Headline}
-use Rattle.permit_program.specs.Laws.{HeadlineFits, HeadlineReadsBack, TextHasOneHistory}
+use Rattle.journal_laws.specs.Laws.{HeadlineFits, HeadlineReadsBack, TextHasOneHistory}
 
 of_day : (bytes text : List ℕ) (h : Headline bytes text) → IsOfDay bytes h.history
 of_day bytes text h = record { file = h.file; read = h.read; legal = h.legal; commands = h.commands; callers = h.callers }

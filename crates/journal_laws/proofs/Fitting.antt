@@ -45,7 +45,7 @@ use Rattle.office_core.proofs.Founds.{of_base}
 use Rattle.office_core.proofs.Goods.{good_after}
 use Rattle.office_core.proofs.Lasting.{numbers_of}
 use Rattle.journal_reader.specs.Fits.{FitsAsked, FitsCall, FitsChange, FitsDay, FitsEntry, FitsIndex, FitsIndices, FitsLimit, FitsNumber, FitsNumbers, FitsReply, FitsStatus, FitsWhat}
-use Rattle.one_history.proofs.Limiting.{limit_fits, state_ranged}
+use Rattle.journal_laws.proofs.Limiting.{limit_fits, state_ranged}
 
 -- what is known of a call by the command that it comes from
 abbrev pub IsAsked : Call → Type 0

@@ -13,7 +13,7 @@ use Rattle.office_core.specs.Replies.{is_full}
 use Rattle.analyst_pool.specs.Unfolds.{AreFinished, AreOutdated, Concludes, Ends, IsAttempt, IsCalled, IsDecided, IsLook, Unfolds, answered, concluded, full, full_between, held, lacks}
 use Rattle.analyst_pool.proofs.Growing.{by_test}
 use Rattle.journal_reader.specs.Fits.{FitsChange, FitsDay, FitsNumber}
-use Rattle.one_history.proofs.Fitting.{IsAsked}
+use Rattle.journal_laws.proofs.Fitting.{IsAsked}
 
 -- a command whose numbers and days may stand in a journal
 abbrev pub FitsCommand : Command → Type 0

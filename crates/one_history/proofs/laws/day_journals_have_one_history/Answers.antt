@@ -1,5 +1,0 @@
-use Rattle.one_history.proofs.ReadingBack.{journals_have_one_history}
-use Rattle.one_history.proofs.laws.day_journals_have_one_history.Goals as goal
-
-pub returns : goal.returns
-returns c = journals_have_one_history

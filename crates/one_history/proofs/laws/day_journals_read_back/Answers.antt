@@ -1,5 +1,0 @@
-use Rattle.one_history.proofs.ReadingBack.{journals_read_back}
-use Rattle.one_history.proofs.laws.day_journals_read_back.Goals as goal
-
-pub returns : goal.returns
-returns c = journals_read_back
