@@ -27,14 +27,14 @@ all_by P n (e ∷ es) callers each =
     behind false xs all = all
 
 -- where all entries are of caller 0, these are all
-lone_by : (es : List Entry) → All (λ e. e.caller < 1) es → entries_by 0 es ≡ es
+pub lone_by : (es : List Entry) → All (λ e. e.caller < 1) es → entries_by 0 es ≡ es
 lone_by [] callers = refl
 lone_by (e ∷ es) callers =
     let mine : e.caller ≡ 0 = omega (arith, All-head (λ (d : Entry). d.caller < 1) e es callers) in
     ap (λ b. cond b (e ∷ entries_by 0 es) (entries_by 0 es)) (eq-eqb e.caller 0 mine) ∙ ap (λ l. e ∷ l) (lone_by es (All-tail (λ (d : Entry). d.caller < 1) e es callers))
 
 -- where there is no caller there is no entry
-none_by : (es : List Entry) → All (λ e. e.caller < 0) es → es ≡ []
+pub none_by : (es : List Entry) → All (λ e. e.caller < 0) es → es ≡ []
 none_by [] callers = refl
 none_by (e ∷ es) callers = absurd (omega (arith, All-head (λ (d : Entry). d.caller < 0) e es callers))
 

@@ -1,5 +1,5 @@
 mod Lists
 mod Fresh
-mod Callers
+pub mod Callers
 mod Scripts
 mod Histories

@@ -6,8 +6,9 @@ use Rattle.std.specs.Io.KnownBytes.{Appends, Consumes, IsAtEnd}
 use Rattle.std.proofs.lemmas.List.{append-nil, length-append}
 use Rattle.office_io.specs.Causes.{TookAtMost, TookExactly}
 use Rattle.notice_desk.specs.Deliveries.{Delivered, RoseAt, StoppedAt}
+use Rattle.notice_desk.specs.Lines.{EachWrote, WroteUntilAt}
 use Rattle.notice_desk.specs.declared.notice.Recall.{Recall}
-use Rattle.permit_program.specs.Outputs.{IsDayOf, IsOutputOf, refusal_by}
+use Rattle.permit_program.specs.Outputs.{IsDayOf, IsOnlyOutputOf, IsOutputOf, refusal_by}
 use Rattle.permit_program.specs.Runs.{DeskAt, IsMade, IsRun, IsSettled, Outside, Told, Took, TookAll, WroteLine, bytes_line, most_bytes, reads, status_for}
 use Rattle.permit_program.specs.declared.task.Task.{Task}
 use Rattle.permit_program.specs.declared.task.Task.TheVariants.{Check, Day, Make, Trial}
@@ -108,6 +109,7 @@ made_run task before after status r source desk most m = record {
     text = m.text;
     took = made_took task before after r source;
     output = output;
+    only = m.only (λ is7. omega (arith, is, is7));
     wrote = (m.wrote is).0;
     told = made_told task m.text output before.desk after.desk r desk;
   };
@@ -144,17 +146,22 @@ all_left None bytes P took = tt
 all_left (Some all) bytes P took = took.0
 
 -- a day whose journal was written, and all were told of its recalls
-pub ends_told : {S K : Type 0} (before after : Outside S K) (bytes text : List ℕ) (recalls : List Recall) → TookAll before.source after.source bytes → IsDayOf bytes text recalls → Appends before.sink.held after.sink.held text
-    → Delivered before.desk.standings recalls after.desk.standings → after.desk.faults ≡ before.desk.faults → length bytes ≤ most_bytes → refusal_by Day bytes ≡ None
+pub ends_told : {S K : Type 0} (before after : Outside S K) (bytes text : List ℕ) (recalls : List Recall) → TookAll before.source after.source bytes → IsDayOf bytes text recalls → IsOnlyOutputOf Day bytes text → Appends before.sink.held after.sink.held text
+    → Delivered before.desk.standings recalls after.desk.standings → after.desk.faults ≡ before.desk.faults → EachWrote before.desk.standings recalls before.desk.texts after.desk.texts → length bytes ≤ most_bytes → refusal_by Day bytes ≡ None
     → after.source.faults ≡ before.source.faults → after.sink.faults ≡ before.sink.faults → TookAtMost (most_bytes + 1) before.source.left after.source.left → IsRun (Some Day) before after 0
-ends_told before after bytes text recalls took day wrote delivered stands few taken calm calm_sink most = record {
+ends_told before after bytes text recalls took day only wrote delivered stands lines few taken calm calm_sink most = record {
   done = λ is. record {
     bytes = bytes;
     text = text;
     took = took;
     output = day.headline;
+    only = only;
     wrote = wrote;
-    told = (subst (λ (rs : List Recall). Delivered before.desk.standings rs after.desk.standings) day.recalled delivered, stands);
+    told = (
+      subst (λ (rs : List Recall). Delivered before.desk.standings rs after.desk.standings) day.recalled delivered,
+      stands,
+      subst (λ (rs : List Recall). EachWrote before.desk.standings rs before.desk.texts after.desk.texts) day.recalled lines,
+    );
   };
   usage = λ is. absurd (omega (arith, is));
   unasked = λ none. absurd cc;
@@ -179,9 +186,9 @@ ends_told before after bytes text recalls took day wrote delivered stands few ta
 
 -- a day whose journal was written, and an object that was to be told of a recall failed
 pub ends_untold : {S K : Type 0} (before after : Outside S K) (bytes text : List ℕ) (recalls : List Recall) (place : ℕ) → TookAll before.source after.source bytes → IsDayOf bytes text recalls → Appends before.sink.held after.sink.held text
-    → StoppedAt place before.desk.standings recalls after.desk.standings → RoseAt place before.desk.faults after.desk.faults → length bytes ≤ most_bytes → refusal_by Day bytes ≡ None
+    → StoppedAt place before.desk.standings recalls after.desk.standings → RoseAt place before.desk.faults after.desk.faults → WroteUntilAt place before.desk.standings recalls after.desk.standings before.desk.texts after.desk.texts → length bytes ≤ most_bytes → refusal_by Day bytes ≡ None
     → after.source.faults ≡ before.source.faults → after.sink.faults ≡ before.sink.faults → TookAtMost (most_bytes + 1) before.source.left after.source.left → IsRun (Some Day) before after 8
-ends_untold before after bytes text recalls place took day wrote stopped rose few taken calm calm_sink most = record {
+ends_untold before after bytes text recalls place took day wrote stopped rose part few taken calm calm_sink most = record {
   done = λ is. absurd (omega (arith, is));
   usage = λ is. absurd (omega (arith, is));
   unasked = λ none. absurd cc;
@@ -205,6 +212,7 @@ ends_untold before after bytes text recalls place took day wrote stopped rose fe
     place = place;
     stopped = subst (λ (rs : List Recall). StoppedAt place before.desk.standings rs after.desk.standings) day.recalled stopped;
     rose = rose;
+    part = subst (λ (rs : List Recall). WroteUntilAt place before.desk.standings rs after.desk.standings before.desk.texts after.desk.texts) day.recalled part;
   };
   unheard = λ a no. absurd (no refl);
   untouched = λ is. absurd (omega (arith, is));

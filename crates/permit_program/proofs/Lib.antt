@@ -1,3 +1,5 @@
 pub mod Lines
 pub mod Only
 pub mod Ends
+pub mod Heard
+pub mod Serial

@@ -3,7 +3,8 @@ use Rattle.std.specs.Prelude.{◌≡◌, ◌≢◌, ◌⊎◌, ℕ, ◌+◌, ◌
 use Rattle.std.specs.Io.KnownBytes.{Appends}
 use Rattle.office_io.specs.Causes.{Rose, TookAtMost}
 use Rattle.notice_desk.specs.Deliveries.{Delivered, RoseAt, StoppedAt}
-use Rattle.notice_desk.specs.Standings.{Standing, fault_counts, standings}
+use Rattle.notice_desk.specs.Standings.{Standing, fault_counts, standings, texts}
+use Rattle.notice_desk.specs.Lines.{EachWrote, WroteUntilAt}
 use Rattle.notice_desk.specs.declared.notice.Recall.{Recall}
 use Rattle.notice_desk.specs.declared.subscribers.Subscribers.{Subscribers}
 use Rattle.std.specs.declared.alloc.Global.{Global}
@@ -12,7 +13,7 @@ use Rattle.office_core.specs.RecallLists.{recalls_in}
 use Rattle.permit_program.specs.Headline.{Headline}
 use Rattle.record_text.specs.declared.refusal.Cause.{Cause}
 use Rattle.refusal_text.specs.Lines.{refusal_line_of, status_of}
-use Rattle.permit_program.specs.Outputs.{IsOutputOf, refusal_by}
+use Rattle.permit_program.specs.Outputs.{IsOnlyOutputOf, IsOutputOf, refusal_by}
 use Rattle.permit_program.specs.declared.runs.Alone.{Alone}
 use Rattle.permit_program.specs.declared.runs.Alone.TheVariants as alone
 use Rattle.permit_program.specs.declared.task.Task.{Task}
@@ -42,10 +43,12 @@ pub record SinkAt (K : Type 0) : Type 0 where
   pub held : Option (List ℕ)
   pub faults : ℕ
 
--- the notice desk at some time: how those stand who are told of recalls, and how often the object of each has failed
+-- the notice desk at some time: how those stand who are told of recalls, how often the object of each has failed, and what it
+-- wrote for those who read it, where it tells that
 pub record DeskAt : Type 0 where
   pub standings : List Standing
   pub faults : List ℕ
+  pub texts : List (Option (List ℕ))
 
 -- what a run meets outside: where bytes come from, where they go, and who is told of recalls
 pub record Outside (S K : Type 0) : Type 0 where
@@ -64,12 +67,13 @@ outside_of left source_faults held sink_faults source sink desk = record {
   desk = desk;
 }
 
--- the notice desk of these subscribers, whose objects tell these lists and count these faults
+-- the notice desk of these subscribers, whose objects tell these lists, count these faults and wrote these texts
 abbrev pub desk_at : {X : Type 0} {Y : X → Type 0} → (DynBox X Global Y → Option (List Recall))
-    → (DynBox X Global Y → ℕ) → Subscribers X Y → DeskAt
-desk_at told faults subscribers = record {
+    → (DynBox X Global Y → ℕ) → (DynBox X Global Y → Option (List ℕ)) → Subscribers X Y → DeskAt
+desk_at told faults text subscribers = record {
   standings = standings told subscribers;
   faults = fault_counts faults subscribers;
+  texts = texts text subscribers;
 }
 
 -- the source failed meanwhile, the sink did, and the object of one who is told of recalls did
@@ -100,22 +104,25 @@ Took Day before after bytes = TookAll before after bytes
 Took (Make seed size) before after bytes = (bytes ≡ []) × (after ≡ before)
 Took (Trial seed size) before after bytes = (bytes ≡ []) × (after ≡ before)
 
--- who was told what where a task is done: each recall of a day's history, by whom it is for, in order and once; else nothing
+-- who was told what where a task is done: each recall of a day's history, by whom it is for, in order and once, and the text
+-- of each grew by the lines of just these; else nothing
 abbrev pub Told : (task : Task) (bytes text : List ℕ) → IsOutputOf task bytes text → DeskAt → DeskAt → Type 0
 Told Check bytes text output before after = after ≡ before
 Told Day bytes text headline before after =
     Delivered before.standings (recalls_in headline.file.base headline.history) after.standings
     × (after.faults ≡ before.faults)
+    × EachWrote before.standings (recalls_in headline.file.base headline.history) before.texts after.texts
 Told (Make seed size) bytes text output before after = after ≡ before
 Told (Trial seed size) bytes text output before after = after ≡ before
 
--- Status 0: some bytes were taken, all that the task reads; what it writes for them was appended; and all were told of the
--- recalls.
+-- Status 0: some bytes were taken, all that the task reads; what it writes for them was appended, and no other text may come
+-- where the promise leaves no choice; and all were told of the recalls.
 pub record WroteAll {S K : Type 0} (task : Task) (before after : Outside S K) : Type 0 where
   pub bytes : List ℕ
   pub text : List ℕ
   pub took : Took task before.source after.source bytes
   pub output : IsOutputOf task bytes text
+  pub only : IsOnlyOutputOf task bytes text
   pub wrote : Appends before.sink.held after.sink.held text
   pub told : Told task bytes text output before.desk after.desk
 
@@ -129,7 +136,8 @@ pub record WroteFront {S K : Type 0} (task : Task) (before after : Outside S K) 
   pub wrote : Appends before.sink.held after.sink.held (take count text)
 
 -- Status 8: the whole journal of a day was appended. Then the recalls of its history were told up to one at which an object
--- failed: those before its subscriber were told all, those after it none, and its subscriber what came before that recall.
+-- failed: those before its subscriber were told all, those after it none, and its subscriber what came before that recall. Each
+-- text grew by the lines of just these, and that of the object which failed by a front of the next line too.
 pub record WroteUntold {S K : Type 0} (before after : Outside S K) : Type 0 where
   pub bytes : List ℕ
   pub text : List ℕ
@@ -139,6 +147,8 @@ pub record WroteUntold {S K : Type 0} (before after : Outside S K) : Type 0 wher
   pub place : ℕ
   pub stopped : StoppedAt place before.desk.standings (recalls_in headline.file.base headline.history) after.desk.standings
   pub rose : RoseAt place before.desk.faults after.desk.faults
+  pub part : WroteUntilAt place before.desk.standings (recalls_in headline.file.base headline.history) after.desk.standings
+      before.desk.texts after.desk.texts
 
 -- A line was appended, whole where the sink did not fail, and else a front of it.
 pub record WroteLine {K : Type 0} (line : List ℕ) (before after : SinkAt K) : Type 0 where
@@ -222,6 +232,7 @@ pub record IsRun {S K : Type 0} (asked : Option Task) (before after : Outside S 
 pub record IsMade {K : Type 0} (task : Task) (before after : SinkAt K) (status : ℕ) : Type 0 where
   pub text : List ℕ
   pub output : status ≢ 7 → IsOutputOf task [] text
+  pub only : status ≢ 7 → IsOnlyOutputOf task [] text
   pub wrote : status ≡ 0 → Appends before.held after.held text × (after.faults ≡ before.faults)
   pub front : status ≡ 4 → ((count : ℕ) × Appends before.held after.held (take count text)) × SinkFailed before after
   pub kept : status ≡ 7 → after ≡ before

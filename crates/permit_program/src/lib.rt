@@ -6,11 +6,13 @@
 //! the text is that a day's run writes stands on one page, `specs/Headline.antt`.
 #![tactic(auto)]
 
+mod laws;
 mod notices;
 mod output;
 mod runs;
 mod task;
 
+pub use laws::{lone_days_are_serial, standard_error_has_a_line_for_each_recall};
 pub use notices::{LineNotice, add_listener};
 pub use output::OutputRefusal;
 pub use runs::{Alone, refuse_words, run, run_alone};

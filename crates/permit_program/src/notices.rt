@@ -1,12 +1,21 @@
 // Who hears of a recall where nobody else is named: whoever reads standard error.
 
-ghost use Rattle.notice_desk.specs.Standings.{AreNew, standings};
+ghost use Rattle.std.specs.Prelude.{◌≡◌, ◌++◌, ◌∷◌, []};
+ghost use Rattle.std.specs.Bool.{OnTrue, OnFalse};
+ghost use Rattle.notice_desk.specs.Lines.{recall_line};
+ghost use Rattle.notice_desk.specs.Standings.{AreNew, fault_counts, new_standing, standings, texts};
+ghost use Rattle.notice_desk.specs.declared.notice.Whom.TheVariants as whom;
 
+use arrayvec::ArrayString;
 use itoa::Buffer;
 use notice_desk::{Notice, Recall, Subscribers, Whom};
-use office_io::{Failed, Sink, WriteFault, write_all};
+use office_io::{Failed, Sink, write_all};
 
-/// Tells each recall as a line `recall PERMIT VERSION` to a sink, and tells no list. It counts the calls that fail.
+// The longest line has 29 bytes: both numbers of ten digits.
+const LINE: usize = 32;
+
+/// Tells each recall as a line `recall PERMIT VERSION` to a sink, by one write where the sink takes it whole, and tells no list.
+/// Its text is what the sink holds. It counts the calls that fail.
 #[derive(Drop)]
 pub struct LineNotice<K> {
     sink: K,
@@ -15,8 +24,17 @@ pub struct LineNotice<K> {
 
 impl<K: Sink + Drop> LineNotice<K> {
     /// An object that writes to the sink.
-    pub fn new(sink: K) -> LineNotice<K> {
+    pub fn new(sink: K) -> LineNotice<K>
+        ensures { result ≡ record { sink = sink; faults = 0 } }
+    {
         LineNotice { sink, faults: 0 }
+    }
+
+    /// The sink that it writes to.
+    pub fn sink(&self) -> &K
+        ensures { result.now ≡ self.now.sink }
+    {
+        &self.sink
     }
 }
 
@@ -27,8 +45,11 @@ impl<K: Sink + Drop> Notice for LineNotice<K> {
 
     ghost faults = { λ n. n.faults };
 
+    ghost text = { λ n. K.held n.sink };
+
     fn tell(&mut self, recall: &Recall) -> Result<(), Failed> {
-        match write_line(&mut self.sink, recall) {
+        let line = line_of(recall);
+        match write_all(&mut self.sink, line.as_str().as_bytes()) {
             Ok(()) => Ok(()),
             Err(_) => {
                 self.faults = self.faults.saturating_add(1);
@@ -46,18 +67,28 @@ impl<K: Sink + Drop> Notice for LineNotice<K> {
 #[tactic(auto, using(notice_desk::proofs::Ready::added_new))]
 pub fn add_listener(notices: &mut Subscribers, notice: Box<dyn Notice>) -> bool
     requires { AreNew (standings list notices.old) }
-    ensures { AreNew (standings list notices.new) }
+    ensures new { AreNew (standings list notices.new) }
+    ensures added { OnTrue result (standings list notices.new ≡ standings list notices.old ++ new_standing whom.All (list notice) ∷ []) }
+    ensures count { OnTrue result (fault_counts faults notices.new ≡ fault_counts faults notices.old ++ faults notice ∷ []) }
+    ensures text { OnTrue result (texts text notices.new ≡ texts text notices.old ++ text notice ∷ []) }
+    ensures same { OnFalse result (standings list notices.new ≡ standings list notices.old) }
+    ensures counts { OnFalse result (fault_counts faults notices.new ≡ fault_counts faults notices.old) }
+    ensures texts { OnFalse result (texts text notices.new ≡ texts text notices.old) }
 {
     notices.add(Whom::All, notice).is_ok()
 }
 
-// Writes the line of a recall.
-fn write_line<K: Sink>(sink: &mut K, recall: &Recall) -> Result<(), WriteFault> {
-    let mut permit = Buffer::new();
-    let mut version = Buffer::new();
-    write_all(sink, b"recall ")?;
-    write_all(sink, permit.format(recall.permit).as_bytes())?;
-    write_all(sink, b" ")?;
-    write_all(sink, version.format(recall.version).as_bytes())?;
-    write_all(sink, b"\n")
+// The line of a recall.
+#[tactic(auto, using(day_trial::proofs::Lines::line_adds), unfolding(notice_desk::specs::Lines::recall_line))]
+fn line_of(recall: &Recall) -> ArrayString<LINE>
+    ensures { result.bytes ≡ recall_line recall.now }
+{
+    let mut number = Buffer::new();
+    let mut line = ArrayString::new();
+    line.push_str("recall ");
+    line.push_str(number.format(recall.permit));
+    line.push_str(" ");
+    line.push_str(number.format(recall.version));
+    line.push_str("\n");
+    line
 }

@@ -112,7 +112,8 @@ pub fn day<R: Threads + Wait + AllocGlobal + Sync, G: Gate + Sync>(
 pub fn make(alloc: Global, seed: u32, size: u32) -> Result<Vec<u8>, NoMemory>
     requires seed { seed ≤ 65535 }
     requires size { (1 ≤ size) × (size ≤ 40) }
-    ensures { IfOk result (λ text. IsOutputOf (task.Make seed size) [] text.items) }
+    ensures promise { IfOk result (λ text. IsOutputOf (task.Make seed size) [] text.items) }
+    ensures only { IfOk result (λ text. IsOnlyOutputOf (task.Make seed size) [] text.items) }
 {
     make_day(alloc, seed, size)
 }

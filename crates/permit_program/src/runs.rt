@@ -70,7 +70,8 @@ pub fn run<R: Threads + Wait + AllocGlobal + Sync, S: Source, K: Sink, G: Gate +
     requires { AreNew (standings (λ n. (⟦<dyn Notice as Notice>⟧ n.vtable).list n.value) notices.old) }
     ensures { let outside = outside_of S.left S.faults K.held K.faults in
         let desk = desk_at (λ n. (⟦<dyn Notice as Notice>⟧ n.vtable).list n.value)
-        (λ n. (⟦<dyn Notice as Notice>⟧ n.vtable).faults n.value) in
+        (λ n. (⟦<dyn Notice as Notice>⟧ n.vtable).faults n.value)
+        (λ n. (⟦<dyn Notice as Notice>⟧ n.vtable).text n.value) in
         let asked = task_of (map string_bytes words.now) in
         IsRun asked (outside source.old sink.old (desk notices.old)) (outside source.new sink.new (desk notices.new)) result }
 {
@@ -139,7 +140,8 @@ fn perform_day<R: Threads + Wait + AllocGlobal + Sync, S: Source, K: Sink, G: Ga
     requires { AreNew (standings (λ n. (⟦<dyn Notice as Notice>⟧ n.vtable).list n.value) notices.old) }
     ensures { let outside = outside_of S.left S.faults K.held K.faults in
         let desk = desk_at (λ n. (⟦<dyn Notice as Notice>⟧ n.vtable).list n.value)
-        (λ n. (⟦<dyn Notice as Notice>⟧ n.vtable).faults n.value) in
+        (λ n. (⟦<dyn Notice as Notice>⟧ n.vtable).faults n.value)
+        (λ n. (⟦<dyn Notice as Notice>⟧ n.vtable).text n.value) in
         IsRun (Some task.Day) (outside source.old sink.old (desk notices.old))
         (outside source.new sink.new (desk notices.new)) result }
 {

@@ -6,12 +6,12 @@ use Rattle.permit_program.proofs.runs.run.Goals as goal
 
 pub returns-in-Status : goal.returns-in-Status
 returns-in-Status g c =
-    let desk_now = desk_at (λ n. (g.dyn-1.0.entry n.vtable).1.list n.value) (λ n. (g.dyn-1.0.entry n.vtable).1.faults n.value) in
+    let desk_now = desk_at (λ n. (g.dyn-1.0.entry n.vtable).1.list n.value) (λ n. (g.dyn-1.0.entry n.vtable).1.faults n.value) (λ n. (g.dyn-1.0.entry n.vtable).1.text n.value) in
     (c.in-Status.ensures (desk_now c.args.notices.now)).1
 
 pub returns-in-Day : goal.returns-in-Day
 returns-in-Day g c =
-    let desk_now = desk_at (λ n. (g.dyn-1.0.entry n.vtable).1.list n.value) (λ n. (g.dyn-1.0.entry n.vtable).1.faults n.value) in
+    let desk_now = desk_at (λ n. (g.dyn-1.0.entry n.vtable).1.list n.value) (λ n. (g.dyn-1.0.entry n.vtable).1.faults n.value) (λ n. (g.dyn-1.0.entry n.vtable).1.text n.value) in
     let outside = outside_of g.S.Source.left g.S.Source.faults g.K.Sink.held g.K.Sink.faults in
     let alone = c.in-Day.ensures (desk_now c.args.notices.now) in
     let after = outside c.perform_day.new.source c.perform_day.new.sink (desk_now c.perform_day.new.notices) in

@@ -1,0 +1,40 @@
+-- What one listener has heard of a day.
+use Rattle.std.proofs.Common.{◌≡◌, ◌∙◌, ℕ, List, [], ◌∷◌, ◌++◌, Option, Some, None, refl, ap, subst}
+use Rattle.notice_desk.specs.Lines.{EachWrote, Texts, recall_lines}
+use Rattle.notice_desk.specs.Notices.{recalls_for}
+use Rattle.notice_desk.specs.Standings.{Standing, new_standing}
+use Rattle.notice_desk.specs.declared.notice.Recall.{Recall}
+use Rattle.notice_desk.specs.declared.notice.Whom.TheVariants as whom
+use Rattle.office_core.specs.RecallLists.{recalls_in}
+use Rattle.permit_program.specs.Laws.{HasListener, HeardAll, ListenersHearAll}
+use Rattle.permit_program.specs.Runs.{WroteAll}
+use Rattle.permit_program.specs.declared.task.Task.TheVariants.{Day}
+
+-- all recalls are for one who is told of all
+all_for : (recalls : List Recall) → recalls_for whom.All recalls ≡ recalls
+all_for [] = refl
+all_for (recall ∷ recalls) = ap (λ l. recall ∷ l) (all_for recalls)
+
+-- the text of one listener, and no other
+one_wrote : (told : Option (List Recall)) (recalls : List Recall) (text : List ℕ) (now : Texts)
+    → EachWrote (new_standing whom.All told ∷ []) recalls (Some text ∷ []) now → now ≡ Some (text ++ recall_lines recalls) ∷ []
+one_wrote told recalls text [] wrote = absurd wrote
+one_wrote told recalls text (None ∷ now) (wrote, rest) = absurd wrote
+one_wrote told recalls text (Some new ∷ now) (wrote, rest) =
+    ap (λ l. Some new ∷ l) rest ∙ ap (λ l. Some l ∷ []) (wrote ∙ ap (λ rs. text ++ recall_lines rs) (all_for recalls))
+
+pub heard_all : {S K : Type 0} → ListenersHearAll S K
+heard_all text before after listener run =
+    let done : WroteAll Day before after = run.done refl in
+    let recalls = recalls_in done.output.file.base done.output.history in
+    let wrote : EachWrote (new_standing whom.All listener.told ∷ []) recalls (Some text ∷ []) after.desk.texts =
+    subst (λ (texts : Texts). EachWrote (new_standing whom.All listener.told ∷ []) recalls texts after.desk.texts) listener.wrote
+    (subst (λ (ss : List Standing). EachWrote ss recalls before.desk.texts after.desk.texts) listener.standing done.told.2) in
+    record {
+      bytes = done.bytes;
+      journal = done.text;
+      took = done.took;
+      headline = done.output;
+      wrote = done.wrote;
+      lines = one_wrote listener.told recalls text after.desk.texts wrote;
+    }

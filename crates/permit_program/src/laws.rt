@@ -1,0 +1,15 @@
+// Laws of a day's run.
+
+ghost use Rattle.permit_program.specs.Laws.{ListenersHearAll, LoneDaysAreSerial};
+
+/// A run of `day` that ends with 0 leaves a line for each recall: behind the text of a listener who is told of all, and nothing
+/// but these, in the order of the written history. So it is of standard error, where that tells what it holds.
+pub fn standard_error_has_a_line_for_each_recall<S, K>()
+    ensures { ListenersHearAll S K }
+{}
+
+/// The history behind the journal of a day of at most one actor is the serial one: the file's commands, carried out one after
+/// another on one thread.
+pub fn lone_days_are_serial()
+    ensures { LoneDaysAreSerial }
+{}
