@@ -3,6 +3,34 @@
 /// Which of these days is the one with two loads, of which a posting recalls one.
 pub(crate) const RECALLING: usize = 2;
 
+/// A day of two postings, of which each recalls a permit, the later one first. Its journal is that of the file
+/// `two-recalls.csv` among the examples.
+pub(crate) const TWO_RECALLS: (&str, &str) = (
+    "\
+     day,2026-03-02,,,,,,\n\
+     node,A,,,,,,\n\
+     node,B,,,,,,\n\
+     segment,S1,A,B,5000,,,\n\
+     limit,S1,height,168,,,,\n\
+     truck,T1,BOLT,150,110,720,0:12000 180:17000 228:17000,\n\
+     truck,T2,ACME,168,102,720,0:12000 180:17000 228:17000,\n\
+     actor,ann,,,,,,\n\
+     apply,ann,T1,A,B,,2026-03-02,2026-03-06\n\
+     apply,ann,T2,A,B,,2026-03-02,2026-03-06\n\
+     post,ann,S1,height,167,,,\n\
+     post,ann,S1,height,149,,,\n\
+     end,,,,,,,\n",
+    "\
+     permit-journal 1\n\
+     1 snapshot = at 0\n\
+     1 submit truck 1 from 1 to 2 asked none days 2026-03-02 2026-03-06 seen 0 route 1 = issued 1 at 0 route 1\n\
+     1 snapshot = at 0\n\
+     1 submit truck 2 from 1 to 2 asked none days 2026-03-02 2026-03-06 seen 0 route 1 = issued 2 at 0 route 1\n\
+     1 post segment 1 height 167 = posted 1 recalled 2\n\
+     1 post segment 1 height 149 = posted 2 recalled 1\n\
+     end 6\n",
+);
+
 /// A day file, and the journal that `day` writes for it.
 pub(crate) const DAYS: [(&str, &str); 10] = [
     // One road posted at 168 in, and a load as high as that.

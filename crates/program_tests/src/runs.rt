@@ -1,10 +1,10 @@
 // Runs over sources and sinks in memory: whole outputs, refusals, faults in turn, and who is told of recalls.
 
-use crate::days::{DAYS, MEETING, NO_LEAP_DAY, RECALLING};
+use crate::days::{DAYS, MEETING, NO_LEAP_DAY, RECALLING, TWO_RECALLS};
 use analyst_pool::{Gate, OpenGate};
-use notice_desk::{MemoryNotice, Recall, Subscribers};
+use notice_desk::{MemoryNotice, Notice, Recall, Subscribers};
 use office_io::{MemorySink, MemorySource};
-use permit_program::{Alone, add_listener, run, run_alone};
+use permit_program::{Alone, LineNotice, add_listener, run, run_alone};
 use std::alloc::Global;
 use std::process::Abort;
 use std::sync::Wait;
@@ -263,6 +263,36 @@ fn ends_with_8_where_nobody_hears(rt: HostRuntime) {
     let (ran, heard) = hear(&rt, input, &[1]);
     same(&rt, &ran, 8, output);
     assert!(rt; heard.is_empty());
+}
+
+// Tells an object that writes lines each recall of a day, up to the first that fails, and gives what the sink then holds.
+fn lines_of(rt: &impl Abort, alloc: Global, heard: &[Recall], writes: &[u32]) -> Vec<u8> {
+    let mut lines = LineNotice::new(sink_of(rt, alloc, writes));
+    for recall in heard {
+        if lines.tell(recall).is_err() {
+            break;
+        }
+    }
+    bytes_of(rt, alloc, lines.sink())
+}
+
+// Which write fails, where 0 is none, and the lines of a day that recalls permit 2 by posting 1, and then permit 1 by posting
+// 2. Each line is one write: none stands in half.
+const LINES: [(u32, &str); 3] = [
+    (0, "recall 2 1\nrecall 1 2\n"),
+    (1, ""),
+    (2, "recall 2 1\n"),
+];
+
+#[test]
+fn writes_a_line_for_each_recall(rt: HostRuntime) {
+    let (input, output) = TWO_RECALLS;
+    let (ran, heard) = hear(&rt, input, &[]);
+    same(&rt, &ran, 0, output);
+    for (write, text) in LINES {
+        let lines = lines_of(&rt, rt.alloc(), &heard, &[write]);
+        assert!(rt; lines.as_slice() == text.as_bytes(), "write {write}");
+    }
 }
 
 // The call that needs no threads leaves a day to the one that does, and touches nothing.
