@@ -234,9 +234,10 @@ def many_recalls(permits: int = 4000, length: int = 1000) -> bytes:
 
 
 def shut_goal(count: int = COMMANDS) -> bytes:
-    """So many applications for a trip to a node that only closed segments reach, in a grid of all nodes that there may be."""
+    """So many trips to a node that only closed segments reach, in a grid of as many nodes as there may be."""
     goal = SIDE * SIDE - 1
-    rows = grid(SIDE, Random(1)) + [record("limit", f"s{near}-{goal}", "closed", 1) for near in (goal - 1, goal - SIDE)]
+    rows = grid(SIDE, Random(1))
+    rows += [record("limit", f"s{near}-{goal}", "closed", 1) for near in (goal - 1, goal - SIDE)]
     return text([*rows, record("actor", "a0"), *(applies(0, start % goal, goal) for start in range(count))])
 
 
