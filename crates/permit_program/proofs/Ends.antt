@@ -1,43 +1,36 @@
 -- How a run ends, by what its parts promise.
-use Rattle.std.proofs.Common.{◌≡◌, ◌⊎◌, ◌+◌, ◌++◌, ◌<◌, ◌≤◌, ℕ, true, false, List, [], Option, Some, None, IfSome, length, refl, ap, sym, subst, inl, inr, ◌∙◌, arith}
+use Rattle.std.proofs.Common.{◌≡◌, ◌⊎◌, ◌+◌, ◌++◌, ◌<◌, ◌≤◌, ℕ, Bool, true, false, List, [], Option, Some, None, IfSome, length, take, refl, ap, sym, subst, inl, inr, ◌∙◌, arith}
 use Rattle.std.specs.Prelude.{nat_lt}
 use Rattle.std.proofs.lemmas.Bool.Decides.{nat_tests}
 use Rattle.std.specs.Io.KnownBytes.{Appends, Consumes, IsAtEnd}
 use Rattle.std.proofs.lemmas.List.{append-nil, length-append}
-use Rattle.office_io.specs.Causes.{TookAtMost, TookExactly}
+use Rattle.office_io.specs.Causes.{Rose, TookAtMost, TookExactly}
+use Rattle.office_io.specs.declared.source.ReadRefusal.{ReadRefusal}
+use Rattle.office_io.specs.declared.source.ReadRefusal.TheVariants as unread
 use Rattle.notice_desk.specs.Deliveries.{Delivered, RoseAt, StoppedAt}
 use Rattle.notice_desk.specs.Lines.{EachWrote, WroteUntilAt}
 use Rattle.notice_desk.specs.declared.notice.Recall.{Recall}
-use Rattle.permit_program.specs.Outputs.{IsDayOf, IsOnlyOutputOf, IsOutputOf, refusal_by}
-use Rattle.permit_program.specs.Runs.{DeskAt, IsMade, IsRun, IsSettled, Outside, Told, Took, TookAll, WroteLine, bytes_line, most_bytes, reads, status_for}
-use Rattle.permit_program.specs.declared.task.Task.{Task}
-use Rattle.permit_program.specs.declared.task.Task.TheVariants.{Check, Day, Make, Trial}
+use Rattle.command_line.specs.declared.asked.Asked.{Asked}
+use Rattle.command_line.specs.declared.asked.Task.{Task}
+use Rattle.command_line.specs.declared.asked.Task.TheVariants as task
+use Rattle.day_text.specs.Checks.{check_of}
+use Rattle.day_text.specs.Days.{day_of}
+use Rattle.record_text.specs.declared.refusal.Cause.{Cause}
+use Rattle.record_text.specs.declared.refusal.Cause.TheVariants as why
+use Rattle.std.specs.Prelude.{Result, Ok, Err}
+use Rattle.std.specs.String.{string_bytes}
+use Rattle.permit_program.specs.Command.{Answer, Command, IsRefusalOf, Makes, MakesAndTells, refusal_in}
+use Rattle.permit_program.specs.Commands.{command_by, command_of}
+use Rattle.permit_program.specs.Endings.{AnswersRefusal, AnswersText, AnswersUnread, WasUnread}
+use Rattle.permit_program.specs.Runs.{AsksForDay, DeskAt, IsPlain, IsRun, IsSettled, IsStatusOr, Outside, SinkAt, SinkFailed, SourceAt, Told, Took, TookAll, WroteLine, bytes_for, bytes_line, most_bytes, status_by, status_for}
+use Rattle.permit_program.specs.declared.refusal.Refusal.{Refusal}
+use Rattle.permit_program.specs.declared.refusal.Refusal.TheVariants.{NoMemory, Refused}
 
 below : (a b : ℕ) → a < b → nat_lt a b ≡ true
 below a b less = grind (arith, nat_tests)
 
 not_below : (a b : ℕ) → b ≤ a → nat_lt a b ≡ false
 not_below a b more = grind (arith, nat_tests)
-
--- too many bytes call for status 6
-many_settled : (task : Task) (left : Option (List ℕ)) → reads task ≡ true → IfSome left (λ bytes. most_bytes < length bytes) → IsSettled task left 6
-many_settled Check None r many = tt
-many_settled Check (Some bytes) r many = inl (rw (below most_bytes (length bytes) many) refl)
-many_settled Day None r many = tt
-many_settled Day (Some bytes) r many = inl (rw (below most_bytes (length bytes) many) refl)
-many_settled (Make seed size) left r many = absurd cc
-many_settled (Trial seed size) left r many = absurd cc
-
--- bytes that a task takes call for status 0
-taken_status : (task : Task) (bytes : List ℕ) → length bytes ≤ most_bytes → refusal_by task bytes ≡ None → status_for task bytes ≡ 0
-taken_status task bytes few taken = rw (not_below most_bytes (length bytes) few, taken) refl
-
-day_settled : (left : Option (List ℕ)) (bytes : List ℕ) (status : ℕ) → IfSome left (λ all. bytes ≡ all) → length bytes ≤ most_bytes → refusal_by Day bytes ≡ None
-    → (status ≡ 0) ⊎ (status ≡ 8) → IsSettled Day left status
-day_settled None bytes status took few taken ended = tt
-day_settled (Some all) bytes status took few taken ended =
-    let none : status_for Day all ≡ 0 = subst (λ (b : List ℕ). status_for Day b ≡ 0) took (taken_status Day bytes few taken) in
-    elim ended [ inl is ↦ inl (is ∙ sym none) | inr is ↦ inr (inr (none, inr is)) ]
 
 -- what a reader says of too many bytes, and of all of them
 pub many_left : (old new : Option (List ℕ)) → TookExactly (most_bytes + 1) old new → IfSome old (λ bytes. most_bytes < length bytes)
@@ -50,173 +43,273 @@ all_taken None new bytes consumes end = tt
 all_taken (Some all) None bytes consumes end = absurd consumes
 all_taken (Some all) (Some rest) bytes consumes end = (sym (consumes ∙ (ap (λ (xs : List ℕ). bytes ++ xs) end ∙ append-nil bytes)), ap Some end)
 
-module _ {S K : Type 0} (before after : Outside S K) (same : after.desk ≡ before.desk) where
-  -- too many bytes
-  pub ends_with_too_many : (task : Task) → reads task ≡ true → IfSome before.source.left (λ bytes. most_bytes < length bytes) → WroteLine bytes_line before.sink after.sink
-      → after.source.faults ≡ before.source.faults → TookAtMost (most_bytes + 1) before.source.left after.source.left → IsRun (Some task) before after 6
-  ends_with_too_many task reading many told calm most = record {
+-- nothing was taken
+pub takes_none : (left : Option (List ℕ)) → TookAtMost (most_bytes + 1) left left
+takes_none None = ([], tt, omega arith)
+takes_none (Some bytes) = ([], refl, omega arith)
+
+-- each refusal of a command ends with 5 or 6
+file_status : {T : Type 0} (told : Result T (ℕ × Cause)) (answer : Answer) → refusal_in told ≡ Some answer → (answer.status ≡ 5) ⊎ (answer.status ≡ 6)
+file_status (Ok file) answer is = absurd cc
+file_status (Err (row, why.Bad cause)) answer is = inl (sym (ap status_by is))
+file_status (Err (row, why.TooMany kind)) answer is = inr (sym (ap status_by is))
+
+pub refusal_status : (t : Task) (seed size : ℕ) (bytes : List ℕ) (answer : Answer) → (command_by t seed size).refusal bytes ≡ Some answer → (answer.status ≡ 5) ⊎ (answer.status ≡ 6)
+refusal_status task.Check seed size bytes answer is = file_status (check_of bytes) answer is
+refusal_status task.Day seed size bytes answer is = file_status (day_of bytes) answer is
+refusal_status task.Make seed size bytes answer is = absurd cc
+refusal_status task.Trial seed size bytes answer is = absurd cc
+
+-- neither is plain
+is_another : (n k : ℕ) → (k < 5) ⊎ (6 < k) → (n ≡ 5) ⊎ (n ≡ 6) → n ≡ k → ⊥
+is_another n k (inl less) (inl five) is = omega (arith, less, five, is)
+is_another n k (inl less) (inr six) is = omega (arith, less, six, is)
+is_another n k (inr more) (inl five) is = omega (arith, more, five, is)
+is_another n k (inr more) (inr six) is = omega (arith, more, six, is)
+
+is_refusals : (n : ℕ) → (n ≡ 5) ⊎ (n ≡ 6) → IsPlain n → ⊥
+is_refusals n is (inl e) = is_another n 0 (inl (omega arith)) is e
+is_refusals n is (inr (inl e)) = is_another n 2 (inl (omega arith)) is e
+is_refusals n is (inr (inr (inl e))) = is_another n 3 (inl (omega arith)) is e
+is_refusals n is (inr (inr (inr (inl e)))) = is_another n 4 (inl (omega arith)) is e
+is_refusals n is (inr (inr (inr (inr (inl e))))) = is_another n 7 (inr (omega arith)) is e
+is_refusals n is (inr (inr (inr (inr (inr e))))) = is_another n 8 (inr (omega arith)) is e
+
+-- a command that is no day's tells nobody
+pub tells_nobody : (t : Task) (seed size : ℕ) → (t ≡ task.Day → ⊥) → (bytes text : List ℕ) (output : (command_by t seed size).IsOutput bytes text) → (command_by t seed size).recalls bytes text output ≡ None
+tells_nobody task.Check seed size other bytes text output = refl
+tells_nobody task.Day seed size other bytes text output = absurd (other refl)
+tells_nobody task.Make seed size other bytes text output = refl
+tells_nobody task.Trial seed size other bytes text output = refl
+
+-- a run of a day is one of whatever asks for a day
+pub of_day : {S K : Type 0} (asked : Option Asked) (before after : Outside S K) (status : ℕ) → AsksForDay asked → ((a : Asked) → a.task ≡ task.Day → IsRun (Some a) before after status) → IsRun asked before after status
+of_day None before after status is run = absurd is
+of_day (Some a) before after status is run = run a is
+
+-- the status that bytes call for which were taken
+module _ (c : Command) (bytes : List ℕ) (few : length bytes ≤ most_bytes) (status : ℕ) (is : IsStatusOr (status_by (c.refusal bytes)) status) where
+  here : IsStatusOr (status_for c bytes) status
+  here = rw (not_below most_bytes (length bytes) few) is
+
+  of_all : (left rest : Option (List ℕ)) → IfSome left (λ all. (bytes ≡ all) × (rest ≡ Some [])) → IfSome left (λ all. IsStatusOr (status_for c all) status)
+  of_all None rest took = tt
+  of_all (Some all) rest took = subst (λ (b : List ℕ). IsStatusOr (status_for c b) status) took.0 here
+
+  of_read : {S : Type 0} (reads : Bool) (before after : SourceAt S) → Took reads before after bytes → IfSome (bytes_for reads before.left) (λ all. IsStatusOr (status_for c all) status)
+  of_read true before after took = of_all before.left after.left took
+  of_read false before after took = subst (λ (b : List ℕ). IsStatusOr (status_for c b) status) took.0 here
+
+-- and so of too many
+many_settled : (c : Command) (reads : Bool) (left : Option (List ℕ)) → reads ≡ true → IfSome left (λ bytes. most_bytes < length bytes) → IfSome (bytes_for reads left) (λ bytes. IsStatusOr (status_for c bytes) 6)
+many_settled c true None is many = tt
+many_settled c true (Some bytes) is many = inl (rw (below most_bytes (length bytes) many) refl)
+many_settled c false left is many = absurd cc
+
+-- want of memory settles nothing
+memory_settled : (c : Command) (left : Option (List ℕ)) → IfSome left (λ bytes. IsStatusOr (status_for c bytes) 7)
+memory_settled c None = tt
+memory_settled c (Some bytes) = inr (inl refl)
+
+module _ {S K : Type 0} (a : Asked) (before after : Outside S K) (most : TookAtMost (most_bytes + 1) before.source.left after.source.left) where
+  abbrev pub c : Command
+  c = command_of a
+
+  of_status : {status status' : ℕ} → status' ≡ status → IsRun (Some a) before after status → IsRun (Some a) before after status'
+  of_status is run = subst (λ (n : ℕ). IsRun (Some a) before after n) (sym is) run
+
+  faulted : Rose before.source.faults after.source.faults → after.sink ≡ before.sink → after.desk ≡ before.desk → IsRun (Some a) before after 3
+  faulted rose same desk = record {
+    done = λ is. absurd (omega (arith, is));
+    usage = λ is. absurd (omega (arith, is));
+    unasked = λ none. absurd cc;
+    read = λ is. rose;
+    written = λ is. absurd (omega (arith, is));
+    noticed = λ is. absurd (omega (arith, is));
+    refused = inl (inr (inr (inl refl)));
+    settled = λ well. absurd (well rose);
+    usage_told = λ is. absurd (omega (arith, is));
+    nothing_read = λ is. same;
+    front = λ is. absurd (omega (arith, is));
+    nothing_kept = λ is. absurd (omega (arith, is));
+    untold = λ is. absurd (omega (arith, is));
+    unheard = λ a b. desk;
+    untouched = λ is. absurd (omega (arith, is));
+    calm = λ is_not. absurd (is_not refl);
+    calm_sink = λ is. absurd (elim is [ inl e ↦ omega (arith, e) | inr e ↦ omega (arith, e) ]);
+    most = most;
+  }
+
+  too_many : c.reads ≡ true → IfSome before.source.left (λ bytes. most_bytes < length bytes) → WroteLine bytes_line before.sink after.sink → after.source.faults ≡ before.source.faults → after.desk ≡ before.desk
+      → IsRun (Some a) before after 6
+  too_many reads many told calm desk = record {
     done = λ is. absurd (omega (arith, is));
     usage = λ is. absurd (omega (arith, is));
     unasked = λ none. absurd cc;
     read = λ is. absurd (omega (arith, is));
     written = λ is. absurd (omega (arith, is));
-    bad = λ is. absurd (omega (arith, is));
-    long = λ is. inl (record { reads = reading; many = many; told = told });
     noticed = λ is. absurd (omega (arith, is));
-    settled = λ well. many_settled task before.source.left reading many;
-    statuses = inr (inr (inr (inr (inr (inl refl)))));
+    refused = inr (inl (record { is_status = refl; reads = reads; many = many; told = told }));
+    settled = λ well. many_settled c c.reads before.source.left reads many;
     usage_told = λ is. absurd (omega (arith, is));
     nothing_read = λ is. absurd (omega (arith, is));
     front = λ is. absurd (omega (arith, is));
     nothing_kept = λ is. absurd (omega (arith, is));
     untold = λ is. absurd (omega (arith, is));
-    unheard = λ a b. same;
+    unheard = λ a b. desk;
     untouched = λ is. absurd (omega (arith, is));
     calm = λ is. calm;
     calm_sink = λ is. absurd (elim is [ inl e ↦ omega (arith, e) | inr e ↦ omega (arith, e) ]);
     most = most;
   }
 
--- what a task that reads nothing does to the sink is a run of it
-made_settled : (task : Task) (left : Option (List ℕ)) (status : ℕ) → reads task ≡ false → (status ≡ 0) ⊎ (status ≡ 4) ⊎ (status ≡ 7) → IsSettled task left status
-made_settled Check left status r ended = absurd cc
-made_settled Day left status r ended = absurd cc
-made_settled (Make seed size) left status r ended = elim ended [ inl is ↦ inl is | inr (inl is) ↦ inr (inr (refl, inl is)) | inr (inr is) ↦ inr (inl is) ]
-made_settled (Trial seed size) left status r ended = elim ended [ inl is ↦ inl is | inr (inl is) ↦ inr (inr (refl, inl is)) | inr (inr is) ↦ inr (inl is) ]
+  lacked : after.sink ≡ before.sink → after.source.faults ≡ before.source.faults → after.desk ≡ before.desk → IsRun (Some a) before after 7
+  lacked same calm desk = record {
+    done = λ is. absurd (omega (arith, is));
+    usage = λ is. absurd (omega (arith, is));
+    unasked = λ none. absurd cc;
+    read = λ is. absurd (omega (arith, is));
+    written = λ is. absurd (omega (arith, is));
+    noticed = λ is. absurd (omega (arith, is));
+    refused = inl (inr (inr (inr (inr (inl refl)))));
+    settled = λ well. memory_settled c (bytes_for c.reads before.source.left);
+    usage_told = λ is. absurd (omega (arith, is));
+    nothing_read = λ is. absurd (omega (arith, is));
+    front = λ is. absurd (omega (arith, is));
+    nothing_kept = λ is. same;
+    untold = λ is. absurd (omega (arith, is));
+    unheard = λ a b. desk;
+    untouched = λ is. absurd (omega (arith, is));
+    calm = λ is. calm;
+    calm_sink = λ is. absurd (elim is [ inl e ↦ omega (arith, e) | inr e ↦ omega (arith, e) ]);
+    most = most;
+  }
 
-made_took : {S K : Type 0} (task : Task) (before after : Outside S K) → reads task ≡ false → after.source ≡ before.source → Took task before.source after.source []
-made_took Check before after r same = absurd cc
-made_took Day before after r same = absurd cc
-made_took (Make seed size) before after r same = (refl, same)
-made_took (Trial seed size) before after r same = (refl, same)
+  -- the bytes were not all read
+  pub ends_unread : (refusal : ReadRefusal) (status : ℕ) → WasUnread c.reads before.source after.source refusal → AnswersUnread refusal before.sink after.sink status → after.desk ≡ before.desk → IsRun (Some a) before after status
+  ends_unread unread.ReadFault status rose answered desk = of_status answered.0 (faulted rose answered.1 desk)
+  ends_unread unread.TooLong status (reads, calm, many) answered desk = of_status answered.0 (too_many reads many answered.1 calm desk)
+  ends_unread unread.NoMemory status calm answered desk = of_status answered.0 (lacked answered.1 calm desk)
 
-made_told : (task : Task) (text : List ℕ) (output : IsOutputOf task [] text) (before after : DeskAt) → reads task ≡ false → after ≡ before → Told task [] text output before after
-made_told Check text output before after r same = absurd cc
-made_told Day text output before after r same = absurd cc
-made_told (Make seed size) text output before after r same = same
-made_told (Trial seed size) text output before after r same = same
+  module _ (bytes : List ℕ) (took : Took c.reads before.source after.source bytes) (few : length bytes ≤ most_bytes) (calm : after.source.faults ≡ before.source.faults) where
+    settles : (status : ℕ) → IsStatusOr (status_by (c.refusal bytes)) status → IsSettled c before.source.left status
+    settles status is = of_read c bytes few status is c.reads before.source after.source took
 
--- nothing was taken
-pub takes_none : (left : Option (List ℕ)) → TookAtMost (most_bytes + 1) left left
-takes_none None = ([], tt, omega arith)
-takes_none (Some bytes) = ([], refl, omega arith)
+    told_why : (answer : Answer) → c.refusal bytes ≡ Some answer → WroteLine answer.line before.sink after.sink → after.desk ≡ before.desk → IsRun (Some a) before after answer.status
+    told_why answer refused told desk =
+        let named : IsPlain answer.status → ⊥ = is_refusals answer.status (refusal_status a.task a.seed a.size bytes answer refused) in record {
+          done = λ is. absurd (named (inl is));
+          usage = λ is. absurd (named (inr (inl is)));
+          unasked = λ none. absurd cc;
+          read = λ is. absurd (named (inr (inr (inl is))));
+          written = λ is. absurd (named (inr (inr (inr (inl is)))));
+          noticed = λ is. absurd (named (inr (inr (inr (inr (inr is))))));
+          refused = inr (inr (record { bytes = bytes; answer = answer; took = took; few = few; refused = refused; is_status = refl; told = told }));
+          settled = λ well. settles answer.status (inl (sym (ap status_by refused)));
+          usage_told = λ is. absurd (named (inr (inl is)));
+          nothing_read = λ is. absurd (named (inr (inr (inl is))));
+          front = λ is. absurd (named (inr (inr (inr (inl is)))));
+          nothing_kept = λ is. absurd (named (inr (inr (inr (inr (inl is))))));
+          untold = λ is. absurd (named (inr (inr (inr (inr (inr is))))));
+          unheard = λ a b. desk;
+          untouched = λ is. absurd (named (inr (inl is)));
+          calm = λ is. calm;
+          calm_sink = λ is. absurd (named (elim is [ inl e ↦ inl e | inr e ↦ inr (inr (inr (inr (inr e)))) ]));
+          most = most;
+        }
 
-pub made_run : {S K : Type 0} (task : Task) (before after : Outside S K) (status : ℕ) → reads task ≡ false → after.source ≡ before.source → after.desk ≡ before.desk
-    → TookAtMost (most_bytes + 1) before.source.left after.source.left → IsMade task before.sink after.sink status → IsRun (Some task) before after status
-made_run task before after status r source desk most m = record {
-  done = λ is. let output = m.output (λ is7. omega (arith, is, is7)) in record {
-    bytes = [];
-    text = m.text;
-    took = made_took task before after r source;
-    output = output;
-    only = m.only (λ is7. omega (arith, is, is7));
-    wrote = (m.wrote is).0;
-    told = made_told task m.text output before.desk after.desk r desk;
-  };
-  usage = λ is. absurd (elim m.statuses [ inl e ↦ omega (arith, is, e) | inr (inl e) ↦ omega (arith, is, e) | inr (inr e) ↦ omega (arith, is, e) ]);
-  unasked = λ none. absurd cc;
-  read = λ is. absurd (elim m.statuses [ inl e ↦ omega (arith, is, e) | inr (inl e) ↦ omega (arith, is, e) | inr (inr e) ↦ omega (arith, is, e) ]);
-  written = λ is. (m.front is).1;
-  bad = λ is. absurd (elim m.statuses [ inl e ↦ omega (arith, is, e) | inr (inl e) ↦ omega (arith, is, e) | inr (inr e) ↦ omega (arith, is, e) ]);
-  long = λ is. absurd (elim m.statuses [ inl e ↦ omega (arith, is, e) | inr (inl e) ↦ omega (arith, is, e) | inr (inr e) ↦ omega (arith, is, e) ]);
-  noticed = λ is. absurd (elim m.statuses [ inl e ↦ omega (arith, is, e) | inr (inl e) ↦ omega (arith, is, e) | inr (inr e) ↦ omega (arith, is, e) ]);
-  settled = λ well. made_settled task before.source.left status r m.statuses;
-  statuses = elim m.statuses [ inl e ↦ inl e | inr (inl e) ↦ inr (inr (inr (inl e))) | inr (inr e) ↦ inr (inr (inr (inr (inr (inr (inl e)))))) ];
-  usage_told = λ is. absurd (elim m.statuses [ inl e ↦ omega (arith, is, e) | inr (inl e) ↦ omega (arith, is, e) | inr (inr e) ↦ omega (arith, is, e) ]);
-  nothing_read = λ is. absurd (elim m.statuses [ inl e ↦ omega (arith, is, e) | inr (inl e) ↦ omega (arith, is, e) | inr (inr e) ↦ omega (arith, is, e) ]);
-  front = λ is. record {
-    bytes = [];
-    text = m.text;
-    count = (m.front is).0.0;
-    took = made_took task before after r source;
-    output = m.output (λ is7. omega (arith, is, is7));
-    wrote = (m.front is).0.1;
-  };
-  nothing_kept = m.kept;
-  untold = λ is. absurd (elim m.statuses [ inl e ↦ omega (arith, is, e) | inr (inl e) ↦ omega (arith, is, e) | inr (inr e) ↦ omega (arith, is, e) ]);
-  unheard = λ a b. desk;
-  untouched = λ is. source;
-  calm = λ is. ap (λ s. s.faults) source;
-  calm_sink = λ is. elim is [ inl e ↦ (m.wrote e).1 | inr e ↦ absurd (elim m.statuses [ inl x ↦ omega (arith, x, e) | inr (inl x) ↦ omega (arith, x, e) | inr (inr x) ↦ omega (arith, x, e) ]) ];
-  most = most;
-}
+    -- the command refuses the bytes
+    pub ends_refused : (refusal : Refusal) (status : ℕ) → IsRefusalOf c bytes refusal → AnswersRefusal refusal before.sink after.sink status → after.desk ≡ before.desk → IsRun (Some a) before after status
+    ends_refused (Refused status line) result refused answered desk = of_status answered.0 (told_why (record { status = status; line = string_bytes line }) refused answered.1 desk)
+    ends_refused NoMemory result refused answered desk = of_status answered.0 (lacked answered.1 calm desk)
 
-all_left : (left : Option (List ℕ)) (bytes : List ℕ) (P : Type 0) → IfSome left (λ all. (bytes ≡ all) × P) → IfSome left (λ all. bytes ≡ all)
-all_left None bytes P took = tt
-all_left (Some all) bytes P took = took.0
+    module _ (text : List ℕ) (made : Makes c bytes text) where
+      fine : status_by (c.refusal bytes) ≡ 0
+      fine = ap status_by made.taken
 
--- a day whose journal was written, and all were told of its recalls
-pub ends_told : {S K : Type 0} (before after : Outside S K) (bytes text : List ℕ) (recalls : List Recall) → TookAll before.source after.source bytes → IsDayOf bytes text recalls → IsOnlyOutputOf Day bytes text → Appends before.sink.held after.sink.held text
-    → Delivered before.desk.standings recalls after.desk.standings → after.desk.faults ≡ before.desk.faults → EachWrote before.desk.standings recalls before.desk.texts after.desk.texts → length bytes ≤ most_bytes → refusal_by Day bytes ≡ None
-    → after.source.faults ≡ before.source.faults → after.sink.faults ≡ before.sink.faults → TookAtMost (most_bytes + 1) before.source.left after.source.left → IsRun (Some Day) before after 0
-ends_told before after bytes text recalls took day only wrote delivered stands lines few taken calm calm_sink most = record {
-  done = λ is. record {
-    bytes = bytes;
-    text = text;
-    took = took;
-    output = day.headline;
-    only = only;
-    wrote = wrote;
-    told = (
-      subst (λ (rs : List Recall). Delivered before.desk.standings rs after.desk.standings) day.recalled delivered,
-      stands,
-      subst (λ (rs : List Recall). EachWrote before.desk.standings rs before.desk.texts after.desk.texts) day.recalled lines,
-    );
-  };
-  usage = λ is. absurd (omega (arith, is));
-  unasked = λ none. absurd cc;
-  read = λ is. absurd (omega (arith, is));
-  written = λ is. absurd (omega (arith, is));
-  bad = λ is. absurd (omega (arith, is));
-  long = λ is. absurd (omega (arith, is));
-  noticed = λ is. absurd (omega (arith, is));
-  settled = λ well. day_settled before.source.left bytes 0 (all_left before.source.left bytes _ took) few taken (inl refl);
-  statuses = inl refl;
-  usage_told = λ is. absurd (omega (arith, is));
-  nothing_read = λ is. absurd (omega (arith, is));
-  front = λ is. absurd (omega (arith, is));
-  nothing_kept = λ is. absurd (omega (arith, is));
-  untold = λ is. absurd (omega (arith, is));
-  unheard = λ no. absurd (no refl);
-  untouched = λ is. absurd (omega (arith, is));
-  calm = λ is. calm;
-  calm_sink = λ is. calm_sink;
-  most = most;
-}
+      in_front : (count : ℕ) → Appends before.sink.held after.sink.held (take count text) → SinkFailed before.sink after.sink → after.desk ≡ before.desk → IsRun (Some a) before after 4
+      in_front count wrote failed desk = record {
+        done = λ is. absurd (omega (arith, is));
+        usage = λ is. absurd (omega (arith, is));
+        unasked = λ none. absurd cc;
+        read = λ is. absurd (omega (arith, is));
+        written = λ is. failed;
+        noticed = λ is. absurd (omega (arith, is));
+        refused = inl (inr (inr (inr (inl refl))));
+        settled = λ well. settles 4 (inr (inr (fine, inl refl)));
+        usage_told = λ is. absurd (omega (arith, is));
+        nothing_read = λ is. absurd (omega (arith, is));
+        front = λ is. record { bytes = bytes; text = text; count = count; took = took; made = made; wrote = wrote };
+        nothing_kept = λ is. absurd (omega (arith, is));
+        untold = λ is. absurd (omega (arith, is));
+        unheard = λ a b. desk;
+        untouched = λ is. absurd (omega (arith, is));
+        calm = λ is. calm;
+        calm_sink = λ is. absurd (elim is [ inl e ↦ omega (arith, e) | inr e ↦ omega (arith, e) ]);
+        most = most;
+      }
 
--- a day whose journal was written, and an object that was to be told of a recall failed
-pub ends_untold : {S K : Type 0} (before after : Outside S K) (bytes text : List ℕ) (recalls : List Recall) (place : ℕ) → TookAll before.source after.source bytes → IsDayOf bytes text recalls → Appends before.sink.held after.sink.held text
-    → StoppedAt place before.desk.standings recalls after.desk.standings → RoseAt place before.desk.faults after.desk.faults → WroteUntilAt place before.desk.standings recalls after.desk.standings before.desk.texts after.desk.texts → length bytes ≤ most_bytes → refusal_by Day bytes ≡ None
-    → after.source.faults ≡ before.source.faults → after.sink.faults ≡ before.sink.faults → TookAtMost (most_bytes + 1) before.source.left after.source.left → IsRun (Some Day) before after 8
-ends_untold before after bytes text recalls place took day wrote stopped rose part few taken calm calm_sink most = record {
-  done = λ is. absurd (omega (arith, is));
-  usage = λ is. absurd (omega (arith, is));
-  unasked = λ none. absurd cc;
-  read = λ is. absurd (omega (arith, is));
-  written = λ is. absurd (omega (arith, is));
-  bad = λ is. absurd (omega (arith, is));
-  long = λ is. absurd (omega (arith, is));
-  noticed = λ is. (refl, (place, rose));
-  settled = λ well. day_settled before.source.left bytes 8 (all_left before.source.left bytes _ took) few taken (inr refl);
-  statuses = inr (inr (inr (inr (inr (inr (inr refl))))));
-  usage_told = λ is. absurd (omega (arith, is));
-  nothing_read = λ is. absurd (omega (arith, is));
-  front = λ is. absurd (omega (arith, is));
-  nothing_kept = λ is. absurd (omega (arith, is));
-  untold = λ is. record {
-    bytes = bytes;
-    text = text;
-    took = took;
-    headline = day.headline;
-    wrote = wrote;
-    place = place;
-    stopped = subst (λ (rs : List Recall). StoppedAt place before.desk.standings rs after.desk.standings) day.recalled stopped;
-    rose = rose;
-    part = subst (λ (rs : List Recall). WroteUntilAt place before.desk.standings rs after.desk.standings before.desk.texts after.desk.texts) day.recalled part;
-  };
-  unheard = λ a no. absurd (no refl);
-  untouched = λ is. absurd (omega (arith, is));
-  calm = λ is. calm;
-  calm_sink = λ is. calm_sink;
-  most = most;
-}
+      pub whole : Appends before.sink.held after.sink.held text → after.sink.faults ≡ before.sink.faults → Told (c.recalls bytes text made.output) before.desk after.desk → IsRun (Some a) before after 0
+      whole wrote calm_sink told = record {
+        done = λ is. record { bytes = bytes; text = text; took = took; made = made; wrote = wrote; told = told };
+        usage = λ is. absurd (omega (arith, is));
+        unasked = λ none. absurd cc;
+        read = λ is. absurd (omega (arith, is));
+        written = λ is. absurd (omega (arith, is));
+        noticed = λ is. absurd (omega (arith, is));
+        refused = inl (inl refl);
+        settled = λ well. settles 0 (inl (sym fine));
+        usage_told = λ is. absurd (omega (arith, is));
+        nothing_read = λ is. absurd (omega (arith, is));
+        front = λ is. absurd (omega (arith, is));
+        nothing_kept = λ is. absurd (omega (arith, is));
+        untold = λ is. absurd (omega (arith, is));
+        unheard = λ is_not. absurd (is_not refl);
+        untouched = λ is. absurd (omega (arith, is));
+        calm = λ is. calm;
+        calm_sink = λ is. calm_sink;
+        most = most;
+      }
+
+      -- the sink failed, or nobody is to be told anything
+      pub ends_made : (status : ℕ) → AnswersText text before.sink after.sink status → (status ≡ 0 → c.recalls bytes text made.output ≡ None) → after.desk ≡ before.desk → IsRun (Some a) before after status
+      ends_made status answered nobody desk = elim answered.statuses [
+        | inl is ↦ of_status is (let wrote = answered.whole is in whole wrote.0 wrote.1 (subst (λ (rs : Option (List Recall)). Told rs before.desk after.desk) (sym (nobody is)) desk))
+        | inr is ↦ of_status is (let part = answered.front is in in_front part.0.0 part.0.1 part.1 desk)
+      ]
+
+      -- an object failed that was to be told of a recall
+      pub ends_untold : (recalls : List Recall) (place : ℕ) → c.recalls bytes text made.output ≡ Some recalls → Appends before.sink.held after.sink.held text → after.sink.faults ≡ before.sink.faults
+          → StoppedAt place before.desk.standings recalls after.desk.standings → RoseAt place before.desk.faults after.desk.faults → WroteUntilAt place before.desk.standings recalls after.desk.standings before.desk.texts after.desk.texts
+          → IsRun (Some a) before after 8
+      ends_untold recalls place told wrote calm_sink stopped rose part = record {
+        done = λ is. absurd (omega (arith, is));
+        usage = λ is. absurd (omega (arith, is));
+        unasked = λ none. absurd cc;
+        read = λ is. absurd (omega (arith, is));
+        written = λ is. absurd (omega (arith, is));
+        noticed = λ is. (place, rose);
+        refused = inl (inr (inr (inr (inr (inr refl)))));
+        settled = λ well. settles 8 (inr (inr (fine, inr refl)));
+        usage_told = λ is. absurd (omega (arith, is));
+        nothing_read = λ is. absurd (omega (arith, is));
+        front = λ is. absurd (omega (arith, is));
+        nothing_kept = λ is. absurd (omega (arith, is));
+        untold = λ is. record {
+          bytes = bytes;
+          text = text;
+          recalls = recalls;
+          took = took;
+          made = record { made = made; told = told };
+          wrote = wrote;
+          place = place;
+          stopped = stopped;
+          rose = rose;
+          part = part;
+        };
+        unheard = λ a is_not. absurd (is_not refl);
+        untouched = λ is. absurd (omega (arith, is));
+        calm = λ is. calm;
+        calm_sink = λ is. calm_sink;
+        most = most;
+      }

@@ -7,8 +7,12 @@ use Rattle.notice_desk.specs.declared.notice.Recall.{Recall}
 use Rattle.notice_desk.specs.declared.notice.Whom.TheVariants as whom
 use Rattle.office_core.specs.RecallLists.{recalls_in}
 use Rattle.permit_program.specs.Laws.{ListenersHearAll}
-use Rattle.permit_program.specs.Runs.{WroteAll}
-use Rattle.permit_program.specs.declared.task.Task.TheVariants.{Day}
+use Rattle.permit_program.specs.Laws.{HasListener, HeardAll}
+use Rattle.permit_program.specs.Runs.{AsksForDay, IsRun, Outside, WroteAll}
+use Rattle.command_line.specs.declared.asked.Asked.{Asked}
+use Rattle.command_line.specs.declared.asked.Task.{Task}
+use Rattle.permit_program.specs.Commands.{command_by, command_of}
+use Rattle.permit_program.specs.Day.{day}
 
 -- all recalls are for one who is told of all
 all_for : (recalls : List Recall) → recalls_for whom.All recalls ≡ recalls
@@ -23,10 +27,9 @@ one_wrote told recalls text (None ∷ now) (wrote, rest) = absurd wrote
 one_wrote told recalls text (Some new ∷ now) (wrote, rest) =
     ap (λ l. Some new ∷ l) rest ∙ ap (λ l. Some l ∷ []) (wrote ∙ ap (λ rs. text ++ recall_lines rs) (all_for recalls))
 
-pub heard_all : {S K : Type 0} → ListenersHearAll S K
-heard_all text before after listener run =
-    let done : WroteAll Day before after = run.done refl in
-    let recalls = recalls_in done.output.file.base done.output.history in
+heard : {S K : Type 0} (text : List ℕ) (before after : Outside S K) → HasListener text before.desk → WroteAll day before after → HeardAll text before after
+heard text before after listener done =
+    let recalls = recalls_in done.made.output.file.base done.made.output.history in
     let wrote : EachWrote (new_standing whom.All listener.told ∷ []) recalls (Some text ∷ []) after.desk.texts =
     subst (λ (texts : Texts). EachWrote (new_standing whom.All listener.told ∷ []) recalls texts after.desk.texts) listener.wrote
     (subst (λ (ss : List Standing). EachWrote ss recalls before.desk.texts after.desk.texts) listener.standing done.told.2) in
@@ -34,7 +37,12 @@ heard_all text before after listener run =
       bytes = done.bytes;
       journal = done.text;
       took = done.took;
-      headline = done.output;
+      headline = done.made.output;
       wrote = done.wrote;
       lines = one_wrote listener.told recalls text after.desk.texts wrote;
     }
+
+pub heard_all : {S K : Type 0} → ListenersHearAll S K
+heard_all text None before after is listener run = absurd is
+heard_all text (Some a) before after is listener run =
+    heard text before after listener (subst (λ (t : Task). WroteAll (command_by t a.seed a.size) before after) is (run.done refl))

@@ -3,3 +3,4 @@ pub mod Only
 pub mod Ends
 pub mod Heard
 pub mod Serial
+pub mod Statuses

@@ -1,10 +1,12 @@
--- What a task writes for some bytes is the only text that keeps its promise.
-use Rattle.std.proofs.Common.{◌≡◌, ℕ, List, Result, Ok, Err, IfOk, Vec, refl, ap, sym, ◌∙◌, subst}
+-- What a command makes of bytes keeps its promise, and is the only text that does.
+use Rattle.std.proofs.Common.{◌≡◌, ℕ, List, Option, Some, None, Result, Ok, Err, IfOk, Vec, refl, ap, sym, ◌∙◌, subst}
+use Rattle.std.specs.Prelude.{option_map}
 use Rattle.std.specs.Global.{Global}
+use Rattle.std.specs.String.{string_bytes}
 use Rattle.names.specs.declared.refusal.NoMemory.{NoMemory}
 use Rattle.day_text.specs.Refusals.{IsRefusedAs}
 use Rattle.day_text.specs.declared.refusal.DayFileRefusal.{DayFileRefusal}
-use Rattle.day_text.specs.declared.refusal.DayFileRefusal.TheVariants as refusal
+use Rattle.day_text.specs.declared.refusal.DayFileRefusal.TheVariants as file
 use Rattle.road_graph.specs.Roads.{IsRoads}
 use Rattle.day_text.specs.declared.check_file.CheckFile.{CheckFile}
 use Rattle.day_text.specs.Checks.{check_of}
@@ -13,16 +15,40 @@ use Rattle.check_report.specs.Reports.{IsOnlyReport, IsReport}
 use Rattle.journal_text.specs.Journals.{journal_of}
 use Rattle.office_words.specs.declared.entry.Entry.{Entry}
 use Rattle.day_run.specs.Served.{IsServed, LoneActorsAreOne}
-use Rattle.permit_program.specs.Headline.{Headline}
 use Rattle.notice_desk.specs.declared.notice.Recall.{Recall}
 use Rattle.office_core.specs.RecallLists.{recalls_in}
 use Rattle.day_maker.specs.Made.{made_day}
 use Rattle.day_trial.specs.Serial.{IsSerial, SerialHistoriesAreOne}
 use Rattle.day_trial.specs.Summaries.{summary_of}
-use Rattle.permit_program.specs.Outputs.{HasFewActors, IsDayOf, IsReportOn, IsTrial}
+use Rattle.record_text.specs.declared.refusal.Cause.{Cause}
+use Rattle.permit_program.specs.Headline.{Headline}
+use Rattle.permit_program.specs.Check.{IsReportOn, check}
+use Rattle.permit_program.specs.Command.{Answer, Command, IsAnswerTo, IsRefusalOf, Makes, MakesAndTells, answer_to, refusal_in, refused_at}
+use Rattle.permit_program.specs.Day.{HasFewActors, day}
+use Rattle.permit_program.specs.Made.{IsTrial, make, trial}
+use Rattle.permit_program.specs.declared.refusal.Refusal.{Refusal}
+use Rattle.permit_program.specs.declared.refusal.Refusal.TheVariants as refusal
+
+-- the answer to a refused file is the command's
+answered : {T : Type 0} (told : Result T (ℕ × Cause)) (refused : DayFileRefusal) (answer : Answer) → IsRefusedAs told refused → option_map answer_to (refused_at refused) ≡ Some answer → refusal_in told ≡ Some answer
+answered told (file.BadRecord row cause) answer is answers = ap refusal_in is ∙ answers
+answered told (file.TooMany row kind) answer is answers = ap refusal_in is ∙ answers
+answered told file.NoMemory answer is answers = absurd cc
+
+pub refused_file : (c : Command) (bytes : List ℕ) {T : Type 0} (told : Result T (ℕ × Cause)) (refused : DayFileRefusal) (r : Refusal) → c.refusal bytes ≡ refusal_in told → IsRefusedAs told refused → IsAnswerTo refused r → IsRefusalOf c bytes r
+refused_file c bytes told refused (refusal.Refused status line) same is answers = same ∙ answered told refused (record { status = status; line = string_bytes line }) is answers
+refused_file c bytes told refused refusal.NoMemory same is answers = tt
+
+-- the report on a check file
+pub report_made : (bytes text : List ℕ) (file : CheckFile) → check_of bytes ≡ Ok file → IsReport file text → IsOnlyReport file text → Makes check bytes text
+report_made bytes text file read report only = record {
+  taken = ap refusal_in read;
+  output = record { file = file; read = read; report = report };
+  only = λ free other h. let same : h.file ≡ file = cc (h.read, read) in only other (subst (λ (f : CheckFile). IsReport f other) same h.report);
+}
 
 -- the journal of a day of at most one actor is one
-pub only_journal : LoneActorsAreOne → (bytes text other : List ℕ) (file : DayParts) (history : List Entry) → day_of bytes ≡ Ok file → IsRoads file.base.roads → IsServed file history → text ≡ journal_of history
+only_journal : LoneActorsAreOne → (bytes text other : List ℕ) (file : DayParts) (history : List Entry) → day_of bytes ≡ Ok file → IsRoads file.base.roads → IsServed file history → text ≡ journal_of history
     → HasFewActors bytes → Headline bytes other → other ≡ text
 only_journal one bytes text other file history read roads served journal few h =
     let same : h.file ≡ file = cc (h.read, read) in
@@ -31,49 +57,51 @@ only_journal one bytes text other file history read roads served journal few h =
     h.journal ∙ (ap journal_of (one file history h.history roads (few file read) served theirs) ∙ sym journal)
 
 -- a history that serves a day keeps the headline, and its recalls are those that are told
-pub day_made : (bytes text : List ℕ) (recalls : List Recall) (file : DayParts) (history : List Entry) → day_of bytes ≡ Ok file → IsServed file history → text ≡ journal_of history
-    → recalls ≡ recalls_in file.base history → IsDayOf bytes text recalls
-day_made bytes text recalls file history read served journal recalled = record {
-  headline = record {
-    file = file;
-    read = read;
-    history = history;
-    journal = journal;
-    legal = served.legal;
-    commands = served.commands;
-    callers = served.callers;
-    memory = served.memory;
-    promises = served.promises;
+pub journal_made : LoneActorsAreOne → (bytes text : List ℕ) (recalls : List Recall) (file : DayParts) (history : List Entry) → day_of bytes ≡ Ok file → IsRoads file.base.roads → IsServed file history → text ≡ journal_of history
+    → recalls ≡ recalls_in file.base history → MakesAndTells day bytes text recalls
+journal_made one bytes text recalls file history read roads served journal recalled = record {
+  made = record {
+    taken = ap refusal_in read;
+    output = record {
+      file = file;
+      read = read;
+      history = history;
+      journal = journal;
+      legal = served.legal;
+      commands = served.commands;
+      callers = served.callers;
+      memory = served.memory;
+      promises = served.promises;
+    };
+    only = λ few other h. only_journal one bytes text other file history read roads served journal few h;
   };
-  recalled = recalled;
+  told = ap Some (sym recalled);
 }
 
-pub only_report : (bytes text other : List ℕ) (file : CheckFile) → check_of bytes ≡ Ok file → IsOnlyReport file text → IsReportOn bytes other → other ≡ text
-only_report bytes text other file read only h =
-    let same : h.file ≡ file = cc (h.read, read) in
-    only other (subst (λ (f : CheckFile). IsReport f other) same h.report)
+-- the day file that is made of a number
+pub day_file_made : (seed size : ℕ) (made : Result (Vec ℕ Global) NoMemory) → IfOk made (λ text. text.items ≡ made_day seed size) → IfOk made (λ text. (bytes : List ℕ) → Makes (make seed size) bytes text.items)
+day_file_made seed size (Ok text) is = λ bytes. record { taken = refl; output = is; only = λ free other h. h ∙ sym is }
+day_file_made seed size (Err e) is = tt
 
 -- the summary of a made day is one
-pub only_summary : SerialHistoriesAreOne → (seed size : ℕ) (text other : List ℕ) (file : DayParts) (history : List Entry) → day_of (made_day seed size) ≡ Ok file → IsRoads file.base.roads → IsSerial file history
+only_summary : SerialHistoriesAreOne → (seed size : ℕ) (text other : List ℕ) (file : DayParts) (history : List Entry) → day_of (made_day seed size) ≡ Ok file → IsRoads file.base.roads → IsSerial file history
     → text ≡ summary_of history → IsTrial seed size other → other ≡ text
 only_summary one seed size text other file history read roads serial summary h =
     let same : h.file ≡ file = cc (h.read, read) in
     let theirs : IsSerial file h.history = subst (λ (f : DayParts). IsSerial f h.history) same h.serial in
     h.summary ∙ (ap summary_of (one file history h.history roads serial theirs) ∙ sym summary)
 
-module _ (seed size : ℕ) (file : DayParts) (history : List Entry) where
-  pub trial_made : (summed : Result (Vec ℕ Global) NoMemory) → day_of (made_day seed size) ≡ Ok file → IsSerial file history → (told : List Entry) → told ≡ history → IfOk summed (λ text. text.items ≡ summary_of told)
-      → IfOk summed (λ text. IsTrial seed size text.items)
-  trial_made (Ok text) read serial told same is = record { file = file; read = read; history = history; serial = serial; summary = is ∙ ap summary_of same }
-  trial_made (Err e) read serial told same is = tt
-
-  pub only_trial : SerialHistoriesAreOne → (summed : Result (Vec ℕ Global) NoMemory) → day_of (made_day seed size) ≡ Ok file → IsRoads file.base.roads → IsSerial file history → (told : List Entry) → told ≡ history
-      → IfOk summed (λ text. text.items ≡ summary_of told) → IfOk summed (λ text. Unit {0} → (other : List ℕ) → IsTrial seed size other → other ≡ text.items)
-  only_trial one (Ok text) read roads serial told same is = λ free other h. only_summary one seed size text.items other file history read roads serial (is ∙ ap summary_of same) h
-  only_trial one (Err e) read roads serial told same is = tt
+pub summary_made : SerialHistoriesAreOne → (seed size : ℕ) (file : DayParts) (history told : List Entry) (summed : Result (Vec ℕ Global) NoMemory) → day_of (made_day seed size) ≡ Ok file → IsRoads file.base.roads → IsSerial file history
+    → told ≡ history → IfOk summed (λ text. text.items ≡ summary_of told) → IfOk summed (λ text. (bytes : List ℕ) → Makes (trial seed size) bytes text.items)
+summary_made one seed size file history told (Ok text) read roads serial same is = λ bytes. record {
+  taken = refl;
+  output = record { file = file; read = read; history = history; serial = serial; summary = is ∙ ap summary_of same };
+  only = λ free other h. only_summary one seed size text.items other file history read roads serial (is ∙ ap summary_of same) h;
+}
+summary_made one seed size file history told (Err e) read roads serial same is = tt
 
 -- a text that is a day file is refused for want of memory alone
-pub made_lacks : (bytes : List ℕ) (file : DayParts) (r : DayFileRefusal) → day_of bytes ≡ Ok file → IsRefusedAs (day_of bytes) r → r ≡ refusal.NoMemory
-made_lacks bytes file (refusal.BadRecord row cause) read refused = absurd (let clash = sym read ∙ refused in cc)
-made_lacks bytes file (refusal.TooMany row kind) read refused = absurd (let clash = sym read ∙ refused in cc)
-made_lacks bytes file refusal.NoMemory read refused = refl
+pub made_lacks : (bytes : List ℕ) (f : DayParts) (r : DayFileRefusal) → day_of bytes ≡ Ok f → IsRefusedAs (day_of bytes) r → r ≡ file.NoMemory
+made_lacks bytes f (file.BadRecord row cause) read refused = absurd (let clash = sym read ∙ refused in cc)
+made_lacks bytes f (file.TooMany row kind) read refused = absurd (let clash = sym read ∙ refused in cc)
+made_lacks bytes f file.NoMemory read refused = refl

@@ -1,5 +1,6 @@
--- What follows of a day's run: what a listener has heard, and that one actor's history is the serial one.
-use Rattle.std.specs.Prelude.{◌≡◌, ℕ, List, [], ◌∷◌, ◌++◌, Option, Some}
+-- What follows of a run: the statuses that come, what a listener has heard of a day, and that one actor's history is the serial
+-- one.
+use Rattle.std.specs.Prelude.{◌≡◌, ◌⊎◌, ℕ, List, [], ◌∷◌, ◌++◌, Option, Some}
 use Rattle.std.specs.Io.KnownBytes.{Appends}
 use Rattle.notice_desk.specs.Lines.{recall_lines}
 use Rattle.notice_desk.specs.Standings.{new_standing}
@@ -8,9 +9,23 @@ use Rattle.notice_desk.specs.declared.notice.Whom.TheVariants as whom
 use Rattle.office_core.specs.RecallLists.{recalls_in}
 use Rattle.day_trial.specs.Serial.{IsSerial}
 use Rattle.permit_program.specs.Headline.{Headline}
-use Rattle.permit_program.specs.Outputs.{HasFewActors}
-use Rattle.permit_program.specs.Runs.{DeskAt, IsRun, Outside, TookAll}
-use Rattle.permit_program.specs.declared.task.Task.TheVariants.{Day}
+use Rattle.permit_program.specs.Day.{HasFewActors}
+use Rattle.permit_program.specs.Runs.{AsksForDay, DeskAt, IsRun, Outside, TookAll}
+use Rattle.command_line.specs.declared.asked.Asked.{Asked}
+
+-- Every status that comes.
+abbrev pub IsStatus : ℕ → Type 0
+IsStatus status =
+    (status ≡ 0) ⊎ (status ≡ 2) ⊎ (status ≡ 3) ⊎ (status ≡ 4) ⊎ (status ≡ 5) ⊎ (status ≡ 6) ⊎ (status ≡ 7) ⊎ (status ≡ 8)
+
+-- No run ends with another one.
+abbrev pub EveryStatusIsNamed : Type 0 → Type 0 → Type 0
+EveryStatusIsNamed S K = (asked : Option Asked) (before after : Outside S K) (status : ℕ) → IsRun asked before after status
+    → IsStatus status
+
+-- Status 8 comes only where a day is asked for.
+abbrev pub OnlyDaysTell : Type 0 → Type 0 → Type 0
+OnlyDaysTell S K = (asked : Option Asked) (before after : Outside S K) → IsRun asked before after 8 → AsksForDay asked
 
 -- one is told of recalls, of all of them: it is through with none, and its object wrote this text
 pub record HasListener (text : List ℕ) (desk : DeskAt) : Type 0 where
@@ -30,8 +45,8 @@ pub record HeardAll {S K : Type 0} (text : List ℕ) (before after : Outside S K
 
 -- so it is after each run of a day that ends with status 0
 abbrev pub ListenersHearAll : Type 0 → Type 0 → Type 0
-ListenersHearAll S K = (text : List ℕ) (before after : Outside S K) → HasListener text before.desk
-    → IsRun (Some Day) before after 0 → HeardAll text before after
+ListenersHearAll S K = (text : List ℕ) (asked : Option Asked) (before after : Outside S K) → AsksForDay asked
+    → HasListener text before.desk → IsRun asked before after 0 → HeardAll text before after
 
 -- The history of a day of at most one actor is the one in which the commands of the file are carried out one after another, on
 -- one thread.

@@ -1,5 +1,9 @@
 pub mod Headline
-pub mod Tasks
-pub mod Outputs
+pub mod Command
+pub mod Check
+pub mod Day
+pub mod Made
+pub mod Commands
 pub mod Runs
+pub mod Endings
 pub mod Laws

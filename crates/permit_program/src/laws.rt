@@ -1,6 +1,16 @@
-// Laws of a day's run.
+// Laws of a run.
 
-ghost use Rattle.permit_program.specs.Laws.{ListenersHearAll, LoneDaysAreSerial};
+ghost use Rattle.permit_program.specs.Laws.{EveryStatusIsNamed, ListenersHearAll, LoneDaysAreSerial, OnlyDaysTell};
+
+/// Every run ends with 0 or with one of 2 to 8.
+pub fn every_status_is_named<S, K>()
+    ensures { EveryStatusIsNamed S K }
+{}
+
+/// A run ends with 8 only where a day is asked for.
+pub fn only_days_tell<S, K>()
+    ensures { OnlyDaysTell S K }
+{}
 
 /// A run of `day` that ends with 0 leaves a line for each recall: behind the text of a listener who is told of all, and nothing
 /// but these, in the order of the written history. So it is of standard error, where that tells what it holds.

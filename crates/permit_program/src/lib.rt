@@ -2,18 +2,24 @@
 //! status that it ends with.
 //!
 //! The program on top hands the words and the standard streams in, and the status out. Whoever has other words, another source
-//! or another sink calls [`run`] as it does. What a run gives is one record of definitions, `IsRun` in `specs/Runs.antt`; what
-//! the text is that a day's run writes stands on one page, `specs/Headline.antt`.
+//! or another sink calls [`run`] as it does. A command is a value, `Command` in `specs/Command.antt`: what it reads, how it
+//! refuses bytes, what it promises of its text, and whom it tells. What a run gives is one record over any command, `IsRun` in
+//! `specs/Runs.antt`; what the text is that a day's run writes stands on one page, `specs/Headline.antt`.
 #![tactic(auto)]
 
+mod check;
+mod commands;
+mod day;
 mod laws;
+mod made;
 mod notices;
-mod output;
+mod refusal;
 mod runs;
-mod task;
 
-pub use laws::{lone_days_are_serial, standard_error_has_a_line_for_each_recall};
+pub use laws::{
+    every_status_is_named, lone_days_are_serial, only_days_tell,
+    standard_error_has_a_line_for_each_recall,
+};
 pub use notices::{LineNotice, add_listener};
-pub use output::OutputRefusal;
+pub use refusal::Refusal;
 pub use runs::{Alone, refuse_words, run, run_alone};
-pub use task::Task;

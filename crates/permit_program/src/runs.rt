@@ -1,45 +1,26 @@
 // The top call.
 
-ghost use Rattle.std.specs.Prelude.{◌≡◌, ◌≤◌, ◌⊎◌, ℕ, Some, map, take};
+ghost use Rattle.std.specs.Prelude.{◌≡◌, ◌≢◌, ◌≤◌, ◌+◌, IfErr, IfOk, Some, length, map};
 ghost use Rattle.std.specs.String.{string_bytes};
-ghost use Rattle.std.specs.Io.KnownBytes.{Appends};
-ghost use Rattle.office_io.specs.Causes.{Rose};
+ghost use Rattle.office_io.specs.Causes.{TookAtMost, UnlessReadFault};
 ghost use Rattle.notice_desk.specs.Standings.{AreNew, standings};
-ghost use Rattle.permit_program.specs.Runs.{DeskAt, IsAlone, IsMade, IsRun, WroteLine, desk_at, outside_of, sink_at, usage_line};
-ghost use Rattle.refusal_text.specs.Lines.{refusal_line_of, status_of};
-ghost use Rattle.permit_program.specs.Tasks.{task_of};
-ghost use Rattle.permit_program.specs.declared.task.Task.TheVariants as task;
+ghost use Rattle.command_line.specs.Asking.{asked_of};
+ghost use Rattle.command_line.specs.declared.asked.Asked.{Asked};
+ghost use Rattle.command_line.specs.declared.asked.Task.TheVariants as task;
+ghost use Rattle.permit_program.specs.Runs.{DeskAt, IsAlone, IsRun, Took, WroteLine, desk_at, most_bytes};
+ghost use Rattle.permit_program.specs.Runs.{outside_of, sink_at, source_at, usage_line};
+ghost use Rattle.permit_program.specs.Endings.{AnswersRefusal, AnswersText, AnswersUnread, WasUnread};
 
-use crate::output::{OutputRefusal, check, day, make, trial};
-use crate::task::Task;
+use crate::commands::{make_text, reads};
+use crate::day::make_journal;
+use crate::refusal::Refusal;
 use analyst_pool::Gate;
-use command_line::{WordsRefusal, read_words};
-use names::NoMemory;
+use command_line::{Asked, Task, WordsRefusal, read_words};
 use notice_desk::{Notice, NoticeFault, Subscribers};
 use office_io::{ReadRefusal, Sink, Source, read_all, write_all};
-use refusal_text::{Cause, refusal_line, refusal_status};
 use std::alloc::Global;
 use std::sync::Wait;
 use std::thread::Threads;
-
-// The frame of the tasks that read: reads all that is left, and gives what is made of it, or ends the run.
-macro_rules! made_of_all {
-    ($alloc:expr, $source:expr, $sink:expr, $bytes:ident => $answer:expr) => {{
-        let $bytes = match read_all($alloc, $source, MOST_BYTES) {
-            Ok(bytes) => bytes,
-            Err(ReadRefusal::ReadFault) => return 3,
-            Err(ReadRefusal::TooLong) => return refuse($sink, b"refused: bytes\n", 6),
-            Err(ReadRefusal::NoMemory) => return 7,
-        };
-        match $answer {
-            Ok(made) => made,
-            Err(OutputRefusal::Refused { row, cause }) => {
-                return refuse_record($alloc, $sink, row, cause);
-            }
-            Err(OutputRefusal::NoMemory) => return 7,
-        }
-    }};
-}
 
 /// How a run ended that needs no threads, or that it is a day's.
 #[derive(Clone, Copy, Debug, PartialEq, Eq)]
@@ -51,8 +32,8 @@ pub enum Alone {
 // How many bytes are read at the most.
 const MOST_BYTES: u32 = 4_194_304;
 
-/// Answers the words of a command line: reads what the task reads from the source, writes what it writes to the sink, tells
-/// the subscribers of a day's recalls, and ends with its status.
+/// Answers the words of a command line: reads what the command reads from the source, writes what it makes of that to the sink,
+/// tells the subscribers of a day's recalls, and ends with its status.
 ///
 /// 0 is done; 2 words that ask for nothing; 3 a fault of the source; 4 a fault of the sink while the output was written;
 /// 5 a record that is bad; 6 a record that is one too many of its kind, or more than 4,194,304 bytes; 7 no memory; 8 a fault of
@@ -72,7 +53,7 @@ pub fn run<R: Threads + Wait + AllocGlobal + Sync, S: Source, K: Sink, G: Gate +
         let desk = desk_at (λ n. (⟦<dyn Notice as Notice>⟧ n.vtable).list n.value)
         (λ n. (⟦<dyn Notice as Notice>⟧ n.vtable).faults n.value)
         (λ n. (⟦<dyn Notice as Notice>⟧ n.vtable).text n.value) in
-        let asked = task_of (map string_bytes words.now) in
+        let asked = asked_of (map string_bytes words.now) in
         IsRun asked (outside source.old sink.old (desk notices.old)) (outside source.new sink.new (desk notices.new)) result }
 {
     match run_alone(rt, words, source, sink) {
@@ -90,7 +71,7 @@ pub fn run_alone<R: AllocGlobal, S: Source, K: Sink>(
     sink: &mut K,
 ) -> Alone
     ensures { let outside = outside_of S.left S.faults K.held K.faults in
-        let asked = task_of (map string_bytes words.now) in
+        let asked = asked_of (map string_bytes words.now) in
         (desk : DeskAt) → IsAlone asked (outside source.old sink.old desk) (outside source.new sink.new desk) result }
 {
     let alloc = rt.alloc();
@@ -99,11 +80,9 @@ pub fn run_alone<R: AllocGlobal, S: Source, K: Sink>(
         Err(WordsRefusal::Usage) => return Alone::Status(refuse_words(sink)),
         Err(WordsRefusal::NoMemory) => return Alone::Status(7),
     };
-    match Task::of(asked) {
-        Task::Check => Alone::Status(perform_check(alloc, source, sink)),
+    match asked.task {
         Task::Day => Alone::Day,
-        Task::Make { seed, size } => Alone::Status(perform_make(alloc, sink, seed, size)),
-        Task::Trial { seed, size } => Alone::Status(perform_trial(alloc, sink, seed, size)),
+        _ => Alone::Status(perform(alloc, asked, source, sink)),
     }
 }
 
@@ -120,16 +99,25 @@ pub fn refuse_words<K: Sink>(sink: &mut K) -> u8
     )
 }
 
-// Performs `check`: reads all that is left, and writes the report on it.
-fn perform_check<S: Source, K: Sink>(alloc: Global, source: &mut S, sink: &mut K) -> u8
+// Performs a command that needs no threads: takes what it reads, and writes what it makes of that.
+fn perform<S: Source, K: Sink>(alloc: Global, asked: Asked, source: &mut S, sink: &mut K) -> u8
+    requires alone { asked.task ≢ task.Day }
+    requires seed { asked.seed ≤ 65535 }
+    requires size { (1 ≤ asked.size) × (asked.size ≤ 40) }
     ensures { let outside = outside_of S.left S.faults K.held K.faults in
-        (desk : DeskAt) → IsRun (Some task.Check) (outside source.old sink.old desk) (outside source.new sink.new desk) result }
+        (desk : DeskAt) → IsRun (Some asked) (outside source.old sink.old desk) (outside source.new sink.new desk) result }
 {
-    let report = made_of_all!(alloc, source, sink, bytes => check(alloc, bytes.as_slice()));
-    write(sink, report.as_slice())
+    let bytes = match take_bytes(alloc, source, reads(asked)) {
+        Ok(bytes) => bytes,
+        Err(unread) => return end_unread(sink, unread),
+    };
+    match make_text(alloc, asked, bytes.as_slice()) {
+        Ok(text) => end_made(sink, text.as_slice()),
+        Err(refusal) => end_refused(sink, refusal),
+    }
 }
 
-// Performs `day`: reads all that is left, writes the journal of it, and tells of its recalls.
+// Performs `day`: takes all that is left, writes the journal of it, and tells of its recalls.
 fn perform_day<R: Threads + Wait + AllocGlobal + Sync, S: Source, K: Sink, G: Gate + Sync>(
     rt: &R,
     source: &mut S,
@@ -142,12 +130,20 @@ fn perform_day<R: Threads + Wait + AllocGlobal + Sync, S: Source, K: Sink, G: Ga
         let desk = desk_at (λ n. (⟦<dyn Notice as Notice>⟧ n.vtable).list n.value)
         (λ n. (⟦<dyn Notice as Notice>⟧ n.vtable).faults n.value)
         (λ n. (⟦<dyn Notice as Notice>⟧ n.vtable).text n.value) in
-        IsRun (Some task.Day) (outside source.old sink.old (desk notices.old))
+        (asked : Asked) → asked.task ≡ task.Day → IsRun (Some asked) (outside source.old sink.old (desk notices.old))
         (outside source.new sink.new (desk notices.new)) result }
 {
-    let day = made_of_all!(rt.alloc(), source, sink, bytes => day(rt, bytes.as_slice(), gate));
-    if write_all(sink, day.journal.as_slice()).is_err() {
-        return 4;
+    let bytes = match take_bytes(rt.alloc(), source, true) {
+        Ok(bytes) => bytes,
+        Err(unread) => return end_unread(sink, unread),
+    };
+    let day = match make_journal(rt, bytes.as_slice(), gate) {
+        Ok(day) => day,
+        Err(refusal) => return end_refused(sink, refusal),
+    };
+    let status = end_made(sink, day.journal.as_slice());
+    if status != 0 {
+        return status;
     }
     match notices.deliver(day.recalls.as_slice()) {
         Ok(()) => 0,
@@ -155,57 +151,51 @@ fn perform_day<R: Threads + Wait + AllocGlobal + Sync, S: Source, K: Sink, G: Ga
     }
 }
 
-// Performs `make`: writes the day file that is made from a number.
-fn perform_make<K: Sink>(alloc: Global, sink: &mut K, seed: u32, size: u32) -> u8
-    requires seed { seed ≤ 65535 }
-    requires size { (1 ≤ size) × (size ≤ 40) }
-    ensures { let sink_at = sink_at K.held K.faults in
-        IsMade (task.Make seed size) (sink_at sink.old) (sink_at sink.new) result }
+// Takes what a command reads: all that is left, or nothing.
+fn take_bytes<S: Source>(alloc: Global, source: &mut S, reads: bool) -> Result<Vec<u8>, ReadRefusal>
+    ensures took { let source_at = source_at S.left S.faults in
+        IfOk result (λ bytes. Took reads (source_at source.old) (source_at source.new) bytes.items) }
+    ensures few { IfOk result (λ bytes. length bytes.items ≤ most_bytes) }
+    ensures unread { let source_at = source_at S.left S.faults in
+        IfErr result (WasUnread reads (source_at source.old) (source_at source.new)) }
+    ensures calm { IfOk result (λ bytes. S.faults source.new ≡ S.faults source.old) }
+    ensures most { TookAtMost (most_bytes + 1) (S.left source.old) (S.left source.new) }
 {
-    match make(alloc, seed, size) {
-        Ok(text) => write(sink, text.as_slice()),
-        Err(NoMemory) => 7,
+    if reads {
+        read_all(alloc, source, MOST_BYTES)
+    } else {
+        Ok(Vec::new(alloc))
     }
 }
 
-// Performs `trial`: writes the summary of the day that is made from a number.
-fn perform_trial<K: Sink>(alloc: Global, sink: &mut K, seed: u32, size: u32) -> u8
-    requires seed { seed ≤ 65535 }
-    requires size { (1 ≤ size) × (size ≤ 40) }
-    ensures { let sink_at = sink_at K.held K.faults in
-        IsMade (task.Trial seed size) (sink_at sink.old) (sink_at sink.new) result }
+// Ends a run whose bytes were not all read.
+fn end_unread<K: Sink>(sink: &mut K, unread: ReadRefusal) -> u8
+    ensures { let sink_at = sink_at K.held K.faults in AnswersUnread unread (sink_at sink.old) (sink_at sink.new) result }
 {
-    match trial(alloc, seed, size) {
-        Ok(text) => write(sink, text.as_slice()),
-        Err(NoMemory) => 7,
+    match unread {
+        ReadRefusal::ReadFault => 3,
+        ReadRefusal::TooLong => refuse(sink, b"refused: bytes\n", 6),
+        ReadRefusal::NoMemory => 7,
     }
 }
 
-// Writes what a task made: 0, or 4 where the sink fails.
-fn write<K: Sink>(sink: &mut K, text: &[u8]) -> u8
-    ensures all { result ≡ 0 → Appends (K.held sink.old) (K.held sink.new) text.now }
-    ensures stands { result ≡ 0 → K.faults sink.new ≡ K.faults sink.old }
-    ensures front { result ≡ 4
-        → (count : ℕ) × Appends (K.held sink.old) (K.held sink.new) (take count text.now) }
-    ensures failed { result ≡ 4 → Rose (K.faults sink.old) (K.faults sink.new) }
-    ensures statuses { (result ≡ 0) ⊎ (result ≡ 4) }
+// Ends a run whose bytes are refused.
+fn end_refused<K: Sink>(sink: &mut K, refusal: Refusal) -> u8
+    ensures { let sink_at = sink_at K.held K.faults in AnswersRefusal refusal (sink_at sink.old) (sink_at sink.new) result }
+{
+    match refusal {
+        Refusal::Refused { status, line } => refuse(sink, line.as_bytes(), status),
+        Refusal::NoMemory => 7,
+    }
+}
+
+// Writes what a command made: 0, or 4 where the sink fails.
+fn end_made<K: Sink>(sink: &mut K, text: &[u8]) -> u8
+    ensures { let sink_at = sink_at K.held K.faults in AnswersText text.now (sink_at sink.old) (sink_at sink.new) result }
 {
     match write_all(sink, text) {
         Ok(()) => 0,
         Err(_) => 4,
-    }
-}
-
-// Answers a refused record: writes its line, and ends with its status.
-fn refuse_record<K: Sink>(alloc: Global, sink: &mut K, row: u64, cause: Cause) -> u8
-    ensures status { (result ≡ status_of cause) ⊎ (result ≡ 7) }
-    ensures line { let sink_at = sink_at K.held K.faults in
-        result ≡ status_of cause → WroteLine (refusal_line_of row cause) (sink_at sink.old) (sink_at sink.new) }
-    ensures memory { result ≡ 7 → sink.new ≡ sink.old }
-{
-    match refusal_line(alloc, row, cause) {
-        Ok(line) => refuse(sink, line.as_bytes(), refusal_status(cause)),
-        Err(NoMemory) => 7,
     }
 }
 

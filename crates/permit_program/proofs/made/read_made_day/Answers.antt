@@ -1,7 +1,7 @@
 use Rattle.std.proofs.Common.{◌∙◌, ap}
 use Rattle.day_text.specs.Days.{day_of}
 use Rattle.permit_program.proofs.Only.{made_lacks}
-use Rattle.permit_program.proofs.output.read_made_day.Goals as goal
+use Rattle.permit_program.proofs.made.read_made_day.Goals as goal
 
 pub lack_memory-requires : goal.lack_memory-requires
 lack_memory-requires c =

@@ -1,0 +1,40 @@
+-- Which statuses come.
+use Rattle.std.proofs.Common.{◌≡◌, ◌⊎◌, ℕ, List, Option, Some, None, refl, sym, ap, ◌∙◌, inl, inr}
+use Rattle.command_line.specs.declared.asked.Asked.{Asked}
+use Rattle.command_line.specs.declared.asked.Task.{Task}
+use Rattle.command_line.specs.declared.asked.Task.TheVariants as task
+use Rattle.permit_program.specs.Commands.{command_by, command_of}
+use Rattle.permit_program.specs.Laws.{EveryStatusIsNamed, IsStatus, OnlyDaysTell}
+use Rattle.permit_program.specs.Runs.{IsPlain, IsRun, Outside, RefusedBytes, RefusedFile, WroteUntold}
+use Rattle.permit_program.proofs.Ends.{refusal_status}
+
+plain_named : (status : ℕ) → IsPlain status → IsStatus status
+plain_named status (inl e) = inl e
+plain_named status (inr (inl e)) = inr (inl e)
+plain_named status (inr (inr (inl e))) = inr (inr (inl e))
+plain_named status (inr (inr (inr (inl e)))) = inr (inr (inr (inl e)))
+plain_named status (inr (inr (inr (inr (inl e))))) = inr (inr (inr (inr (inr (inr (inl e))))))
+plain_named status (inr (inr (inr (inr (inr e))))) = inr (inr (inr (inr (inr (inr (inr e))))))
+
+five_or_six : (status : ℕ) → (status ≡ 5) ⊎ (status ≡ 6) → IsStatus status
+five_or_six status (inl e) = inr (inr (inr (inr (inl e))))
+five_or_six status (inr e) = inr (inr (inr (inr (inr (inl e)))))
+
+refused_named : {S K : Type 0} (status : ℕ) (a : Asked) (before after : Outside S K) → RefusedBytes status (command_of a) before after ⊎ RefusedFile status (command_of a) before after → IsStatus status
+refused_named status a before after (inl bytes) = five_or_six status (inr bytes.is_status)
+refused_named status a before after (inr refused) =
+    five_or_six status (elim (refusal_status a.task a.seed a.size refused.bytes refused.answer refused.refused) [ inl e ↦ inl (sym refused.is_status ∙ e) | inr e ↦ inr (sym refused.is_status ∙ e) ])
+
+pub all_named : {S K : Type 0} → EveryStatusIsNamed S K
+all_named None before after status run = elim run.refused [ inl plain ↦ plain_named status plain | inr none ↦ absurd none ]
+all_named (Some a) before after status run = elim run.refused [ inl plain ↦ plain_named status plain | inr refused ↦ refused_named status a before after refused ]
+
+tells : {S K : Type 0} (t : Task) (seed size : ℕ) (before after : Outside S K) → WroteUntold (command_by t seed size) before after → t ≡ task.Day
+tells task.Check seed size before after untold = let none = untold.made.told in absurd cc
+tells task.Day seed size before after untold = refl
+tells task.Make seed size before after untold = let none = untold.made.told in absurd cc
+tells task.Trial seed size before after untold = let none = untold.made.told in absurd cc
+
+pub only_days : {S K : Type 0} → OnlyDaysTell S K
+only_days None before after run = run.untold refl
+only_days (Some a) before after run = tells a.task a.seed a.size before after (run.untold refl)

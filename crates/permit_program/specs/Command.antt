@@ -1,0 +1,67 @@
+-- A command of the program, as a value: all that a run of it depends on.
+use Rattle.std.specs.Prelude.{◌≡◌, ℕ, Bool, List, Option, Some, None, option_map, Result, Ok, Err}
+use Rattle.std.specs.String.{string_bytes}
+use Rattle.day_text.specs.declared.refusal.DayFileRefusal.{DayFileRefusal}
+use Rattle.day_text.specs.declared.refusal.DayFileRefusal.TheVariants as file
+use Rattle.notice_desk.specs.declared.notice.Recall.{Recall}
+use Rattle.record_text.specs.declared.refusal.Cause.{Cause}
+use Rattle.record_text.specs.declared.refusal.Cause.TheVariants as why
+use Rattle.refusal_text.specs.Lines.{refusal_line_of, status_of}
+use Rattle.permit_program.specs.declared.refusal.Refusal.{Refusal}
+use Rattle.permit_program.specs.declared.refusal.Refusal.TheVariants.{NoMemory, Refused}
+
+-- how bytes are refused: with which status, and which line
+pub record Answer : Type 0 where
+  pub status : ℕ
+  pub line : List ℕ
+
+pub record Command : Type 1 where
+  -- whether it reads what the source has left; a command that does not has no bytes
+  pub reads : Bool
+  -- how it refuses bytes, if it does
+  pub refusal : List ℕ → Option Answer
+  -- its promise about the text that it writes for bytes
+  pub IsOutput : List ℕ → List ℕ → Type 0
+  -- the bytes for which the promise leaves no choice
+  pub LeavesNoChoice : List ℕ → Type 0
+  -- the recalls that are told behind a text, or that nobody is told anything
+  pub recalls : (bytes text : List ℕ) → IsOutput bytes text → Option (List Recall)
+
+-- A command makes this text of these bytes: it does not refuse them, the text keeps its promise, and no other text does where
+-- the promise leaves no choice.
+pub record Makes (command : Command) (bytes text : List ℕ) : Type 0 where
+  pub taken : command.refusal bytes ≡ None
+  pub output : command.IsOutput bytes text
+  pub only : command.LeavesNoChoice bytes → (other : List ℕ) → command.IsOutput bytes other → other ≡ text
+
+-- and these are the recalls that are told behind it
+pub record MakesAndTells (command : Command) (bytes text : List ℕ) (recalls : List Recall) : Type 0 where
+  pub made : Makes command bytes text
+  pub told : command.recalls bytes text made.output ≡ Some recalls
+
+-- A command refuses the bytes in just this way, unless memory was wanting.
+abbrev pub IsRefusalOf : Command → List ℕ → Refusal → Type 0
+IsRefusalOf command bytes (Refused status line) =
+    command.refusal bytes ≡ Some (record { status = status; line = string_bytes line })
+IsRefusalOf command bytes NoMemory = Unit {0}
+
+-- how a refused record is answered
+abbrev pub answer_to : ℕ × Cause → Answer
+answer_to (row, cause) = record { status = status_of cause; line = refusal_line_of row cause }
+
+-- how a file is refused, if it is: by the row of its first refused record, and the first cause that holds for it
+abbrev pub refusal_in : {T : Type 0} → Result T (ℕ × Cause) → Option Answer
+refusal_in (Ok file) = None
+refusal_in (Err refused) = Some (answer_to refused)
+
+-- where a file of bytes is refused, if not for want of memory
+abbrev pub refused_at : DayFileRefusal → Option (ℕ × Cause)
+refused_at (file.BadRecord row cause) = Some (row, why.Bad cause)
+refused_at (file.TooMany row kind) = Some (row, why.TooMany kind)
+refused_at file.NoMemory = None
+
+-- a refused file is answered in this way, unless memory was wanting
+abbrev pub IsAnswerTo : DayFileRefusal → Refusal → Type 0
+IsAnswerTo refused (Refused status line) =
+    option_map answer_to (refused_at refused) ≡ Some (record { status = status; line = string_bytes line })
+IsAnswerTo refused NoMemory = Unit {0}

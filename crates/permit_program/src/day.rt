@@ -1,0 +1,49 @@
+// What `day` makes: the journal of an office's day, and its recalls.
+
+ghost use Rattle.std.specs.Prelude.{IfErr, IfOk};
+ghost use Rattle.permit_program.specs.Command.{IsRefusalOf, MakesAndTells};
+ghost use Rattle.permit_program.specs.Day.{day};
+
+use crate::refusal::Refusal;
+use analyst_pool::Gate;
+use day_run::{lone_actors_are_one, serve};
+use day_text::{DayFile, read_day};
+use journal_text::print;
+use names::NoMemory;
+use notice_desk::Recall;
+use office_core::recalls;
+use std::alloc::Global;
+use std::sync::Wait;
+use std::thread::Threads;
+
+/// A day that is over: its journal, and the recalls of its history.
+#[derive(Drop)]
+pub(crate) struct DayOutput {
+    pub(crate) journal: Vec<u8>,
+    pub(crate) recalls: Vec<Recall>,
+}
+
+/// The journal of the day file that the bytes are, and its recalls: of an office whose actors carried out their commands, each
+/// on a thread of its own. The gate is told how far each actor is.
+///
+/// It waits until all actors are done.
+pub(crate) fn make_journal<R: Threads + Wait + AllocGlobal + Sync, G: Gate + Sync>(
+    rt: &R,
+    bytes: &[u8],
+    gate: &G,
+) -> Result<DayOutput, Refusal>
+    ensures made { IfOk result (λ output. MakesAndTells day bytes.now output.journal.items output.recalls.items) }
+    ensures refused { IfErr result (IsRefusalOf day bytes.now) }
+{
+    let alloc = rt.alloc();
+    let file = match read_day(alloc, bytes) {
+        Ok(file) => file,
+        Err(refused) => return Err(Refusal::of_file(alloc, refused)),
+    };
+    let office = serve(rt, file, gate)?;
+    // the law by which no other history serves a day of one actor
+    lone_actors_are_one();
+    let journal = print(alloc, office.history())?;
+    let recalls = recalls(alloc, office.base(), office.history())?;
+    Ok(DayOutput { journal, recalls })
+}

@@ -1,0 +1,50 @@
+// How bytes are refused.
+
+ghost use Rattle.std.specs.Prelude.{◌≡◌};
+ghost use Rattle.permit_program.specs.Command.{IsAnswerTo};
+ghost use Rattle.permit_program.specs.declared.refusal.Refusal.TheVariants as refusal;
+
+use day_text::DayFileRefusal;
+use names::NoMemory;
+use refusal_text::{Cause, refusal_line, refusal_status};
+use std::alloc::Global;
+use thiserror::Error;
+
+/// Why a command makes nothing of bytes.
+#[derive(Debug, Drop, Error)]
+pub enum Refusal {
+    /// It refuses them: the status that the program ends with, and the line that it writes.
+    #[error("the bytes are refused, with status {status}")]
+    Refused { status: u8, line: String },
+    /// No memory was left.
+    #[error("out of memory")]
+    NoMemory,
+}
+
+impl Refusal {
+    /// How a refused file is answered: by the row of its first refused record, and the first cause that holds for it.
+    pub(crate) fn of_file(alloc: Global, refused: DayFileRefusal) -> Refusal
+        ensures { IsAnswerTo refused result }
+    {
+        let (row, cause) = match refused {
+            DayFileRefusal::BadRecord { row, cause } => (row, Cause::Bad(cause)),
+            DayFileRefusal::TooMany { row, kind } => (row, Cause::TooMany(kind)),
+            DayFileRefusal::NoMemory => return Refusal::NoMemory,
+        };
+        match refusal_line(alloc, row, cause) {
+            Ok(line) => Refusal::Refused {
+                status: refusal_status(cause),
+                line,
+            },
+            Err(NoMemory) => Refusal::NoMemory,
+        }
+    }
+}
+
+impl From<NoMemory> for Refusal {
+    ghost from_gives = { λ _ r. r ≡ refusal.NoMemory };
+
+    fn from(_e: NoMemory) -> Refusal {
+        Refusal::NoMemory
+    }
+}
