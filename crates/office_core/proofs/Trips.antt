@@ -207,25 +207,42 @@ pub record IsMeeting (base : BaseLists) (state : InForce) (truck : ℕ) (f : ℕ
   pub high : s < a + k
   pub passes : f s ≡ true
   pub meets : is_passable base state truck s ≡ true
+  pub least : (j : ℕ) → a ≤ j → f j ≡ true → is_passable base state truck j ≡ true → s ≤ j
 
-meet_some : (b : Bool) (a s : ℕ) (rest : Option ℕ) → (if b then Some a else rest) ≡ Some s → ((b ≡ true) × (a ≡ s)) ⊎ (rest ≡ Some s)
+meet_some : (b : Bool) (a s : ℕ) (rest : Option ℕ) → (if b then Some a else rest) ≡ Some s → ((b ≡ true) × (a ≡ s)) ⊎ ((b ≡ false) × (rest ≡ Some s))
 meet_some true a s rest e = inl (refl, cc)
-meet_some false a s rest e = inr e
+meet_some false a s rest e = inr (refl, e)
 
 pub meeting_is : (base : BaseLists) (state : InForce) (truck : ℕ) (f : ℕ → Bool) (a k s : ℕ) → first_meeting base state truck (filter f (range_with_len a k)) ≡ Some s → IsMeeting base state truck f a k s
 meeting_is base state truck f a zero s e = cc
-meeting_is base state truck f a (suc k) s e = by (f a) refl e (λ later. more (meeting_is base state truck f (a + 1) k s later))
+meeting_is base state truck f a (suc k) s e = by (f a) refl e (meeting_is base state truck f (a + 1) k s)
   where
-    more : IsMeeting base state truck f (a + 1) k s → IsMeeting base state truck f a (suc k) s
-    more h = record { low = omega (arith, h.low); high = omega (arith, h.high); passes = h.passes; meets = h.meets }
+    -- past a number that does not pass, or whose segment does not meet
+    more : (f a ≡ true → is_passable base state truck a ≡ true → ⊥) → IsMeeting base state truck f (a + 1) k s → IsMeeting base state truck f a (suc k) s
+    more off h = record {
+      low = omega (arith, h.low);
+      high = omega (arith, h.high);
+      passes = h.passes;
+      meets = h.meets;
+      least = λ j low on met. elim (cases_eq j a) [
+        | inl same ↦ absurd (off (ap f (sym same) ∙ on) (ap (is_passable base state truck) (sym same) ∙ met))
+        | inr other ↦ h.least j (omega (arith, low, other)) on met
+      ];
+    }
 
     by : (b : Bool) → f a ≡ b → first_meeting base state truck (cond b (a ∷ filter f (range_with_len (a + 1) k)) (filter f (range_with_len (a + 1) k))) ≡ Some s
-        → (first_meeting base state truck (filter f (range_with_len (a + 1) k)) ≡ Some s → IsMeeting base state truck f a (suc k) s) → IsMeeting base state truck f a (suc k) s
+        → (first_meeting base state truck (filter f (range_with_len (a + 1) k)) ≡ Some s → IsMeeting base state truck f (a + 1) k s) → IsMeeting base state truck f a (suc k) s
     by true fa e again = elim (meet_some (is_passable base state truck a) a s (first_meeting base state truck (filter f (range_with_len (a + 1) k))) e) [
-      | inl here ↦ record { low = omega (arith, here.1); high = omega (arith, here.1); passes = ap f (sym here.1) ∙ fa; meets = ap (is_passable base state truck) (sym here.1) ∙ here.0 }
-      | inr later ↦ again later
+      | inl here ↦ record {
+        low = omega (arith, here.1);
+        high = omega (arith, here.1);
+        passes = ap f (sym here.1) ∙ fa;
+        meets = ap (is_passable base state truck) (sym here.1) ∙ here.0;
+        least = λ j low on met. omega (arith, here.1, low);
+      }
+      | inr later ↦ more (λ on met. false≢true (sym later.0 ∙ met)) (again later.1)
     ]
-    by false fa e again = again e
+    by false fa e again = more (λ on met. false≢true (sym fa ∙ on)) (again e)
 
 none_left : (f : ℕ → Bool) (a k : ℕ) → filter f (range_with_len a k) ≡ [] → (s : ℕ) → a ≤ s → s < a + k → f s ≡ true → ⊥
 none_left f a zero e s low high on = omega (arith, low, high)

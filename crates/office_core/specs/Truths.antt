@@ -1,10 +1,11 @@
 -- What is so where an application is answered, in words of the entries before the answer.
-use Rattle.std.specs.Prelude.{◌≡◌, ℕ, ◌+◌, ◌<◌, ◌≤◌, true, false, ◌∷◌, ◌++◌, length, All}
+use Rattle.std.specs.Prelude.{◌≡◌, ◌↔◌, ◌⊎◌, ℕ, ◌+◌, ◌<◌, ◌≤◌, true, false, ◌∷◌, ◌++◌, length, All}
 use Rattle.std.specs.Prelude.{Option, Some, None}
 use Rattle.restriction_log.specs.States.{InForce}
 use Rattle.clearance_rules.specs.Loads.{IsLegal}
 use Rattle.clearance_rules.specs.declared.limit.Limit.{Limit}
-use Rattle.clearance_rules.specs.Failing.{Fails, segment_of}
+use Rattle.clearance_rules.specs.Failing.{segment_of}
+use Rattle.clearance_rules.specs.Order.{FailsFirst}
 use Rattle.permit_days.specs.Days.{is_before}
 use Rattle.trip_analysis.specs.Applications.{Sound}
 use Rattle.trip_analysis.specs.Bases.{BaseLists, truck_of}
@@ -12,14 +13,14 @@ use Rattle.trip_analysis.specs.declared.application.Application.{Application}
 use Rattle.trip_analysis.specs.declared.finding.Proposal.{Proposal}
 use Rattle.trip_analysis.specs.declared.finding.What.{What}
 use Rattle.trip_analysis.specs.declared.finding.What.TheVariants as what
-use Rattle.trip_analysis.specs.Findings.{is_in, limit_for}
+use Rattle.trip_analysis.specs.Findings.{is_in}
 use Rattle.office_words.specs.declared.entry.Call.{Call}
 use Rattle.office_words.specs.declared.entry.Call.TheVariants as call
 use Rattle.office_words.specs.declared.entry.Cause.{Cause}
 use Rattle.office_words.specs.declared.entry.Cause.TheVariants as cause
 use Rattle.office_core.specs.Clearances.{MeetsTruck}
-use Rattle.office_core.specs.Passages.{IsPassableWalk, IsRoadWalk, IsShortest, LeadsOut}
-use Rattle.office_core.specs.Happened.{Day, History, Route, application_in, day_after, issued_in}
+use Rattle.office_core.specs.Passages.{IsPassableWalk, IsRoadWalk, IsShortest, LeadsOut, Reaches}
+use Rattle.office_core.specs.Happened.{Day, History, Numbers, Route, application_in, day_after, issued_in}
 use Rattle.office_core.specs.Happened.{seen_by, state_after, state_at_version, state_seen, version_after}
 
 -- a call asks for a trip that can be asked for: its truck and its nodes are there, an asked route is a walk
@@ -49,13 +50,12 @@ pub record TruePermit (base : BaseLists) (day : Day) (front : History) (c : Call
   pub needed : IsLegal (truck_of base trip.truck).load → ⊥
   pub on_time : is_before trip.first (day_after day front) ≡ false
 
--- the limit is the first failing one of a segment that is there, in the order of closed, height, width,
--- length, gross weight, groups of axles, and the spans by moment and shear; and its two sides are those
--- that fail
+-- the limit is one of a segment that is there, and the first that fails the truck on it: it fails, with these
+-- two sides, and none that comes before it does, in the order of closed, height, width, length, gross weight,
+-- groups of axles, and the spans by moment and shear
 pub record IsFirstLimit (base : BaseLists) (state : InForce) (truck : ℕ) (l : Limit) : Type 0 where
   pub there : segment_of l < length base.roads.segments
-  pub first : limit_for base state truck (segment_of l) ≡ Some l
-  pub fails : Fails base.roads state (truck_of base truck).load l
+  pub first : FailsFirst base.roads state (truck_of base truck).load (segment_of l) l
 
 -- the segment is the first on the route that failed the truck
 pub record FailedFirst (base : BaseLists) (state : InForce) (truck s : ℕ) (route : Route) : Type 0 where
@@ -80,15 +80,19 @@ abbrev pub StandsInTheWay : BaseLists → InForce → InForce → Application �
 StandsInTheWay base before now a s (Some route) = FailedFirst base before a.truck s route
 StandsInTheWay base before now a s None = IsShutIn base before now a s
 
--- a refusal names the current version, and the first failing limit then of a segment that stands in the way
-pub record TrueRefusal (base : BaseLists) (front : History) (c : Call) (v : ℕ) (l : Limit) : Type 0 where
-  pub trip : Application
-  pub asked : AsksFor base c trip
-  pub version : v ≡ version_after front
-  pub limit : IsFirstLimit base (state_after base front) trip.truck l
-  pub seen : seen_by front c ≤ v
-  pub stands : StandsInTheWay base (state_seen base front c) (state_after base front) trip (segment_of l)
-      trip.asked
+-- a refusal names the current version, and the first failing limit then of a segment that stands in the way.
+-- The truck is not legal without a permit, and the trip does not begin before the day
+pub record TrueRefusal (base : BaseLists) (day : Day) (front : History) (c : Call) (v : ℕ) (l : Limit) : Type 0
+  where
+    pub trip : Application
+    pub asked : AsksFor base c trip
+    pub version : v ≡ version_after front
+    pub limit : IsFirstLimit base (state_after base front) trip.truck l
+    pub seen : seen_by front c ≤ v
+    pub stands : StandsInTheWay base (state_seen base front c) (state_after base front) trip (segment_of l)
+        trip.asked
+    pub needed : IsLegal (truck_of base trip.truck).load → ⊥
+    pub on_time : is_before trip.first (day_after day front) ≡ false
 
 -- where it is said that there is no road, no walk of the trip is there, whatever is posted
 pub record TrueNoRoad (base : BaseLists) (c : Call) : Type 0 where
@@ -96,28 +100,51 @@ pub record TrueNoRoad (base : BaseLists) (c : Call) : Type 0 where
   pub asked : AsksFor base c trip
   pub none : (route : Route) → IsRoadWalk base trip.from trip.to route → ⊥
 
--- a segment of the route that was proposed met the truck then, and now this is its first failing limit
-pub record FailsSince (base : BaseLists) (before now : InForce) (truck : ℕ) (w : What) (l : Limit) : Type 0
+-- the route that was proposed was one of the trip then, and each segment of it met the truck; now this is the
+-- first failing limit of the first segment on it that fails
+pub record FailsSince (base : BaseLists) (before now : InForce) (a : Application) (w : What) (l : Limit)
+    : Type 0 where
+  pub route : Route
+  pub proposed : w ≡ what.Route route
+  pub found : WasFound base before a route a.asked
+  pub met : MeetsTruck base before a.truck (segment_of l)
+  pub fails : FailedFirst base now a.truck (segment_of l) route
+  pub limit : IsFirstLimit base now a.truck l
+
+-- the segment that was proposed to fail was the first on the asked route that did
+pub record StoodOnRoute (base : BaseLists) (before : InForce) (a : Application) (w : What) (s : ℕ) : Type 0
   where
+    pub proposed : w ≡ what.Fails s
     pub route : Route
-    pub proposed : w ≡ what.Route route
-    pub on : is_in (segment_of l) route ≡ true
-    pub met : MeetsTruck base before truck (segment_of l)
-    pub limit : IsFirstLimit base now truck l
+    pub asked : a.asked ≡ Some route
+    pub failed : FailedFirst base before a.truck s route
 
--- a segment failed the truck then, and meets it now
-pub record MeetsSince (base : BaseLists) (before now : InForce) (truck s : ℕ) : Type 0 where
-  pub there : s < length base.roads.segments
-  pub failed : MeetsTruck base before truck s → ⊥
-  pub meets : MeetsTruck base now truck s
+-- no route was asked for, and the nodes of the cut that was proposed were all that the truck reached. The
+-- segment has the least number of those that led out of them and meet the truck now
+pub record LedOutOfCut (base : BaseLists) (before now : InForce) (a : Application) (w : What) (s : ℕ) : Type 0
+  where
+    pub nodes : Numbers
+    pub proposed : w ≡ what.Cut nodes
+    pub unasked : a.asked ≡ None
+    pub cut : (node : ℕ) → (is_in node nodes ≡ true) ↔ Reaches base before a.truck a.from node
+    pub out : LeadsOut base before a.truck a.from s
+    pub least : (k : ℕ) → LeadsOut base before a.truck a.from k → MeetsTruck base now a.truck k → s ≤ k
 
--- what was proposed does not hold any more
-abbrev pub HasChanged : BaseLists → InForce → InForce → ℕ → What → Cause → Type 0
-HasChanged base before now truck w (cause.NowFails l) = FailsSince base before now truck w l
-HasChanged base before now truck w (cause.NowMeets s) = MeetsSince base before now truck s
+-- a segment that stood in the way of the trip failed the truck then, and meets it now
+pub record MeetsSince (base : BaseLists) (before now : InForce) (a : Application) (w : What) (s : ℕ) : Type 0
+  where
+    pub there : s < length base.roads.segments
+    pub stood : StoodOnRoute base before a w s ⊎ LedOutOfCut base before now a w s
+    pub failed : MeetsTruck base before a.truck s → ⊥
+    pub meets : MeetsTruck base now a.truck s
 
--- only a proposal is out of date. It was found for an earlier version than the current one, which is named,
--- and what made it false since is so
+-- what was proposed for a trip does not hold any more
+abbrev pub HasChanged : BaseLists → InForce → InForce → Application → What → Cause → Type 0
+HasChanged base before now a w (cause.NowFails l) = FailsSince base before now a w l
+HasChanged base before now a w (cause.NowMeets s) = MeetsSince base before now a w s
+
+-- only a proposal is out of date. It was found for an earlier version than the current one, which is named;
+-- and the cause that is named is one of its route, or of what stood in its way, and made it false since
 pub record TrueOutdated (base : BaseLists) (front : History) (c : Call) (v : ℕ) (why : Cause) : Type 0 where
   pub trip : Application
   pub proposal : Proposal
@@ -125,8 +152,8 @@ pub record TrueOutdated (base : BaseLists) (front : History) (c : Call) (v : ℕ
   pub sound : Sound base trip
   pub version : v ≡ version_after front
   pub later : proposal.seen < v
-  pub changed : HasChanged base (state_at_version base front proposal.seen) (state_after base front)
-      trip.truck proposal.what why
+  pub changed : HasChanged base (state_at_version base front proposal.seen) (state_after base front) trip
+      proposal.what why
 
 -- a trip is late where it begins before the day, which is named
 pub record TrueLate (base : BaseLists) (day : Day) (front : History) (c : Call) (named : Day) : Type 0 where
