@@ -9,14 +9,16 @@
   The spans are those that the tests of `hs20_truck` have. 1,524.0 stands for an exact 1,523.92, so they are compared to
   less than a tenth.
 
-Two more things are tried on the model: that no second spacing of HS20-44 from 14 to 30 ft exceeds 14 ft, and that no
-place of some trucks, at whole and at half inches, exceeds the peaks.
+Three more things are tried on the model: that no second spacing of HS20-44 from 14 to 30 ft exceeds 14 ft; that no
+place of some trucks, at whole and at half inches, exceeds the peaks; and that no places of two trucks with at least a
+gap between them, at half inches, exceed the peaks of the two with just that gap.
 """
 import subprocess
 from collections.abc import Iterator, Sequence
+from fractions import Fraction
 from typing import NamedTuple
 
-from model.bridges import HS20, design, moment, peak_moment, peak_shear
+from model.bridges import HS20, closest, design, moment, peak_moment, peak_shear
 from model.files import CheckFile
 from model.limits import Axles
 from model.report import report
@@ -187,9 +189,36 @@ def wrong_peaks() -> Iterator[str]:
             yield f"model: {most} over a span of {span} in is not the peak"
 
 
+def done_at(axles: Axles, span: int, lead: int) -> list[Fraction]:
+    """What a truck does at a lead in half inches: both reactions, and the moment at each section."""
+    end = 2 * span
+    on = [(lead + 2 * place, weight) for place, weight in axles if 0 <= lead + 2 * place <= end]
+    left = Fraction(sum(weight * (end - x) for x, weight in on), end)
+    right = Fraction(sum(weight * x for x, weight in on), end)
+    return [left, right, *(moment(axles, span, 2, lead, section) for section in range(end + 1))]
+
+
+def wrong_convoys() -> Iterator[str]:
+    """No places of two trucks that keep a gap exceed the peaks of the two with just that gap."""
+    convoys: list[tuple[Axles, int, int]] = [
+        ([(0, 8), (2, 32), (5, 32)], 1, 7), ([(0, 5), (3, 7), (4, 2)], 2, 9), ([(0, 3), (6, 4)], 4, 5),
+    ]
+    for axles, gap, span in convoys:
+        # at the last of these leads a truck is off the span, as it is at each one behind it
+        first, last, spacing = -2 * axles[-1][0], 2 * span + 1, 2 * (axles[-1][0] + gap)
+        done = {lead: done_at(axles, span, lead) for lead in range(first, last + 1)}
+        together = [[a + b for a, b in zip(done[lead], done[later])]
+                    for lead in done for later in (*range(lead + spacing, last), last)]
+        shear = max(max(both[:2]) for both in together)
+        most = max(max(both[2:]) for both in together)
+        train = closest(axles, 2, gap)
+        if most > peak_moment(train, span)[0] or shear > peak_shear(train, span)[0]:
+            yield f"model: two trucks with more than {gap} in between them exceed those with {gap} on {span} in"
+
+
 def compared(program: str) -> tuple[int, list[str]]:
     """How many rows were compared, and what is wrong."""
-    wrong = [*wrong_spacing(), *wrong_peaks()]
+    wrong = [*wrong_spacing(), *wrong_peaks(), *wrong_convoys()]
     for tried, name in ((program, "program"), (None, "model")):
         wrong += [*wrong_formula(tried, name), *wrong_aashto(tried, name)]
     return len(list(formula_rows())) + len(list(aashto_rows())), wrong

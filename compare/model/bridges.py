@@ -106,6 +106,12 @@ def peak_shear(axles: Axles, span: int) -> tuple[Fraction, End]:
     return most, where
 
 
+def closest(axles: Axles, trucks: int, gap: int) -> Axles:
+    """So many equal trucks that follow each other with exactly this gap, as one truck."""
+    spacing = axles[-1][0] + gap
+    return [(truck * spacing + place, weight) for truck in range(trucks) for place, weight in axles]
+
+
 @functools.lru_cache(maxsize=None)
 def design(span: int) -> Effects:
     """The peaks of HS20-44. Of its second spacings, from 14 to 30 ft, the least is the worst."""

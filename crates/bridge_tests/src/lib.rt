@@ -5,6 +5,8 @@
 #![tactic(auto)]
 
 #[cfg(test)]
+mod convoys;
+#[cfg(test)]
 mod design_truck;
 #[cfg(test)]
 mod divisors;

@@ -1,0 +1,4 @@
+pub mod Unimodal
+pub mod Closing
+pub mod Together
+pub mod Closest

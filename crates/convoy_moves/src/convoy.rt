@@ -1,0 +1,117 @@
+// A convoy, and what it does to a span.
+
+ghost use Rattle.std.specs.Prelude.{◌≡◌, ◌≤◌, ◌↔◌, IfOk, IsErrOf, IsOk};
+ghost use Rattle.influence_line.specs.Fractions.{IsSmall};
+ghost use Rattle.influence_line.specs.Peaks.{IsPeakMoment, IsPeakShear};
+ghost use Rattle.moment_peak.specs.PeakMoment.{peak_moment_of};
+ghost use Rattle.shear_peak.specs.PeakShear.{peak_shear_of};
+ghost use Rattle.convoy_moves.specs.Convoys.{IsConvoyPlaced, StandsAsConvoy, closest_axles, convoy_of};
+ghost use Rattle.convoy_moves.specs.Refusals.{FitsTogether, HasTooManyAxles, IsTooHeavy, IsTooLong};
+
+use crate::closed_up::closed_up;
+use crate::refusal::ConvoyRefusal;
+use axle_train::Train;
+use influence_line::{Frac, Placements};
+use std::marker::Model;
+
+/// Two to 16 equal trucks that follow each other, each at least a stated gap behind the one in front, from the last axle
+/// of that one to its own first axle. Contracts see the axles of one truck, the number of trucks and the gap.
+#[derive(Drop)]
+pub struct Convoy {
+    truck: Train,
+    trucks: u32,
+    gap: u32,
+    // all trucks with just the gap between them
+    closest: Train,
+}
+
+impl Model for Convoy {
+    ghost use Rattle.convoy_moves.specs.Convoys.{EqualTrucks, IsKept, convoy_of};
+
+    ghost Value = { EqualTrucks };
+
+    ghost view = { λ c. convoy_of c.truck c.trucks c.gap };
+
+    ghost invariant = { λ c. IsKept (convoy_of c.truck c.trucks c.gap) c.closest };
+}
+
+impl Convoy {
+    /// A convoy of `trucks` trucks with these axles and at least `gap` inches between two of them, or the first limit
+    /// that they pass together. Takes no memory.
+    pub fn new(train: &Train, trucks: u32, gap: u32) -> Result<Convoy, ConvoyRefusal>
+        requires several { 2 ≤ trucks }
+        requires few { trucks ≤ 16 }
+        requires apart { 1 ≤ gap }
+        requires near { gap ≤ 3000 }
+        ensures ok { IfOk result (λ convoy. convoy ≡ convoy_of train.now trucks gap) }
+        ensures accepted { IsOk result ↔ FitsTogether (convoy_of train.now trucks gap) }
+        ensures too_many_axles { IsErrOf result ConvoyRefusal.TooManyAxles ↔ HasTooManyAxles (convoy_of train.now trucks gap) }
+        ensures too_long { IsErrOf result ConvoyRefusal.TooLong ↔ IsTooLong (convoy_of train.now trucks gap) }
+        ensures gross { IsErrOf result ConvoyRefusal.Gross ↔ IsTooHeavy (convoy_of train.now trucks gap) }
+    {
+        let len = train.len();
+        if trucks as usize * len > 32 {
+            return Err(ConvoyRefusal::TooManyAxles);
+        }
+        let last = train.axle(len - 1).place;
+        if trucks * last + (trucks - 1) * gap > 3000 {
+            return Err(ConvoyRefusal::TooLong);
+        }
+        if trucks * train.gross() > 2000000 {
+            return Err(ConvoyRefusal::Gross);
+        }
+        Ok(Convoy {
+            truck: copy(train),
+            trucks,
+            gap,
+            closest: closed_up(train, trucks, gap),
+        })
+    }
+
+    /// The closest convoy as one train: all trucks, with exactly that gap between two of them. Takes no memory.
+    pub fn closest(&self) -> &Train
+        ensures axles { result.now ≡ closest_axles self.now }
+        ensures placed { StandsAsConvoy self.now result.now }
+    {
+        &self.closest
+    }
+
+    /// The peak moment of the convoy on a span of `span` inches, over all of its placements, in pounds times inches: the
+    /// one of the closest convoy. Takes no memory.
+    pub fn moment(&self, span: u32) -> Frac
+        requires some { 1 ≤ span }
+        requires long { span ≤ 6000 }
+        ensures peak { IsPeakMoment (IsConvoyPlaced self.now) span result.num result.den }
+        ensures closest { result ≡ peak_moment_of (closest_axles self.now) span }
+        ensures small { IsSmall result }
+    {
+        moment_peak::value(&self.closest, span)
+    }
+
+    /// The peak end shear of the convoy on a span of `span` inches, over all of its placements, in pounds: the one of the
+    /// closest convoy. Takes no memory.
+    pub fn shear(&self, span: u32) -> Frac
+        requires some { 1 ≤ span }
+        requires long { span ≤ 6000 }
+        ensures peak { IsPeakShear (IsConvoyPlaced self.now) span result.num result.den }
+        ensures closest { result ≡ peak_shear_of (closest_axles self.now) span }
+        ensures small { IsSmall result }
+    {
+        shear_peak::peak(&self.closest, span).value
+    }
+}
+
+/// The placements of a convoy, over which its peaks are taken.
+impl Placements for Convoy {
+    ghost allowed = { IsConvoyPlaced };
+}
+
+/// A train of the same axles.
+fn copy(train: &Train) -> Train
+    ensures { result ≡ train.now }
+{
+    match train.clone() {
+        Ok(copy) => copy,
+        Err(_) => unreachable!(),
+    }
+}
