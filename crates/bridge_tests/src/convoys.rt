@@ -2,35 +2,13 @@ use crate::fixtures::same;
 use axle_train::{Axle, Train};
 use convoy_moves::Convoy;
 use hs20_truck::truck;
+use influence_line::{peak_moment_is_one, peak_shear_is_one};
 use std::process::Abort;
 use std::test::Fail;
 
-const fn axle(place: u32, weight: u32) -> Axle {
+fn axle(place: u32, weight: u32) -> Axle {
     Axle { place, weight }
 }
-
-// Five axles of 80,000 lb together, the last of them 612 inches behind the first.
-const FHWA: [Axle; 5] = [
-    axle(0, 12000),
-    axle(192, 17000),
-    axle(240, 17000),
-    axle(564, 17000),
-    axle(612, 17000),
-];
-
-const SHORT: [Axle; 2] = [axle(0, 62500), axle(1, 62500)];
-
-const LIGHT: [Axle; 3] = [axle(0, 1000), axle(1, 1000), axle(2, 1000)];
-
-const HEAVY: [Axle; 3] = [axle(0, 200000), axle(1, 200000), axle(2, 200000)];
-
-// 666,667 lb, a third of what a convoy may weigh and a third of a pound more.
-const THIRD: [Axle; 4] = [
-    axle(0, 200000),
-    axle(1, 200000),
-    axle(2, 200000),
-    axle(3, 66667),
-];
 
 // That so many trucks with this gap are a convoy, or the number of the refusal.
 fn refused(rt: &impl Abort, row: usize, axles: &[Axle], convoy: (u32, u32), wanted: Option<u32>) {
@@ -46,22 +24,40 @@ fn refused(rt: &impl Abort, row: usize, axles: &[Axle], convoy: (u32, u32), want
 
 #[test]
 fn refuses_what_is_no_train_together(rt: HostRuntime) {
+    // Five axles of 80,000 lb together, the last of them 612 inches behind the first.
+    let fhwa = [
+        axle(0, 12000),
+        axle(192, 17000),
+        axle(240, 17000),
+        axle(564, 17000),
+        axle(612, 17000),
+    ];
+    let short = [axle(0, 62500), axle(1, 62500)];
+    let light = [axle(0, 1000), axle(1, 1000), axle(2, 1000)];
+    let heavy = [axle(0, 200000), axle(1, 200000), axle(2, 200000)];
+    // 666,667 lb, a third of a pound more than a third of what a convoy may weigh.
+    let third = [
+        axle(0, 200000),
+        axle(1, 200000),
+        axle(2, 200000),
+        axle(3, 66667),
+    ];
     let rows: [(&[Axle], (u32, u32), Option<u32>); 10] = [
         // Just 32 axles and just 2,000,000 lb, and 33 axles.
-        (&SHORT, (16, 1), None),
-        (&LIGHT, (11, 1), Some(1)),
+        (&short, (16, 1), None),
+        (&light, (11, 1), Some(1)),
         // 2 * 612 + 1,776 = 3,000 inches, and one more.
-        (&FHWA, (2, 1776), None),
-        (&FHWA, (2, 1777), Some(2)),
+        (&fhwa, (2, 1776), None),
+        (&fhwa, (2, 1777), Some(2)),
         // 2 * 612 + 2,500 = 3,724 inches.
-        (&FHWA, (2, 2500), Some(2)),
+        (&fhwa, (2, 2500), Some(2)),
         // 3 * 666,667 = 2,000,001 lb.
-        (&THIRD, (3, 1), Some(3)),
-        (&THIRD, (2, 1), None),
+        (&third, (3, 1), Some(3)),
+        (&third, (2, 1), None),
         // 33 axles, 30,022 inches and 6,600,000 lb; then without one truck; then with a small gap.
-        (&HEAVY, (11, 3000), Some(1)),
-        (&HEAVY, (10, 3000), Some(2)),
-        (&HEAVY, (10, 1), Some(3)),
+        (&heavy, (11, 3000), Some(1)),
+        (&heavy, (10, 3000), Some(2)),
+        (&heavy, (10, 1), Some(3)),
     ];
     for (row, &(axles, convoy, wanted)) in rows.iter().enumerate() {
         refused(&rt, row, axles, convoy, wanted);
@@ -91,6 +87,8 @@ fn peaks_of_two_trucks_by_hand(rt: HostRuntime) -> Result<(), Fail> {
     // Never on the span at once: the peaks of one truck.
     let far = Convoy::new(&truck(), 2, 2328)?;
     peaks(&rt, &far, 240, 1920000, 41600);
+    peak_moment_is_one(&near);
+    peak_shear_is_one(&near);
     Ok(())
 }
 
