@@ -18,15 +18,18 @@ use Rattle.convoy_moves.proofs.Together.{within_spacing}
 back_at : (q inches place : ℕ) (lead : ℤ) → lead +ℤ pos (q * (inches + place)) ≡ (lead +ℤ pos (q * inches)) +ℤ pos (q * place)
 back_at q inches place lead = omega (arith, ints)
 
-moved_back_is : (q inches : ℕ) (lead : ℤ) (axles : List Axle) → placed q lead (moved_back inches axles) ≡ placed q (lead +ℤ pos (q * inches)) axles
+moved_back_is : (q inches : ℕ) (lead : ℤ) (axles : List Axle)
+    → placed q lead (moved_back inches axles) ≡ placed q (lead +ℤ pos (q * inches)) axles
 moved_back_is q inches lead [] = refl
 moved_back_is q inches lead (a ∷ rest) = rw (back_at q inches a.place lead, moved_back_is q inches lead rest) refl
 
--- the trucks from truck k on
+-- n trucks from truck k on, with exactly the gap between two of them, stand at even leads
 next_lead : (q k step : ℕ) (lead : ℤ) → lead +ℤ pos (q * ((k + 1) * step)) ≡ (lead +ℤ pos (q * (k * step))) +ℤ pos (q * step)
 next_lead q k step lead = omega (arith, ints)
 
-placed_together : (q step : ℕ) (lead : ℤ) (axles : List Axle) (k n : ℕ) → placed q lead (flat_map (λ k. moved_back (k * step) axles) (range_with_len k n)) ≡ convoy_loads q axles (even_leads (q * step) (lead +ℤ pos (q * (k * step))) n)
+placed_together : (q step : ℕ) (lead : ℤ) (axles : List Axle) (k n : ℕ)
+    → placed q lead (flat_map (λ k. moved_back (k * step) axles) (range_with_len k n))
+    ≡ convoy_loads q axles (even_leads (q * step) (lead +ℤ pos (q * (k * step))) n)
 placed_together q step lead axles k zero = refl
 placed_together q step lead axles k (suc n) =
     map-append _ (moved_back (k * step) axles) (flat_map (λ k. moved_back (k * step) axles) (range_with_len (k + 1) n))
@@ -35,7 +38,8 @@ placed_together q step lead axles k (suc n) =
 first_lead : (q step : ℕ) (lead : ℤ) → lead +ℤ pos (q * (0 * step)) ≡ lead
 first_lead q step lead = omega (arith, ints)
 
-closest_is : (q : ℕ) (lead : ℤ) (c : EqualTrucks) → placed q lead (closest_axles c) ≡ convoy_loads q c.axles (even_leads (q * truck_spacing c) lead c.trucks)
+closest_is : (q : ℕ) (lead : ℤ) (c : EqualTrucks)
+    → placed q lead (closest_axles c) ≡ convoy_loads q c.axles (even_leads (q * truck_spacing c) lead c.trucks)
 closest_is q lead c =
     placed_together q (truck_spacing c) lead c.axles 0 c.trucks
     ∙ ap (λ z. convoy_loads q c.axles (even_leads (q * truck_spacing c) z c.trucks)) (first_lead q (truck_spacing c) lead)
@@ -53,49 +57,66 @@ even_apart units lead zero = tt
 even_apart units lead (suc n) = even_behind units lead n
 
 -- the closest convoy, wherever it stands, is a placement of the convoy
-pub stands_as_convoy : (c : EqualTrucks) → StandsAsConvoy c (closest_axles c)
+stands_as_convoy : (c : EqualTrucks) → StandsAsConvoy c (closest_axles c)
 stands_as_convoy c q lead =
     let units = q * truck_spacing c in
     (even_leads units lead c.trucks, even_length units lead c.trucks, even_apart units lead c.trucks, closest_is q lead c)
 
--- for each placement of the convoy the closest convoy has a lead at which it gives no less
-no_less_somewhere : (line : ℤ → ℕ) (top : ℕ) → IsUnimodal line top → (c : EqualTrucks) → AllByRecursion (λ a. a.place ≤ truck_spacing c) c.axles → (q : ℕ) (leads : List ℤ) → length leads ≡ c.trucks → AreApart (q * truck_spacing c) leads → (from : ℤ) × (total (by_line line) (convoy_loads q c.axles leads) ≤ total (by_line line) (placed q from (closest_axles c)))
-no_less_somewhere line top hump c short q [] many apart = (pos 0, omega arith)
-no_less_somewhere line top hump c short q (lead ∷ rest) many apart =
+-- the closest convoy has a lead at which it gives no less than trucks at these leads
+abbrev GivesNoLess : (ℤ → ℕ) → EqualTrucks → ℕ → List ℤ → Type 0
+GivesNoLess line c q leads =
+    (from : ℤ) × (total (by_line line) (convoy_loads q c.axles leads) ≤ total (by_line line) (placed q from (closest_axles c)))
+
+-- it has one for each placement of the convoy
+gives_no_less : (line : ℤ → ℕ) (top : ℕ) → IsUnimodal line top
+    → (c : EqualTrucks) → AllByRecursion (λ a. a.place ≤ truck_spacing c) c.axles
+    → (q : ℕ) (leads : List ℤ) → length leads ≡ c.trucks → AreApart (q * truck_spacing c) leads → GivesNoLess line c q leads
+gives_no_less line top hump c short q [] many apart = (pos 0, omega arith)
+gives_no_less line top hump c short q (lead ∷ rest) many apart =
     let up = closes_up line top hump q (truck_spacing c) c.axles lead rest short apart in
-    let trucks = ap (λ n. of_trucks line q c.axles (even_leads (q * truck_spacing c) up.from n)) many in
+    let even = even_leads (q * truck_spacing c) up.from in
+    let trucks = ap (λ n. of_trucks line q c.axles (even n)) many in
     let train = ap (total (by_line line)) (closest_is q up.from c) in
-    (up.from, omega (arith, up.no_less, trucks, train, of_trucks_is line q c.axles (lead ∷ rest), of_trucks_is line q c.axles (even_leads (q * truck_spacing c) up.from c.trucks)))
+    let these = of_trucks_is line q c.axles (lead ∷ rest) in
+    (up.from, omega (arith, up.no_less, trucks, train, these, of_trucks_is line q c.axles (even c.trucks)))
 
 -- the peak moment of the closest convoy is that of all placements
-pub moment_of_all : (c : EqualTrucks) (span num den : ℕ) → AllByRecursion (λ a. a.place ≤ truck_spacing c) c.axles → IsPeakMoment (IsTrainPlaced (closest_axles c)) span num den → IsPeakMoment (IsConvoyPlaced c) span num den
+moment_of_all : (c : EqualTrucks) (span num den : ℕ) → AllByRecursion (λ a. a.place ≤ truck_spacing c) c.axles
+    → IsPeakMoment (IsTrainPlaced (closest_axles c)) span num den → IsPeakMoment (IsConvoyPlaced c) span num den
 moment_of_all c span num den short h =
     let r = h.reached in
     record {
       some = h.some;
       reached = (r.0, r.1, r.2, r.3, r.4, rw r.5.1 (stands_as_convoy c r.0 r.5.0), r.6);
       greatest = λ q section loads some within is_placed.
-          let line = by_line (moment_line (q * span) section) in
-          let less = no_less_somewhere (moment_line (q * span) section) section (moment_unimodal (q * span) section within) c short q is_placed.0 is_placed.1 is_placed.2 in
+          let line = moment_line (q * span) section in
+          let trucks = convoy_loads q c.axles is_placed.0 in
+          let hump = moment_unimodal (q * span) section within in
+          let less = gives_no_less line section hump c short q is_placed.0 is_placed.1 is_placed.2 in
           let closest = placed q less.0 (closest_axles c) in
           let bound = h.greatest q section closest some within (less.0, refl) in
-          let sums : moment_sum (q * span) section (convoy_loads q c.axles is_placed.0) ≤ moment_sum (q * span) section closest = omega (arith, less.1, total_is line (convoy_loads q c.axles is_placed.0), total_is line closest) in
+          let sums : moment_sum (q * span) section trucks ≤ moment_sum (q * span) section closest =
+          omega (arith, less.1, total_is (by_line line) trucks, total_is (by_line line) closest) in
           rw is_placed.3 (omega (arith, mul-le-mul_right den sums, bound));
     }
 
 -- and so is its peak end shear
-pub shear_of_all : (c : EqualTrucks) (span num den : ℕ) → AllByRecursion (λ a. a.place ≤ truck_spacing c) c.axles → IsPeakShear (IsTrainPlaced (closest_axles c)) span num den → IsPeakShear (IsConvoyPlaced c) span num den
+shear_of_all : (c : EqualTrucks) (span num den : ℕ) → AllByRecursion (λ a. a.place ≤ truck_spacing c) c.axles
+    → IsPeakShear (IsTrainPlaced (closest_axles c)) span num den → IsPeakShear (IsConvoyPlaced c) span num den
 shear_of_all c span num den short h =
     let r = h.reached in
     record {
       some = h.some;
       reached = (r.0, r.1, r.2, r.3, rw r.4.1 (stands_as_convoy c r.0 r.4.0), r.5);
       greatest = λ q end loads some is_placed.
-          let line = by_line (reaction_line (q * span) end) in
-          let less = no_less_somewhere (reaction_line (q * span) end) (support_at (q * span) end) (reaction_unimodal (q * span) end) c short q is_placed.0 is_placed.1 is_placed.2 in
+          let line = reaction_line (q * span) end in
+          let trucks = convoy_loads q c.axles is_placed.0 in
+          let hump = reaction_unimodal (q * span) end in
+          let less = gives_no_less line (support_at (q * span) end) hump c short q is_placed.0 is_placed.1 is_placed.2 in
           let closest = placed q less.0 (closest_axles c) in
           let bound = h.greatest q end closest some (less.0, refl) in
-          let sums : reaction_sum (q * span) end (convoy_loads q c.axles is_placed.0) ≤ reaction_sum (q * span) end closest = omega (arith, less.1, total_is line (convoy_loads q c.axles is_placed.0), total_is line closest) in
+          let sums : reaction_sum (q * span) end trucks ≤ reaction_sum (q * span) end closest =
+          omega (arith, less.1, total_is (by_line line) trucks, total_is (by_line line) closest) in
           rw is_placed.3 (omega (arith, mul-le-mul_right den sums, bound));
     }
 
@@ -103,8 +124,12 @@ shear_of_all c span num den short h =
 pub kept_stands : (c : EqualTrucks) (closest : List Axle) → IsKept c closest → StandsAsConvoy c closest
 kept_stands c closest kept = rw kept.together (stands_as_convoy c)
 
-pub kept_moment : (c : EqualTrucks) (closest : List Axle) (span num den : ℕ) → IsKept c closest → IsPeakMoment (IsTrainPlaced closest) span num den → IsPeakMoment (IsConvoyPlaced c) span num den
-kept_moment c closest span num den kept peak = moment_of_all c span num den (within_spacing c kept.truck) (rw kept.together at peak)
+pub kept_moment : (c : EqualTrucks) (closest : List Axle) (span num den : ℕ) → IsKept c closest
+    → IsPeakMoment (IsTrainPlaced closest) span num den → IsPeakMoment (IsConvoyPlaced c) span num den
+kept_moment c closest span num den kept peak =
+    moment_of_all c span num den (within_spacing c kept.truck) (rw kept.together at peak)
 
-pub kept_shear : (c : EqualTrucks) (closest : List Axle) (span num den : ℕ) → IsKept c closest → IsPeakShear (IsTrainPlaced closest) span num den → IsPeakShear (IsConvoyPlaced c) span num den
-kept_shear c closest span num den kept peak = shear_of_all c span num den (within_spacing c kept.truck) (rw kept.together at peak)
+pub kept_shear : (c : EqualTrucks) (closest : List Axle) (span num den : ℕ) → IsKept c closest
+    → IsPeakShear (IsTrainPlaced closest) span num den → IsPeakShear (IsConvoyPlaced c) span num den
+kept_shear c closest span num den kept peak =
+    shear_of_all c span num den (within_spacing c kept.truck) (rw kept.together at peak)

@@ -6,7 +6,8 @@ use Rattle.axle_train.specs.Bounds.{IsTrain}
 use Rattle.axle_train.specs.Trains.{axle_at}
 use Rattle.influence_line.specs.Placed.{Load, placed}
 
--- equal trucks: the axles of one, how many trucks there are, and the gap in inches that is kept at least between two, from the last axle of the one to the first axle of the next
+-- equal trucks: the axles of one, how many trucks there are, and the least gap between two in inches, from the last axle of the
+-- one to the first axle of the next
 pub record EqualTrucks : Type 0 where
   pub axles : List Axle
   pub trucks : ℕ
@@ -37,10 +38,12 @@ AreApart units (lead ∷ rest) = AreBehind units lead rest
 abbrev pub convoy_loads : ℕ → List Axle → List ℤ → List Load
 convoy_loads q axles leads = flat_map (λ lead. placed q lead axles) leads
 
--- the placements of a convoy: each truck stands at a lead of its own, at least the spacing of the trucks behind the lead of the truck in front. They may be on the span, partly off it or wholly
+-- the placements of a convoy: each truck stands at a lead of its own, on the span, partly off it or wholly, and at least the
+-- spacing of the trucks behind the lead of the truck in front
 abbrev pub IsConvoyPlaced : EqualTrucks → ℕ → List Load → Type 0
 IsConvoyPlaced c q loads =
-    (leads : List ℤ) × (length leads ≡ c.trucks) × AreApart (q * truck_spacing c) leads × (loads ≡ convoy_loads q c.axles leads)
+    (leads : List ℤ) × (length leads ≡ c.trucks) × AreApart (q * truck_spacing c) leads
+    × (loads ≡ convoy_loads q c.axles leads)
 
 -- these axles, so many inches further back
 abbrev pub moved_back : ℕ → List Axle → List Axle

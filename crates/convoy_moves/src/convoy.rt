@@ -18,10 +18,11 @@ use std::marker::Model;
 /// of that one to its own first axle. Contracts see the axles of one truck, the number of trucks and the gap.
 #[derive(Drop)]
 pub struct Convoy {
+    // contracts speak of these three, and the code reads the closest convoy alone
     truck: Train,
     trucks: u32,
     gap: u32,
-    // all trucks with just the gap between them
+    // all trucks, with exactly the gap between two of them
     closest: Train,
 }
 
