@@ -9,7 +9,7 @@ ghost use Rattle.convoy_moves.specs.Convoys.{IsConvoyPlaced, StandsAsConvoy, clo
 ghost use Rattle.convoy_moves.specs.Refusals.{FitsTogether, HasTooManyAxles, IsTooHeavy, IsTooLong};
 
 use crate::closed_up::closed_up;
-use crate::refusal::ConvoyRefusal;
+use crate::refusal::{ConvoyRefusal, are_too_heavy, are_too_long, have_too_many_axles};
 use axle_train::Train;
 use influence_line::{Frac, Placements};
 use std::marker::Model;
@@ -50,15 +50,13 @@ impl Convoy {
         ensures too_long { IsErrOf result ConvoyRefusal.TooLong ↔ IsTooLong (convoy_of train.now trucks gap) }
         ensures gross { IsErrOf result ConvoyRefusal.Gross ↔ IsTooHeavy (convoy_of train.now trucks gap) }
     {
-        let len = train.len();
-        if trucks as usize * len > 32 {
+        if have_too_many_axles(train, trucks) {
             return Err(ConvoyRefusal::TooManyAxles);
         }
-        let last = train.axle(len - 1).place;
-        if trucks * last + (trucks - 1) * gap > 3000 {
+        if are_too_long(train, trucks, gap) {
             return Err(ConvoyRefusal::TooLong);
         }
-        if trucks * train.gross() > 2000000 {
+        if are_too_heavy(train, trucks) {
             return Err(ConvoyRefusal::Gross);
         }
         Ok(Convoy {

@@ -1,8 +1,9 @@
 // Why trucks are no convoy.
 
-ghost use Rattle.std.specs.Prelude.{◌≡◌};
-ghost use Rattle.convoy_moves.specs.Refusals.{refusal_number};
+ghost use Rattle.std.specs.Prelude.{◌≡◌, ◌<◌, ◌≤◌, ◌↔◌, IsTrue};
+ghost use Rattle.convoy_moves.specs.Refusals.{axles_together, closest_length, gross_together, refusal_number};
 
+use axle_train::Train;
 use thiserror::Error;
 
 /// Why trucks are no convoy: the first of these limits that they pass, in this order.
@@ -30,4 +31,32 @@ impl ConvoyRefusal {
             ConvoyRefusal::Gross => 3,
         }
     }
+}
+
+/// Whether so many trucks have more than 32 axles together.
+pub(crate) fn have_too_many_axles(truck: &Train, trucks: u32) -> bool
+    requires { trucks ≤ 16 }
+    ensures { IsTrue result ↔ 32 < axles_together truck.now trucks }
+{
+    trucks as usize * truck.len() > 32
+}
+
+/// Whether so many trucks, with just this gap between two of them, are more than 3,000 in from the first axle to the last.
+pub(crate) fn are_too_long(truck: &Train, trucks: u32, gap: u32) -> bool
+    requires some { 1 ≤ trucks }
+    requires few { trucks ≤ 16 }
+    requires near { gap ≤ 3000 }
+    ensures { IsTrue result ↔ 3000 < closest_length truck.now trucks gap }
+{
+    let len = truck.len();
+    let last = truck.axle(len - 1).place;
+    trucks * last + (trucks - 1) * gap > 3000
+}
+
+/// Whether so many trucks weigh more than 2,000,000 lb together.
+pub(crate) fn are_too_heavy(truck: &Train, trucks: u32) -> bool
+    requires { trucks ≤ 16 }
+    ensures { IsTrue result ↔ 2000000 < gross_together truck.now trucks }
+{
+    trucks * truck.gross() > 2000000
 }
