@@ -6,7 +6,7 @@ use Rattle.std.proofs.lemmas.Bool.{ltb-true}
 use Rattle.std.proofs.lemmas.List.Elements.{All-nil, All-push, All-weaker}
 use Rattle.trip_analysis.specs.Bases.{BaseLists}
 use Rattle.trip_analysis.specs.declared.base.Truck.{Truck}
-use Rattle.record_text.specs.Causes.{demand, limit, or_bad}
+use Rattle.record_text.specs.Causes.{Tells, demand, limit, or_bad}
 use Rattle.day_text.specs.Commands.{order_of, with_order}
 use Rattle.day_text.specs.Days.{DayParts, day_of, ended_day, finished_day, going_on, judge_day, judge_kind, judge_later, judge_opening, opened, opening_of, parts_of, with_actor, with_command, with_road, with_truck}
 use Rattle.day_text.specs.Fleets.{actors_of, fleet_of, most_actors, truck_names}
@@ -28,6 +28,7 @@ use Rattle.day_text.specs.declared.orders.Order.{Order}
 use Rattle.day_text.specs.declared.progress.DayProgress.{DayProgress}
 use Rattle.day_text.specs.declared.progress.DayProgress.TheVariants as so_far
 use Rattle.record_text.specs.declared.refusal.Cause.{Cause}
+use Rattle.record_text.specs.declared.refusal.FileRefusal.{FileRefusal}
 use Rattle.record_text.specs.declared.refusal.RecordCause.TheVariants as bad
 use Rattle.record_text.specs.declared.refusal.Kind.TheVariants as kind
 use Rattle.day_text.proofs.Commanded.{IsGood, base_of, order_good}
@@ -174,3 +175,8 @@ finishes (Err e) h = tt
 pub day_keeps : (bytes : List ℕ) (file : DayParts) → day_of bytes ≡ Ok file → IsDayFile file
 day_keeps bytes file e =
     subst (λ r. IfOk r IsDayFile) e (finishes (judged judge_day 1 so_far.Start (rows_of bytes)) (records_keep judge_day Holds step_keeps (rows_of bytes) 1 so_far.Start tt))
+
+-- so does the file that a call tells
+pub told_keeps : (bytes : List ℕ) (told : Result DayParts FileRefusal) → Tells told (day_of bytes) → IfOk told (λ file. IsDayFile file)
+told_keeps bytes (Ok file) e = day_keeps bytes file e
+told_keeps bytes (Err refusal) e = tt

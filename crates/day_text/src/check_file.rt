@@ -7,7 +7,6 @@ ghost use Rattle.day_text.specs.Spans.{AreSpans, IsSpan};
 ghost use Rattle.record_text.specs.Causes.{Judges, Tells};
 ghost use Rattle.day_text.specs.Checks.{check_of, ended_check, is_check_kind, judge_check, judge_check_kind, judge_probe, judge_truck, probe_of, truck_of};
 
-use crate::refusal::DayFileRefusal;
 use crate::truck::{load_of, parse_truck};
 use csv::StringRecord;
 use record_text::{
@@ -87,14 +86,14 @@ pub(crate) enum CheckProgress {
     Ended(CheckFile),
 }
 
-/// The check file that the bytes are. `BadRecord` and `TooMany` come exactly where they are none, with the first record that is
-/// refused and the first cause that holds for it.
-pub fn read_check(alloc: Global, bytes: &[u8]) -> Result<CheckFile, DayFileRefusal>
+/// The check file that the bytes are. `Refused` comes exactly where they are none, with the first record that is refused and
+/// the first cause that holds for it.
+pub fn read_check(alloc: Global, bytes: &[u8]) -> Result<CheckFile, FileRefusal>
     ensures ok { IfOk result (λ file. check_of bytes.now ≡ Ok file) }
     ensures refused { IfErr result (λ refusal. IsRefusedAs (check_of bytes.now) refusal) }
 {
     let (row, progress) = read_records(alloc, CheckProgress::Start, bytes)?;
-    Ok(progress.finish(row)?)
+    progress.finish(row)
 }
 
 impl CheckProgress {

@@ -10,7 +10,6 @@ use crate::applicants::learn_applicants;
 use crate::draft::Draft;
 use crate::orders::Order;
 use crate::progress::DayProgress;
-use crate::refusal::DayFileRefusal;
 use names::{Name, NoMemory};
 use permit_days::Day;
 use record_text::{FileRefusal, RecordCause, RecordRefusal, read_records};
@@ -83,15 +82,15 @@ impl DayFile {
     }
 }
 
-/// The day file that the bytes are. `BadRecord` and `TooMany` come exactly where they are none, with the first record that is
-/// refused and the first cause that holds for it.
-pub fn read_day(alloc: Global, bytes: &[u8]) -> Result<DayFile, DayFileRefusal>
+/// The day file that the bytes are. `Refused` comes exactly where they are none, with the first record that is refused and the
+/// first cause that holds for it.
+pub fn read_day(alloc: Global, bytes: &[u8]) -> Result<DayFile, FileRefusal>
     ensures ok { IfOk result (λ file. day_of bytes.now ≡ Ok file) }
     ensures keeps { IfOk result (λ file. IsDayFile file) }
     ensures refused { IfErr result (λ refusal. IsRefusedAs (day_of bytes.now) refusal) }
 {
     let (row, progress) = read_records(alloc, DayProgress::Start, bytes)?;
-    Ok(finish(alloc, progress, row)?)
+    finish(alloc, progress, row)
 }
 
 // The file, where its end was told. The row is that after the last.

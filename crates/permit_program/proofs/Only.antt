@@ -1,12 +1,10 @@
 -- What a command makes of bytes keeps its promise, and is the only text that does.
 use Rattle.std.proofs.Common.{◌≡◌, ℕ, List, Option, Some, None, Result, Ok, Err, IfOk, Vec, refl, ap, sym, ◌∙◌, subst}
-use Rattle.std.specs.Prelude.{option_map}
 use Rattle.std.specs.Global.{Global}
-use Rattle.std.specs.String.{string_bytes}
 use Rattle.names.specs.declared.refusal.NoMemory.{NoMemory}
 use Rattle.day_text.specs.Refusals.{IsRefusedAs}
-use Rattle.day_text.specs.declared.refusal.DayFileRefusal.{DayFileRefusal}
-use Rattle.day_text.specs.declared.refusal.DayFileRefusal.TheVariants as file
+use Rattle.record_text.specs.declared.refusal.FileRefusal.{FileRefusal}
+use Rattle.record_text.specs.declared.refusal.FileRefusal.TheVariants as file
 use Rattle.road_graph.specs.Roads.{IsRoads}
 use Rattle.day_text.specs.declared.check_file.CheckFile.{CheckFile}
 use Rattle.day_text.specs.Checks.{check_of}
@@ -23,20 +21,16 @@ use Rattle.day_trial.specs.Summaries.{summary_of}
 use Rattle.record_text.specs.declared.refusal.Cause.{Cause}
 use Rattle.permit_program.specs.Headline.{Headline}
 use Rattle.permit_program.specs.Check.{IsReportOn, check}
-use Rattle.permit_program.specs.Command.{Answer, Command, IsAnswerTo, IsRefusalOf, Makes, MakesAndTells, answer_to, refusal_in, refused_at}
+use Rattle.permit_program.specs.Command.{Command, IsAnswerTo, IsRefusalOf, Makes, MakesAndTells, refusal_in}
 use Rattle.permit_program.specs.Day.{HasFewActors, day}
 use Rattle.permit_program.specs.Made.{IsTrial, make, trial}
 use Rattle.permit_program.specs.declared.refusal.Refusal.{Refusal}
 use Rattle.permit_program.specs.declared.refusal.Refusal.TheVariants as refusal
 
 -- the answer to a refused file is the command's
-answered : {T : Type 0} (told : Result T (ℕ × Cause)) (refused : DayFileRefusal) (answer : Answer) → IsRefusedAs told refused → option_map answer_to (refused_at refused) ≡ Some answer → refusal_in told ≡ Some answer
-answered told (file.BadRecord row cause) answer is answers = ap refusal_in is ∙ answers
-answered told (file.TooMany row kind) answer is answers = ap refusal_in is ∙ answers
-answered told file.NoMemory answer is answers = absurd cc
-
-pub refused_file : (c : Command) (bytes : List ℕ) {T : Type 0} (told : Result T (ℕ × Cause)) (refused : DayFileRefusal) (r : Refusal) → c.refusal bytes ≡ refusal_in told → IsRefusedAs told refused → IsAnswerTo refused r → IsRefusalOf c bytes r
-refused_file c bytes told refused (refusal.Refused status line) same is answers = same ∙ answered told refused (record { status = status; line = string_bytes line }) is answers
+pub refused_file : (c : Command) (bytes : List ℕ) {T : Type 0} (told : Result T (ℕ × Cause)) (refused : FileRefusal) (r : Refusal) → c.refusal bytes ≡ refusal_in told → IsRefusedAs told refused → IsAnswerTo refused r → IsRefusalOf c bytes r
+refused_file c bytes told (file.Refused row cause) (refusal.Refused status line) same is answers = same ∙ (ap refusal_in is ∙ ap Some answers)
+refused_file c bytes told file.NoMemory (refusal.Refused status line) same is answers = absurd answers
 refused_file c bytes told refused refusal.NoMemory same is answers = tt
 
 -- the report on a check file
@@ -101,7 +95,6 @@ summary_made one seed size file history told (Ok text) read roads serial same is
 summary_made one seed size file history told (Err e) read roads serial same is = tt
 
 -- a text that is a day file is refused for want of memory alone
-pub made_lacks : (bytes : List ℕ) (f : DayParts) (r : DayFileRefusal) → day_of bytes ≡ Ok f → IsRefusedAs (day_of bytes) r → r ≡ file.NoMemory
-made_lacks bytes f (file.BadRecord row cause) read refused = absurd (let clash = sym read ∙ refused in cc)
-made_lacks bytes f (file.TooMany row kind) read refused = absurd (let clash = sym read ∙ refused in cc)
+pub made_lacks : (bytes : List ℕ) (f : DayParts) (r : FileRefusal) → day_of bytes ≡ Ok f → IsRefusedAs (day_of bytes) r → r ≡ file.NoMemory
+made_lacks bytes f (file.Refused row cause) read refused = absurd (let clash = sym read ∙ refused in cc)
 made_lacks bytes f file.NoMemory read refused = refl

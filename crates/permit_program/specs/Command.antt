@@ -1,11 +1,10 @@
 -- A command of the program, as a value: all that a run of it depends on.
-use Rattle.std.specs.Prelude.{◌≡◌, ℕ, Bool, List, Option, Some, None, option_map, Result, Ok, Err}
+use Rattle.std.specs.Prelude.{◌≡◌, ℕ, Bool, List, Option, Some, None, Result, Ok, Err}
 use Rattle.std.specs.String.{string_bytes}
-use Rattle.day_text.specs.declared.refusal.DayFileRefusal.{DayFileRefusal}
-use Rattle.day_text.specs.declared.refusal.DayFileRefusal.TheVariants as file
 use Rattle.notice_desk.specs.declared.notice.Recall.{Recall}
 use Rattle.record_text.specs.declared.refusal.Cause.{Cause}
-use Rattle.record_text.specs.declared.refusal.Cause.TheVariants as why
+use Rattle.record_text.specs.declared.refusal.FileRefusal.{FileRefusal}
+use Rattle.record_text.specs.declared.refusal.FileRefusal.TheVariants as file
 use Rattle.refusal_text.specs.Lines.{refusal_line_of, status_of}
 use Rattle.permit_program.specs.declared.refusal.Refusal.{Refusal}
 use Rattle.permit_program.specs.declared.refusal.Refusal.TheVariants.{NoMemory, Refused}
@@ -54,14 +53,9 @@ abbrev pub refusal_in : {T : Type 0} → Result T (ℕ × Cause) → Option Answ
 refusal_in (Ok file) = None
 refusal_in (Err refused) = Some (answer_to refused)
 
--- where a file of bytes is refused, if not for want of memory
-abbrev pub refused_at : DayFileRefusal → Option (ℕ × Cause)
-refused_at (file.BadRecord row cause) = Some (row, why.Bad cause)
-refused_at (file.TooMany row kind) = Some (row, why.TooMany kind)
-refused_at file.NoMemory = None
-
 -- a refused file is answered in this way, unless memory was wanting
-abbrev pub IsAnswerTo : DayFileRefusal → Refusal → Type 0
-IsAnswerTo refused (Refused status line) =
-    option_map answer_to (refused_at refused) ≡ Some (record { status = status; line = string_bytes line })
+abbrev pub IsAnswerTo : FileRefusal → Refusal → Type 0
+IsAnswerTo (file.Refused row cause) (Refused status line) =
+    answer_to (row, cause) ≡ record { status = status; line = string_bytes line }
+IsAnswerTo file.NoMemory (Refused status line) = ⊥
 IsAnswerTo refused NoMemory = Unit {0}

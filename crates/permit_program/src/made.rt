@@ -8,7 +8,7 @@ ghost use Rattle.permit_program.specs.Command.{Makes};
 ghost use Rattle.permit_program.specs.Made.{make, trial};
 
 use day_maker::{made_days_are_accepted, make_day};
-use day_text::{DayFile, DayFileRefusal, read_day};
+use day_text::{DayFile, FileRefusal, read_day};
 use day_trial::{serial_histories_are_one, serve_in_order, summary};
 use names::NoMemory;
 use std::alloc::Global;
@@ -51,8 +51,8 @@ fn read_made_day(alloc: Global, seed: u32, size: u32) -> Result<DayFile, NoMemor
 }
 
 // What refuses a file that is a day file.
-fn lack_memory(refusal: DayFileRefusal) -> NoMemory
-    requires { refusal ≡ DayFileRefusal.NoMemory }
+fn lack_memory(refusal: FileRefusal) -> NoMemory
+    requires { refusal ≡ FileRefusal.NoMemory }
 {
     drop(refusal);
     NoMemory

@@ -4,9 +4,9 @@ ghost use Rattle.std.specs.Prelude.{◌≡◌};
 ghost use Rattle.permit_program.specs.Command.{IsAnswerTo};
 ghost use Rattle.permit_program.specs.declared.refusal.Refusal.TheVariants as refusal;
 
-use day_text::DayFileRefusal;
+use day_text::FileRefusal;
 use names::NoMemory;
-use refusal_text::{Cause, refusal_line, refusal_status};
+use refusal_text::{refusal_line, refusal_status};
 use std::alloc::Global;
 use thiserror::Error;
 
@@ -23,13 +23,11 @@ pub enum Refusal {
 
 impl Refusal {
     /// How a refused file is answered: by the row of its first refused record, and the first cause that holds for it.
-    pub(crate) fn of_file(alloc: Global, refused: DayFileRefusal) -> Refusal
+    pub(crate) fn of_file(alloc: Global, refused: FileRefusal) -> Refusal
         ensures { IsAnswerTo refused result }
     {
-        let (row, cause) = match refused {
-            DayFileRefusal::BadRecord { row, cause } => (row, Cause::Bad(cause)),
-            DayFileRefusal::TooMany { row, kind } => (row, Cause::TooMany(kind)),
-            DayFileRefusal::NoMemory => return Refusal::NoMemory,
+        let FileRefusal::Refused { row, cause } = refused else {
+            return Refusal::NoMemory;
         };
         match refusal_line(alloc, row, cause) {
             Ok(line) => Refusal::Refused {

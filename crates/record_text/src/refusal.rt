@@ -116,8 +116,8 @@ impl<T: Drop> From<AllocFailed<T>> for RecordRefusal {
 /// The first record of a file that is refused, and why. Records are counted from 1.
 #[derive(Clone, Copy, Debug, Drop, PartialEq, Eq, Error)]
 pub enum FileRefusal {
-    /// The record in this row is refused.
-    #[error("record {row} is refused")]
+    /// The record in this row is refused. With the cause `End` it is the row after the last.
+    #[error("record {row} is refused: {cause:?}")]
     Refused { row: u64, cause: Cause },
     /// No memory was left.
     #[error("out of memory")]

@@ -1,5 +1,5 @@
 use crate::fixtures::same;
-use day_text::{DayFile, DayFileRefusal, Kind, Order, RecordCause, read_check, read_day};
+use day_text::{Cause, DayFile, FileRefusal, Kind, Order, RecordCause, read_check, read_day};
 use office_words::Command;
 use std::alloc::Global;
 use std::process::Abort;
@@ -169,22 +169,28 @@ fn gives_each_actor_its_commands(rt: HostRuntime) {
 }
 
 // The first record of the text that is refused, and why.
-fn refusal(alloc: Global, text: &[u8]) -> Option<DayFileRefusal> {
+fn refusal(alloc: Global, text: &[u8]) -> Option<FileRefusal> {
     read_day(alloc, text).err()
 }
 
 // The refusal of a record as a bad one.
-fn bad(row: u64, cause: RecordCause) -> Option<DayFileRefusal> {
-    Some(DayFileRefusal::BadRecord { row, cause })
+fn bad(row: u64, cause: RecordCause) -> Option<FileRefusal> {
+    Some(FileRefusal::Refused {
+        row,
+        cause: Cause::Bad(cause),
+    })
 }
 
 // The refusal of a record as one too many.
-fn too_many(row: u64, kind: Kind) -> Option<DayFileRefusal> {
-    Some(DayFileRefusal::TooMany { row, kind })
+fn too_many(row: u64, kind: Kind) -> Option<FileRefusal> {
+    Some(FileRefusal::Refused {
+        row,
+        cause: Cause::TooMany(kind),
+    })
 }
 
 // What is refused where a record is the tenth, behind the nine of BEGUN.
-fn refusal_of_tenth(rt: &impl Abort, alloc: Global, record: &str) -> Option<DayFileRefusal> {
+fn refusal_of_tenth(rt: &impl Abort, alloc: Global, record: &str) -> Option<FileRefusal> {
     let text = format!(in alloc; "{BEGUN}{record}").expect(rt, "memory");
     refusal(alloc, text.as_bytes())
 }
@@ -400,7 +406,7 @@ fn refusal_with(
     axles: &str,
     to: &str,
     route: &str,
-) -> Result<Option<DayFileRefusal>, Fail> {
+) -> Result<Option<FileRefusal>, Fail> {
     let text = format!(in alloc;
         "day,2026-03-02,,,,,,\nnode,A,,,,,,\nnode,B,,,,,,\nsegment,S1,A,B,5000,,,\nlimit,S1,height,168,,,,\ntruck,T1,ACME,168,102,720,{axles},\nactor,ann,,,,,,\napply,ann,T1,A,{to},{route},2026-03-02,2026-03-06\nend,,,,,,,\n"
     )?;
@@ -427,7 +433,13 @@ fn refuse_fronts(rt: &impl Abort, alloc: Global, text: &[u8]) {
         let found = refusal(alloc, &text[..length]);
         let taken = text.len() - length <= 1;
         same(rt, length, &found.is_none(), &taken);
-        let bad = matches!(found, Some(DayFileRefusal::BadRecord { .. }));
+        let bad = matches!(
+            found,
+            Some(FileRefusal::Refused {
+                cause: Cause::Bad(_),
+                ..
+            })
+        );
         same(rt, length, &bad, &!taken);
     }
 }
@@ -461,7 +473,7 @@ fn refusal_of_many(
     before: &str,
     after: &str,
     count: u32,
-) -> Option<DayFileRefusal> {
+) -> Option<FileRefusal> {
     let mut text = begun.as_bytes().to_vec(alloc).expect(rt, "memory");
     add_records(rt, alloc, &mut text, before, after, count);
     refusal(alloc, text.as_slice())
@@ -516,7 +528,7 @@ fn refusal_of_spans(
     alloc: Global,
     segments: u32,
     count: u32,
-) -> Option<DayFileRefusal> {
+) -> Option<FileRefusal> {
     let begun = b"day,2026-03-02,,,,,,\nnode,A,,,,,,\n";
     let mut text = begun.to_vec(alloc).expect(rt, "memory");
     add_records(rt, alloc, &mut text, "segment,s", ",A,A,1,,,", segments);
@@ -532,7 +544,7 @@ fn counts_spans(rt: HostRuntime) {
 }
 
 // The first record of a check file that is refused, and why.
-fn check_refusal(alloc: Global, text: &[u8]) -> Option<DayFileRefusal> {
+fn check_refusal(alloc: Global, text: &[u8]) -> Option<FileRefusal> {
     read_check(alloc, text).err()
 }
 
