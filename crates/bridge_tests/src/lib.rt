@@ -15,6 +15,8 @@ mod fixtures;
 #[cfg(test)]
 mod fractions;
 #[cfg(test)]
+mod governing_loads;
+#[cfg(test)]
 mod influence_lines;
 #[cfg(test)]
 mod moment_peaks;

@@ -1,0 +1,130 @@
+-- The greatest of the peaks of the three design loads, and the first load that reaches it, are one.
+use Rattle.std.proofs.Common.{◌≡◌, ℕ, ◌*◌, ◌<◌, ◌≤◌, List, arith, refl, ap, ◌∙◌}
+use Rattle.std.proofs.Math.Nat.{le_antisymm}
+use Rattle.influence_line.specs.Fractions.{Ratio, IsLowest}
+use Rattle.influence_line.specs.Placed.{Load}
+use Rattle.influence_line.specs.Peaks.{IsPeakMoment, IsPeakShear, IsTrainPlaced, IsHs20Placed}
+use Rattle.influence_line.proofs.Lowest.{lowest_unique}
+use Rattle.influence_line.proofs.Unique.{moment_same, shear_same}
+use Rattle.moment_peak.proofs.Cross.{cross_trans}
+use Rattle.design_loads.specs.LanePeaks.{IsPeakLaneMoment, IsPeakLaneShear}
+use Rattle.design_loads.specs.Military.{military_axles}
+use Rattle.design_loads.specs.Greatest.{place_of, ComesBefore, IsPeakMomentBy, IsPeakShearBy, IsGreatest, AreGreatest}
+use Rattle.design_loads.specs.declared.governing.By.{By}
+use Rattle.design_loads.specs.declared.governing.By.TheVariants.{Truck, Lane, Military}
+use Rattle.design_loads.specs.declared.governing.GreatestEffects.{GreatestEffects}
+use Rattle.design_loads.proofs.OneLane.{lane_moment_same, lane_shear_same}
+
+-- whatever fractions meet this, they are fractions, and have one value
+pub record HasOneValue (IsPeak : Ratio → Type 0) : Type 0 where
+  pub some : (f : Ratio) → IsPeak f → 1 ≤ f.den
+  pub same : (f g : Ratio) → IsPeak f → IsPeak g → f.num * g.den ≡ g.num * f.den
+
+pub moment_has_one : (Allowed : ℕ → List Load → Type 0) (span : ℕ) → 1 ≤ span
+    → HasOneValue (λ f. IsPeakMoment Allowed span f.num f.den)
+moment_has_one Allowed span some = record {
+  some = λ f is. is.some;
+  same = λ f g a b. moment_same Allowed span f.num f.den g.num g.den some a b;
+}
+
+pub shear_has_one : (Allowed : ℕ → List Load → Type 0) (span : ℕ) → 1 ≤ span
+    → HasOneValue (λ f. IsPeakShear Allowed span f.num f.den)
+shear_has_one Allowed span some = record {
+  some = λ f is. is.some;
+  same = λ f g a b. shear_same Allowed span f.num f.den g.num g.den some a b;
+}
+
+lane_moment_has_one : (span : ℕ) → 1 ≤ span → HasOneValue (λ f. IsPeakLaneMoment span f.num f.den)
+lane_moment_has_one span some = record {
+  some = λ f is. is.some;
+  same = λ f g a b. lane_moment_same span f.num f.den g.num g.den some a b;
+}
+
+lane_shear_has_one : (span : ℕ) → 1 ≤ span → HasOneValue (λ f. IsPeakLaneShear span f.num f.den)
+lane_shear_has_one span some = record {
+  some = λ f is. is.some;
+  same = λ f g a b. lane_shear_same span f.num f.den g.num g.den some a b;
+}
+
+-- each design load's peak has one value
+abbrev pub HaveOneValue : (By → Ratio → Type 0) → Type 0
+HaveOneValue IsPeakBy = (by : By) → HasOneValue (IsPeakBy by)
+
+pub moments_have_one : (span : ℕ) → 1 ≤ span → HaveOneValue (IsPeakMomentBy span)
+moments_have_one span some Truck = moment_has_one IsHs20Placed span some
+moments_have_one span some Lane = lane_moment_has_one span some
+moments_have_one span some Military = moment_has_one (IsTrainPlaced military_axles) span some
+
+pub shears_have_one : (span : ℕ) → 1 ≤ span → HaveOneValue (IsPeakShearBy span)
+shears_have_one span some Truck = shear_has_one IsHs20Placed span some
+shears_have_one span some Lane = lane_shear_has_one span some
+shears_have_one span some Military = shear_has_one (IsTrainPlaced military_axles) span some
+
+at_most : (IsPeakBy : By → Ratio → Type 0) (f g : Ratio) (a b : By) → HaveOneValue IsPeakBy
+    → IsGreatest IsPeakBy f a → IsGreatest IsPeakBy g b → f.num * g.den ≤ g.num * f.den
+at_most IsPeakBy f g a b one is other =
+    let peak = other.most a in
+    let same = (one a).same f peak.0 is.reached peak.1 in
+    let some = (one a).some peak.0 peak.1 in
+    cross_trans f.num f.den peak.0.num peak.0.den g.num g.den (omega (arith, same)) peak.2 some
+
+-- two greatest effects have one value
+pub greatest_same : (IsPeakBy : By → Ratio → Type 0) (f g : Ratio) (a b : By) → HaveOneValue IsPeakBy
+    → IsGreatest IsPeakBy f a → IsGreatest IsPeakBy g b → f.num * g.den ≡ g.num * f.den
+greatest_same IsPeakBy f g a b one is other =
+    le_antisymm (at_most IsPeakBy f g a b one is other) (at_most IsPeakBy g f b a one other is)
+
+-- none of the loads before the first reaches it
+not_before : (IsPeakBy : By → Ratio → Type 0) (f g : Ratio) (a b : By) → HaveOneValue IsPeakBy
+    → IsGreatest IsPeakBy f a → IsGreatest IsPeakBy g b → ComesBefore a b → ⊥
+not_before IsPeakBy f g a b one is other before =
+    let peak = other.first a before in
+    let same = (one a).same f peak.0 is.reached peak.1 in
+    let up = at_most IsPeakBy g f b a one other is in
+    let some = (one a).some f is.reached in
+    let no_less : g.num * peak.0.den ≤ peak.0.num * g.den =
+        cross_trans g.num g.den f.num f.den peak.0.num peak.0.den up (omega (arith, same)) some in
+    omega (arith, no_less, peak.2)
+
+same_place : (a b : By) → (ComesBefore a b → ⊥) → (ComesBefore b a → ⊥) → a ≡ b
+same_place Truck Truck h k = refl
+same_place Truck Lane h k = absurd (h (omega arith))
+same_place Truck Military h k = absurd (h (omega arith))
+same_place Lane Truck h k = absurd (k (omega arith))
+same_place Lane Lane h k = refl
+same_place Lane Military h k = absurd (h (omega arith))
+same_place Military Truck h k = absurd (k (omega arith))
+same_place Military Lane h k = absurd (k (omega arith))
+same_place Military Military h k = refl
+
+-- two greatest effects are named after one load
+same_load : (IsPeakBy : By → Ratio → Type 0) (f g : Ratio) (a b : By) → HaveOneValue IsPeakBy
+    → IsGreatest IsPeakBy f a → IsGreatest IsPeakBy g b → a ≡ b
+same_load IsPeakBy f g a b one is other =
+    same_place a b (not_before IsPeakBy f g a b one is other) (not_before IsPeakBy g f b a one other is)
+
+abbrev put_together : Ratio → By → Ratio → By → GreatestEffects
+put_together m mb s sb = record { moment = m; moment_by = mb; shear = s; shear_by = sb }
+
+same_fields : (e f : GreatestEffects) → e.moment ≡ f.moment → e.moment_by ≡ f.moment_by → e.shear ≡ f.shear
+    → e.shear_by ≡ f.shear_by
+    → e ≡ f
+same_fields e f m mb s sb =
+    let by_moment : Ratio → GreatestEffects = λ x. put_together x e.moment_by e.shear e.shear_by in
+    let by_moment_load : By → GreatestEffects = λ x. put_together f.moment x e.shear e.shear_by in
+    let by_shear : Ratio → GreatestEffects = λ x. put_together f.moment f.moment_by x e.shear_by in
+    let by_shear_load : By → GreatestEffects = λ x. put_together f.moment f.moment_by f.shear x in
+    ap by_moment m ∙ ap by_moment_load mb ∙ ap by_shear s ∙ ap by_shear_load sb
+
+-- on a span there is one
+pub greatest_unique : (span : ℕ) (e f : GreatestEffects) → 1 ≤ span → AreGreatest span e → AreGreatest span f → e ≡ f
+greatest_unique span e f some a b =
+    let moments = moments_have_one span some in
+    let shears = shears_have_one span some in
+    let moment = greatest_same (IsPeakMomentBy span) e.moment f.moment e.moment_by f.moment_by moments a.moment b.moment in
+    let shear = greatest_same (IsPeakShearBy span) e.shear f.shear e.shear_by f.shear_by shears a.shear b.shear in
+    same_fields e f
+    (lowest_unique e.moment f.moment a.small.moment.lowest b.small.moment.lowest moment)
+    (same_load (IsPeakMomentBy span) e.moment f.moment e.moment_by f.moment_by moments a.moment b.moment)
+    (lowest_unique e.shear f.shear a.small.shear.lowest b.small.shear.lowest shear)
+    (same_load (IsPeakShearBy span) e.shear f.shear e.shear_by f.shear_by shears a.shear b.shear)

@@ -1,0 +1,9 @@
+pub use Rattle.span_rating.specs.Loading
+pub use Rattle.span_rating.specs.Judgement
+pub mod Lane
+pub mod LanePeaks
+pub mod Military
+pub mod Greatest
+pub mod SpanEffects
+pub mod Fitting
+pub mod Laws
