@@ -10,13 +10,13 @@ use span_rating::Fit;
 use std::process::Abort;
 
 // The numerator and the denominator of an effect, and the design load that it is of.
-type Governed = ((u128, u128), By);
+type Governed = (u128, u128, By);
 
 fn governed(effects: &GreatestEffects) -> (Governed, Governed) {
     let (moment, shear) = (effects.moment, effects.shear);
     (
-        ((moment.num(), moment.den()), effects.moment_by),
-        ((shear.num(), shear.den()), effects.shear_by),
+        (moment.num(), moment.den(), effects.moment_by),
+        (shear.num(), shear.den(), effects.shear_by),
     )
 }
 
@@ -24,21 +24,21 @@ fn governed(effects: &GreatestEffects) -> (Governed, Governed) {
 // P (2L - a)^2 / 8L (AISC Manual of Steel Construction), and that of the lane load (20 L^2 + 13500 L) / 3.
 const GREATEST: [(u32, Governed, Governed); 10] = [
     // One axle of the truck is on the span at a time.
-    (1, ((8000, 1), By::Truck), ((32000, 1), By::Truck)),
+    (1, (8000, 1, By::Truck), (32000, 1, By::Truck)),
     // Both the truck and the military loading have a shear of 32,000: 24000 + 24000 * 24 / 72.
-    (72, ((576000, 1), By::Truck), ((32000, 1), By::Truck)),
+    (72, (576000, 1, By::Truck), (32000, 1, By::Truck)),
     // 24000 * 432 * 432 / 1920, and 24000 + 24000 * 192 / 240.
-    (240, ((2332800, 1), By::Military), ((43200, 1), By::Military)),
+    (240, (2332800, 1, By::Military), (43200, 1, By::Military)),
     // Both have a shear of 480000 / 11: 32000 + 32000 * 96 / 264, and 24000 + 24000 * 216 / 264.
-    (264, ((28800000, 11), By::Military), ((480000, 11), By::Truck)),
+    (264, (28800000, 11, By::Military), (480000, 11, By::Truck)),
     // 37 and 38 feet, between which the truck's moment becomes the greater one.
-    (444, ((176400000, 37), By::Military), ((1992000, 37), By::Truck)),
-    (456, ((94464000, 19), By::Truck), ((1032000, 19), By::Truck)),
-    (1200, ((18287040, 1), By::Truck), ((65280, 1), By::Truck)),
+    (444, (176400000, 37, By::Military), (1992000, 37, By::Truck)),
+    (456, (94464000, 19, By::Truck), (1032000, 19, By::Truck)),
+    (1200, (18287040, 1, By::Truck), (65280, 1, By::Truck)),
     // 144 and 145 feet, between which the moment of the lane load becomes the greater one.
-    (1728, ((83330000, 3), By::Truck), ((72080, 1), By::Lane)),
-    (1740, ((28014000, 1), By::Lane), ((72400, 1), By::Lane)),
-    (1800, ((29700000, 1), By::Lane), ((74000, 1), By::Lane)),
+    (1728, (83330000, 3, By::Truck), (72080, 1, By::Lane)),
+    (1740, (28014000, 1, By::Lane), (72400, 1, By::Lane)),
+    (1800, (29700000, 1, By::Lane), (74000, 1, By::Lane)),
 ];
 
 fn governs(rt: &impl Abort, span: u32, moment: Governed, shear: Governed) {

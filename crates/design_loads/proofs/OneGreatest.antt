@@ -1,7 +1,7 @@
 -- The greatest of the peaks of the three design loads, and the first load that reaches it, are one.
-use Rattle.std.proofs.Common.{◌≡◌, ℕ, ◌*◌, ◌<◌, ◌≤◌, List, arith, refl, ap, ◌∙◌}
+use Rattle.std.proofs.Common.{◌≡◌, ℕ, ◌*◌, ◌≤◌, List, arith, refl, ap, ◌∙◌}
 use Rattle.std.proofs.Math.Nat.{le_antisymm}
-use Rattle.influence_line.specs.Fractions.{Ratio, IsLowest}
+use Rattle.influence_line.specs.Fractions.{Ratio}
 use Rattle.influence_line.specs.Placed.{Load}
 use Rattle.influence_line.specs.Peaks.{IsPeakMoment, IsPeakShear, IsTrainPlaced, IsHs20Placed}
 use Rattle.influence_line.proofs.Lowest.{lowest_unique}
@@ -9,7 +9,7 @@ use Rattle.influence_line.proofs.Unique.{moment_same, shear_same}
 use Rattle.moment_peak.proofs.Cross.{cross_trans}
 use Rattle.design_loads.specs.LanePeaks.{IsPeakLaneMoment, IsPeakLaneShear}
 use Rattle.design_loads.specs.Military.{military_axles}
-use Rattle.design_loads.specs.Greatest.{place_of, ComesBefore, IsPeakMomentBy, IsPeakShearBy, IsGreatest, AreGreatest}
+use Rattle.design_loads.specs.Greatest.{ComesBefore, IsPeakMomentBy, IsPeakShearBy, IsGreatest, AreGreatest}
 use Rattle.design_loads.specs.declared.governing.By.{By}
 use Rattle.design_loads.specs.declared.governing.By.TheVariants.{Truck, Lane, Military}
 use Rattle.design_loads.specs.declared.governing.GreatestEffects.{GreatestEffects}
@@ -83,7 +83,7 @@ not_before IsPeakBy f g a b one is other before =
     let up = at_most IsPeakBy g f b a one other is in
     let some = (one a).some f is.reached in
     let no_less : g.num * peak.0.den ≤ peak.0.num * g.den =
-        cross_trans g.num g.den f.num f.den peak.0.num peak.0.den up (omega (arith, same)) some in
+    cross_trans g.num g.den f.num f.den peak.0.num peak.0.den up (omega (arith, same)) some in
     omega (arith, no_less, peak.2)
 
 same_place : (a b : By) → (ComesBefore a b → ⊥) → (ComesBefore b a → ⊥) → a ≡ b

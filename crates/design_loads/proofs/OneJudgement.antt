@@ -1,6 +1,6 @@
 -- Whether a truck's effects are within the greatest of the design loads does not depend on the fractions that either are written
 -- with.
-use Rattle.std.proofs.Common.{◌≡◌, ℕ, ◌*◌, ◌≤◌, ◌↔◌, List, arith}
+use Rattle.std.proofs.Common.{◌≡◌, ℕ, ◌≤◌, ◌↔◌, List, arith}
 use Rattle.std.proofs.lemmas.Bool.Decides.{nat_tests}
 use Rattle.influence_line.specs.Fractions.{Ratio}
 use Rattle.influence_line.specs.Placed.{Load}
@@ -12,7 +12,7 @@ use Rattle.span_rating.specs.Judgement.{IsWithin, AreWithin, IsMomentOver, IsShe
 use Rattle.span_rating.proofs.OneValue.{within_from}
 use Rattle.design_loads.specs.Greatest.{AreGreatest, IsGreatest, IsGreatestMoment, IsGreatestShear, effects_in}
 use Rattle.design_loads.specs.Greatest.{IsPeakMomentBy, IsPeakShearBy}
-use Rattle.design_loads.specs.Fitting.{EffectFits, MomentFitsGreatest, ShearFitsGreatest, SaysOfGreatest, FitIsOfTheGreatest}
+use Rattle.design_loads.specs.Fitting.{EffectFits, MomentFitsGreatest, ShearFitsGreatest, FitIsOfTheGreatest}
 use Rattle.design_loads.specs.declared.governing.By.{By}
 use Rattle.design_loads.specs.declared.governing.GreatestEffects.{GreatestEffects}
 use Rattle.design_loads.proofs.OneGreatest.{HasOneValue, HaveOneValue, greatest_same}

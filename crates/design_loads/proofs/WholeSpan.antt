@@ -1,7 +1,7 @@
 -- The whole span loaded is worst: for the moment with the section and the concentrated load at midspan, for the shear with the
 -- concentrated load at the support.
-use Rattle.std.proofs.Common.{◌≡◌, ℕ, ◌+◌, ◌-◌, ◌*◌, ◌<◌, ◌≤◌, [], ◌∷◌, arith, ap, ◌∙◌, inl, inr, pos}
-use Rattle.std.proofs.Math.Nat.{mul-le-mul_left, mul-le-mul_right}
+use Rattle.std.proofs.Common.{◌≡◌, ℕ, ◌+◌, ◌-◌, ◌*◌, ◌≤◌, [], ◌∷◌, arith, ◌∙◌, inl, inr, pos}
+use Rattle.std.proofs.Math.Nat.{mul-le-mul_left}
 use Rattle.std.proofs.lemmas.Bool.{cases_lt}
 use Rattle.std.proofs.lemmas.Int.{ints}
 use Rattle.influence_line.specs.Placed.{moment_line}
@@ -12,7 +12,7 @@ use Rattle.influence_line.proofs.Lines.{line_left}
 use Rattle.influence_line.proofs.Moves.{moment_rightward, moment_leftward}
 use Rattle.influence_line.proofs.Products.{product_under}
 use Rattle.influence_line.proofs.ReactionLines.{left_on, right_on}
-use Rattle.design_loads.specs.Lane.{Interval, LaneLoad, IsLanePlaced, moment_area, reaction_area}
+use Rattle.design_loads.specs.Lane.{LaneLoad, moment_area, reaction_area}
 use Rattle.design_loads.specs.LanePeaks.{IsPeakLaneMoment, IsPeakLaneShear}
 use Rattle.design_loads.proofs.Areas.{one_interval, area_around, moment_areas_most, reaction_areas_most}
 

@@ -22,7 +22,7 @@ abbrev pub MomentAreaIsParted : Type 0
 MomentAreaIsParted =
     (n r a b : ℕ) → a ≤ r → r ≤ b → b ≤ n
     → moment_area n r (record { from = a; to = b })
-        ≡ moment_area n r (record { from = a; to = r }) + moment_area n r (record { from = r; to = b })
+    ≡ moment_area n r (record { from = a; to = r }) + moment_area n r (record { from = r; to = b })
 
 -- the influence line of a reaction is straight over the whole span
 abbrev pub ReactionAreaIsUnderTheLine : Type 0

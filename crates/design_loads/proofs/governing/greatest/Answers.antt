@@ -17,8 +17,14 @@ result c = record {
 value : (c : goal.After-governing-shear) → result c ≡ greatest_of c.args.span
 unfolding greatest_of
 value c =
-    rw (c.governing-moment.ensures, c.governing-shear.ensures, c.effects-truck.ensures.value, c.lane-lane.ensures.value,
-    c.effects_of-military.ensures.value, c.military.ensures) refl
+    rw (
+      c.governing-moment.ensures,
+      c.governing-shear.ensures,
+      c.effects-truck.ensures.value,
+      c.lane-lane.ensures.value,
+      c.effects_of-military.ensures.value,
+      c.military.ensures,
+    ) refl
 
 pub returns-clause-greatest : goal.returns-clause-greatest
 returns-clause-greatest c =

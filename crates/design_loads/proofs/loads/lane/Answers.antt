@@ -1,5 +1,4 @@
 -- The two fractions are in lowest terms and have the values of the peaks.
-use Rattle.std.proofs.Common.{◌+◌, ◌*◌}
 use Rattle.design_loads.specs.LanePeaks.{AreLaneEffects}
 use Rattle.design_loads.proofs.OneLane.{lane_effects, lane_is_one}
 use Rattle.design_loads.proofs.loads.lane.Goals as goal
