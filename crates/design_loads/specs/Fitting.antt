@@ -13,8 +13,8 @@ use Rattle.design_loads.specs.Greatest.{AreGreatest, IsGreatestMoment, IsGreates
 use Rattle.design_loads.specs.declared.governing.By.{By}
 use Rattle.design_loads.specs.declared.governing.GreatestEffects.{GreatestEffects}
 
--- an effect fits, where it is said of fractions which are the truck's peak and which are the design's: there is the one, there is
--- the other, and the one is within the rating of the other
+-- an effect fits: there is a fraction that is the truck's peak, there is one that is the design's, and the first is within the
+-- rating of the second
 pub record EffectFits (IsTruckPeak IsDesignPeak : Ratio → Type 0) (rating : ℕ) : Type 0 where
   pub truck : Ratio
   pub design : Ratio

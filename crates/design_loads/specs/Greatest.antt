@@ -10,7 +10,7 @@ use Rattle.design_loads.specs.declared.governing.By.{By}
 use Rattle.design_loads.specs.declared.governing.By.TheVariants.{Truck, Lane, Military}
 use Rattle.design_loads.specs.declared.governing.GreatestEffects.{GreatestEffects}
 
--- the place of a design load in their order
+-- the place of a design load in the order truck, lane load, military loading
 abbrev pub place_of : By → ℕ
 place_of Truck = 0
 place_of Lane = 1
@@ -31,10 +31,11 @@ IsPeakShearBy span Truck f = IsPeakShear IsHs20Placed span f.num f.den
 IsPeakShearBy span Lane f = IsPeakLaneShear span f.num f.den
 IsPeakShearBy span Military f = IsPeakShear (IsTrainPlaced military_axles) span f.num f.den
 
--- there is such a peak, and it is at most an effect; or it is below the effect
+-- there is such a peak, and it is at most an effect
 abbrev pub HasPeakUpTo : (Ratio → Type 0) → Ratio → Type 0
 HasPeakUpTo IsPeak effect = (peak : Ratio) × IsPeak peak × IsUpTo peak effect.num effect.den
 
+-- there is such a peak, and it is below an effect
 abbrev pub HasPeakBelow : (Ratio → Type 0) → Ratio → Type 0
 HasPeakBelow IsPeak effect = (peak : Ratio) × IsPeak peak × (peak.num * effect.den < effect.num * peak.den)
 

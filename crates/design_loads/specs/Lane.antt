@@ -1,6 +1,5 @@
--- The lane load that stands beside the HS20-44 truck (AASHTO Standard Specifications for Highway Bridges, 3.7.6 and Figure 3.7.6B):
--- 640 lb per foot on any parts of the span, and one concentrated load on it, of 18,000 lb for the moment and of 26,000 lb for the
--- shear.
+-- The lane load of HS20-44 (AASHTO Standard Specifications for Highway Bridges, 3.7.6 and Figure 3.7.6B): 640 lb per foot on any parts
+-- of the span, and one concentrated load on it, of 18,000 lb for the moment and of 26,000 lb for the shear.
 -- Positions are whole numbers of units of 1/q inch from the left support, for a scale q; n is the span in these units.
 use Rattle.std.specs.Prelude.{ℕ, ◌+◌, ◌-◌, ◌*◌, ◌<◌, ◌≤◌, List, [], ◌∷◌, sum_by, nat_le, if◌then◌else◌, pos}
 use Rattle.influence_line.specs.Fractions.{Ratio}
@@ -32,12 +31,12 @@ pub record IsLanePlaced (span : ℕ) (lane : LaneLoad) : Type 0 where
   pub on : lane.at ≤ lane.q * span
   pub loaded : AreInOrder (lane.q * span) 0 lane.loaded
 
--- The influence line of the moment at section r rises in a straight line up to the section, as x * (n - r), and falls in one behind
--- it, as r * (n - x). Twice the area under it from a to b, where both are at or left of the section, and where both are at or right
--- of it:
+-- The influence line of the moment at section r is a triangle. Left of the section it rises as x * (n - r): twice the area under it
+-- from a to b there
 abbrev pub rising_area : ℕ → ℕ → ℕ → ℕ → ℕ
 rising_area n r a b = (n - r) * (b * b - a * a)
 
+-- right of the section it falls as r * (n - x): twice the area under it from a to b there
 abbrev pub falling_area : ℕ → ℕ → ℕ → ℕ → ℕ
 falling_area n r a b = r * ((n - a) * (n - a) - (n - b) * (n - b))
 

@@ -3,11 +3,11 @@
 //! 640 lb per foot on any parts of the span, and one concentrated load of 18,000 lb for the moment, or of
 //! 26,000 lb for the shear. The alternate military loading (3.7.4) is two axles of 24,000 lb, four feet apart.
 //!
-//! The crates above are promised that the effects of the lane load are reached by one of its placements and
-//! exceeded by none, over every section, every place of the concentrated load and any parts that are loaded,
-//! although they are two short formulas; that `greatest` gives the greatest peak of the three design loads, and
-//! names the first that reaches it; and that `fits_greatest` judges a truck by these peaks, whatever fractions
-//! they are written with.
+//! The effects of the lane load are two short formulas. The crates above are promised that some placement of
+//! the load reaches them and none exceeds them: over every section, every place of the concentrated load, and
+//! any parts that are loaded. They are promised that `greatest` gives the greatest peak of the three design
+//! loads and names the first that reaches it, and that `fits_greatest` judges a truck by these peaks,
+//! whatever fractions they are written with.
 #![tactic(auto)]
 
 mod governing;
