@@ -109,12 +109,15 @@ pub moment_areas_most : (n r s : ℕ) (intervals : List Interval) → r + s ≡ 
 moment_areas_most n r s intervals e h =
     let rest : n - r ≡ s = omega arith in
     let within = areas_within n r 0 intervals (omega arith) h in
-    let all : total (moment_area n r) intervals ≤ s * r * n = omega (arith, within, whole n r (omega arith), ap (λ t. t * r * n) rest) in
+    let span = ap (λ t. t * r * n) rest in
+    let all : total (moment_area n r) intervals ≤ s * r * n = omega (arith, within, whole n r (omega arith), span) in
     rw (total_is (moment_area n r) intervals) at all
 
 -- what an interval gives to a reaction, by squares that grow along the span
 left_area : (n : ℕ) (i : Interval) → i.from ≤ i.to → reaction_area n Left i + (n - i.to) * (n - i.to) ≡ (n - i.from) * (n - i.from)
-left_area n i h = let less : n - i.to ≤ n - i.from = omega arith in omega (arith, square (n - i.to) (n - i.from) less)
+left_area n i h =
+    let less : n - i.to ≤ n - i.from = omega arith in
+    omega (arith, square (n - i.to) (n - i.from) less)
 
 right_area : (n : ℕ) (i : Interval) → i.from ≤ i.to → reaction_area n Right i + i.from * i.from ≡ i.to * i.to
 right_area n i h = omega (arith, square i.from i.to h)

@@ -1,5 +1,5 @@
--- The lane load of HS20-44 (AASHTO Standard Specifications for Highway Bridges, 3.7.6 and Figure 3.7.6B): 640 lb per foot on any parts
--- of the span, and one concentrated load on it, of 18,000 lb for the moment and of 26,000 lb for the shear.
+-- The lane load of HS20-44 (AASHTO Standard Specifications for Highway Bridges, 3.7.6 and Figure 3.7.6B): 640 lb per foot on any
+-- parts of the span, and one concentrated load on it, of 18,000 lb for the moment and of 26,000 lb for the shear.
 -- Positions are whole numbers of units of 1/q inch from the left support, for a scale q; n is the span in these units.
 use Rattle.std.specs.Prelude.{ℕ, ◌+◌, ◌-◌, ◌*◌, ◌<◌, ◌≤◌, List, [], ◌∷◌, sum_by, nat_le, if◌then◌else◌, pos}
 use Rattle.influence_line.specs.Fractions.{Ratio}
