@@ -20,7 +20,7 @@ pub enum By {
 
 /// The greatest moment on a span in pounds times inches and the greatest end shear in pounds, each with the
 /// design load that it is of.
-#[derive(Clone, Copy, Debug, PartialEq, Eq)]
+#[derive(Clone, Copy, PartialEq, Eq)]
 pub struct GreatestEffects {
     pub moment: Frac,
     pub moment_by: By,
