@@ -1,5 +1,5 @@
 -- The greater of two effects, taken twice, gives the greatest of three and the first that reaches it.
-use Rattle.std.proofs.Common.{◌≡◌, ◌*◌, ◌<◌, ◌≤◌, arith, refl, ap, sym, subst, ◌∙◌, inl, inr}
+use Rattle.std.proofs.Common.{◌≡◌, ℕ, ◌*◌, ◌<◌, ◌≤◌, arith, refl, ap, sym, subst, ◌∙◌, inl, inr}
 use Rattle.std.proofs.lemmas.Bool.{cases_lt}
 use Rattle.std.proofs.lemmas.Bool.Decides.{nat_tests}
 use Rattle.axle_train.specs.Bounds.{IsTrain}
@@ -7,6 +7,7 @@ use Rattle.influence_line.specs.Fractions.{Ratio, IsSmall}
 use Rattle.moment_peak.proofs.Cross.{cross_trans}
 use Rattle.hs20_truck.specs.Effects.{effects_of, design_of}
 use Rattle.hs20_truck.proofs.OneEffects.{effects_are_the_peaks, design_is_the_peaks}
+use Rattle.span_rating.specs.declared.loading.Effects.{Effects}
 use Rattle.design_loads.specs.Military.{military_axles}
 use Rattle.design_loads.specs.Greatest.{IsGreatest, IsPeakMomentBy, IsPeakShearBy, HasPeakUpTo, HasPeakBelow, ComesBefore}
 use Rattle.design_loads.specs.SpanEffects.{greater_of, governing_of, lane_of, greatest_of}
@@ -15,7 +16,7 @@ use Rattle.design_loads.specs.declared.governing.By.{By}
 use Rattle.design_loads.specs.declared.governing.By.TheVariants.{Truck, Lane, Military}
 use Rattle.design_loads.specs.declared.governing.EffectBy.{EffectBy}
 use Rattle.design_loads.proofs.OneLane.{lane_is_the_peaks}
-use Rattle.design_loads.proofs.OneGreatest.{greatest_unique}
+use Rattle.design_loads.proofs.OneGreatest.{greatest_unique, put_together}
 
 -- a fraction is no more than another, or less
 abbrev IsNoMore : Ratio → Ratio → Type 0
@@ -156,3 +157,11 @@ greatest_is_of_the_peaks span some long =
 pub greatest_is_one : GreatestIsOne
 greatest_is_one span greatest some long are =
     greatest_unique span greatest (greatest_of span) some are (greatest_is_of_the_peaks span some long)
+
+-- what is put together of the two choices is the function of the span
+pub put_together_is : (span : ℕ) (truck lane military : Effects) (moment shear : EffectBy)
+    → truck ≡ design_of span → lane ≡ lane_of span → military ≡ effects_of military_axles span
+    → moment ≡ governing_of truck.moment lane.moment military.moment → shear ≡ governing_of truck.shear lane.shear military.shear
+    → put_together moment.effect moment.by shear.effect shear.by ≡ greatest_of span
+unfolding greatest_of
+put_together_is span truck lane military moment shear t l m by_moment by_shear = rw (by_moment, by_shear, t, l, m) refl

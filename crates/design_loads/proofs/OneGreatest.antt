@@ -103,7 +103,7 @@ same_load : (IsPeakBy : By → Ratio → Type 0) (f g : Ratio) (a b : By) → Ha
 same_load IsPeakBy f g a b one is other =
     same_place a b (not_before IsPeakBy f g a b one is other) (not_before IsPeakBy g f b a one other is)
 
-abbrev put_together : Ratio → By → Ratio → By → GreatestEffects
+abbrev pub put_together : Ratio → By → Ratio → By → GreatestEffects
 put_together m mb s sb = record { moment = m; moment_by = mb; shear = s; shear_by = sb }
 
 same_fields : (e f : GreatestEffects) → e.moment ≡ f.moment → e.moment_by ≡ f.moment_by → e.shear ≡ f.shear
