@@ -1,5 +1,8 @@
 // Day files, each with its journal, for the tests.
 
+/// Which of these days is the one with one road and one load.
+pub(crate) const ISSUED: usize = 0;
+
 /// Which of these days is the one with two loads, of which a posting recalls one.
 pub(crate) const RECALLING: usize = 2;
 

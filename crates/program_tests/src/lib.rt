@@ -7,6 +7,8 @@
 #[cfg(test)]
 mod days;
 #[cfg(test)]
+mod inputs;
+#[cfg(test)]
 mod made_days;
 #[cfg(test)]
 mod meetings;

@@ -1,6 +1,6 @@
 // Runs over sources and sinks in memory: whole outputs, refusals, faults in turn, and who is told of recalls.
 
-use crate::days::{DAYS, MEETING, NO_LEAP_DAY, RECALLING, TWO_RECALLS};
+use crate::days::{DAYS, ISSUED, MEETING, NO_LEAP_DAY, RECALLING, TWO_RECALLS};
 use analyst_pool::{Gate, OpenGate};
 use notice_desk::{MemoryNotice, Notice, Recall, Subscribers};
 use office_io::{MemorySink, MemorySource};
@@ -97,7 +97,7 @@ fn same(rt: &impl Abort, ran: &Ran, status: u8, text: &str) {
 }
 
 // The same of a run of these words over this input.
-fn ends<R: Abort + Threads + Wait + AllocGlobal + Sync>(
+pub(crate) fn ends<R: Abort + Threads + Wait + AllocGlobal + Sync>(
     rt: &R,
     words: &[&str],
     input: &[u8],
@@ -164,29 +164,31 @@ fn refuses_too_many_bytes(rt: HostRuntime) {
     drop(input);
 }
 
-// Which read and which write of a run of `check` fails, where the numbers begin with 1, and the status.
+// Which read and which write of a run fails, where the numbers begin with 1, and the status.
 const FAULTS: [(u32, u32, u8); 5] = [(1, 0, 3), (2, 0, 3), (3, 0, 0), (0, 1, 4), (0, 2, 0)];
 
-// A run over this input makes two reads and one write. Where one fails nothing is written.
+// A run over so short an input makes two reads and one write. Where one fails nothing is written.
 fn faults_at<R: Abort + Threads + Wait + AllocGlobal + Sync>(
     rt: &R,
-    read: u32,
-    write: u32,
-    status: u8,
+    word: &str,
+    input: &str,
+    fault: (u32, u32, u8),
 ) {
-    let ran = run_words(rt, &["check"], FHWA.as_bytes(), &[read], &[write]);
-    assert!(rt; ran.status == status, "read {read}, write {write}");
+    let (read, write, status) = fault;
+    let ran = run_words(rt, &[word], input.as_bytes(), &[read], &[write]);
+    assert!(rt; ran.status == status, "{word}, read {read}, write {write}");
     assert!(rt;
         ran.text.is_empty() == (status != 0),
-        "read {read}, write {write}"
+        "{word}, read {read}, write {write}"
     );
 }
 
 // A fault while a refusal is written leaves its status.
 #[test]
 fn answers_a_fault_at_each_call(rt: HostRuntime) {
-    for (read, write, status) in FAULTS {
-        faults_at(&rt, read, write, status);
+    for fault in FAULTS {
+        faults_at(&rt, "check", FHWA, fault);
+        faults_at(&rt, "day", DAYS[ISSUED].0, fault);
     }
     let refused = run_words(&rt, &["day"], b"", &[], &[1]);
     assert_eq!(rt; refused.status, 5);
@@ -213,12 +215,22 @@ fn says_how_it_is_used(rt: HostRuntime) {
     assert_eq!(rt; ran.status, 0);
 }
 
-// Runs a day, of whose recalls one object is told whose calls of these numbers fail: how the run ended, and what was heard.
+// Delivers recalls to one subscriber, who is through with no more than there are.
+#[tactic(auto, using(crate::proofs::Within::one_within))]
+fn deliver(rt: &impl Abort, notices: &mut Subscribers, recalls: &[Recall]) {
+    assert!(rt; notices.len() == 1);
+    assert!(rt; notices.passed(0) <= recalls.len());
+    assert!(rt; notices.deliver(recalls).is_ok());
+}
+
+// Runs a day, of whose recalls one object is told whose calls of these numbers fail: how the run ended, and what was heard. Where
+// some recalls are given, these are delivered behind the run.
 #[tactic(auto, using(notice_desk::proofs::Ready::none_new))]
 fn hear<R: Abort + Threads + Wait + AllocGlobal + Sync>(
     rt: &R,
     input: &str,
     failing: &[u32],
+    again: &[Recall],
 ) -> (Ran, Vec<Recall>) {
     let alloc = rt.alloc();
     let mut notices = Subscribers::new(alloc);
@@ -233,6 +245,9 @@ fn hear<R: Abort + Threads + Wait + AllocGlobal + Sync>(
     drop(source);
     let text = bytes_of(rt, alloc, &sink);
     drop(sink);
+    if !again.is_empty() {
+        deliver(rt, &mut notices, again);
+    }
     assert!(rt; notices.len() == 1);
     let heard = notices
         .told(0)
@@ -247,7 +262,7 @@ fn hear<R: Abort + Threads + Wait + AllocGlobal + Sync>(
 #[test]
 fn tells_of_recalls(rt: HostRuntime) {
     let (input, output) = DAYS[RECALLING];
-    let (ran, heard) = hear(&rt, input, &[]);
+    let (ran, heard) = hear(&rt, input, &[], &[]);
     same(&rt, &ran, 0, output);
     assert_eq!(rt; heard.len(), 1);
     for recall in &heard {
@@ -260,9 +275,21 @@ fn tells_of_recalls(rt: HostRuntime) {
 #[test]
 fn ends_with_8_where_nobody_hears(rt: HostRuntime) {
     let (input, output) = DAYS[RECALLING];
-    let (ran, heard) = hear(&rt, input, &[1]);
+    let (ran, heard) = hear(&rt, input, &[1], &[]);
     same(&rt, &ran, 8, output);
     assert!(rt; heard.is_empty());
+}
+
+// A later delivery of the same recalls to the same subscribers tells them.
+#[test]
+fn tells_later_what_was_not_heard(rt: HostRuntime) {
+    let (input, output) = DAYS[RECALLING];
+    let (ran, recalls) = hear(&rt, input, &[], &[]);
+    same(&rt, &ran, 0, output);
+    let (ran, heard) = hear(&rt, input, &[1], &recalls);
+    same(&rt, &ran, 8, output);
+    assert_eq!(rt; recalls.len(), 1);
+    assert!(rt; heard.as_slice() == recalls.as_slice());
 }
 
 // Tells an object that writes lines each recall of a day, up to the first that fails, and gives what the sink then holds.
@@ -287,7 +314,7 @@ const LINES: [(u32, &str); 3] = [
 #[test]
 fn writes_a_line_for_each_recall(rt: HostRuntime) {
     let (input, output) = TWO_RECALLS;
-    let (ran, heard) = hear(&rt, input, &[]);
+    let (ran, heard) = hear(&rt, input, &[], &[]);
     same(&rt, &ran, 0, output);
     for (write, text) in LINES {
         let lines = lines_of(&rt, rt.alloc(), &heard, &[write]);
