@@ -7,8 +7,8 @@ use Rattle.std.proofs.lemmas.List.{append-nil, length-append}
 use Rattle.office_io.specs.Causes.{Rose, TookAtMost, TookExactly}
 use Rattle.office_io.specs.declared.source.ReadRefusal.{ReadRefusal}
 use Rattle.office_io.specs.declared.source.ReadRefusal.TheVariants as unread
-use Rattle.notice_desk.specs.Deliveries.{Delivered, RoseAt, StoppedAt}
-use Rattle.notice_desk.specs.Lines.{EachWrote, WroteUntilAt}
+use Rattle.notice_desk.specs.Deliveries.{RoseAt, StoppedAt}
+use Rattle.notice_desk.specs.Lines.{WroteUntilAt}
 use Rattle.notice_desk.specs.declared.notice.Recall.{Recall}
 use Rattle.command_line.specs.declared.asked.Asked.{Asked}
 use Rattle.command_line.specs.declared.asked.Task.{Task}
@@ -19,10 +19,10 @@ use Rattle.record_text.specs.declared.refusal.Cause.{Cause}
 use Rattle.record_text.specs.declared.refusal.Cause.TheVariants as why
 use Rattle.std.specs.Prelude.{Result, Ok, Err}
 use Rattle.std.specs.String.{string_bytes}
-use Rattle.permit_program.specs.Command.{Answer, Command, IsRefusalOf, Makes, MakesAndTells, refusal_in}
+use Rattle.permit_program.specs.Command.{Answer, Command, IsRefusalOf, Makes, refusal_in}
 use Rattle.permit_program.specs.Commands.{command_by, command_of}
 use Rattle.permit_program.specs.Endings.{AnswersRefusal, AnswersText, AnswersUnread, WasUnread}
-use Rattle.permit_program.specs.Runs.{AsksForDay, DeskAt, IsPlain, IsRun, IsSettled, IsStatusOr, Outside, SinkAt, SinkFailed, SourceAt, Told, Took, TookAll, WroteLine, bytes_for, bytes_line, most_bytes, status_by, status_for}
+use Rattle.permit_program.specs.Runs.{AsksForDay, IsPlain, IsRun, IsSettled, IsStatusOr, Outside, SinkFailed, SourceAt, Told, Took, WroteLine, bytes_for, bytes_line, most_bytes, status_by, status_for}
 use Rattle.permit_program.specs.declared.refusal.Refusal.{Refusal}
 use Rattle.permit_program.specs.declared.refusal.Refusal.TheVariants.{NoMemory, Refused}
 

@@ -8,10 +8,9 @@ use Rattle.notice_desk.specs.declared.notice.Whom.TheVariants as whom
 use Rattle.office_core.specs.RecallLists.{recalls_in}
 use Rattle.permit_program.specs.Laws.{ListenersHearAll}
 use Rattle.permit_program.specs.Laws.{HasListener, HeardAll}
-use Rattle.permit_program.specs.Runs.{AsksForDay, IsRun, Outside, WroteAll}
-use Rattle.command_line.specs.declared.asked.Asked.{Asked}
+use Rattle.permit_program.specs.Runs.{Outside, WroteAll}
 use Rattle.command_line.specs.declared.asked.Task.{Task}
-use Rattle.permit_program.specs.Commands.{command_by, command_of}
+use Rattle.permit_program.specs.Commands.{command_by}
 use Rattle.permit_program.specs.Day.{day}
 
 -- all recalls are for one who is told of all

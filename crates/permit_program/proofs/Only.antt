@@ -1,5 +1,5 @@
 -- What a command makes of bytes keeps its promise, and is the only text that does.
-use Rattle.std.proofs.Common.{◌≡◌, ℕ, List, Option, Some, None, Result, Ok, Err, IfOk, Vec, refl, ap, sym, ◌∙◌, subst}
+use Rattle.std.proofs.Common.{◌≡◌, ℕ, List, Some, Result, Ok, Err, IfOk, Vec, refl, ap, sym, ◌∙◌, subst}
 use Rattle.std.specs.Global.{Global}
 use Rattle.names.specs.declared.refusal.NoMemory.{NoMemory}
 use Rattle.day_text.specs.Refusals.{IsRefusedAs}
@@ -20,7 +20,7 @@ use Rattle.day_trial.specs.Serial.{IsSerial, SerialHistoriesAreOne}
 use Rattle.day_trial.specs.Summaries.{summary_of}
 use Rattle.record_text.specs.declared.refusal.Cause.{Cause}
 use Rattle.permit_program.specs.Headline.{Headline}
-use Rattle.permit_program.specs.Check.{IsReportOn, check}
+use Rattle.permit_program.specs.Check.{check}
 use Rattle.permit_program.specs.Command.{Command, IsAnswerTo, IsRefusalOf, Makes, MakesAndTells, refusal_in}
 use Rattle.permit_program.specs.Day.{HasFewActors, day}
 use Rattle.permit_program.specs.Made.{IsTrial, make, trial}

@@ -1,11 +1,11 @@
 -- Which statuses come.
-use Rattle.std.proofs.Common.{◌≡◌, ◌⊎◌, ℕ, List, Option, Some, None, refl, sym, ap, ◌∙◌, inl, inr}
+use Rattle.std.proofs.Common.{◌≡◌, ◌⊎◌, ℕ, Some, None, refl, sym, ◌∙◌, inl, inr}
 use Rattle.command_line.specs.declared.asked.Asked.{Asked}
 use Rattle.command_line.specs.declared.asked.Task.{Task}
 use Rattle.command_line.specs.declared.asked.Task.TheVariants as task
 use Rattle.permit_program.specs.Commands.{command_by, command_of}
 use Rattle.permit_program.specs.Laws.{EveryStatusIsNamed, IsStatus, OnlyDaysTell}
-use Rattle.permit_program.specs.Runs.{IsPlain, IsRun, Outside, RefusedBytes, RefusedFile, WroteUntold}
+use Rattle.permit_program.specs.Runs.{IsPlain, Outside, RefusedBytes, RefusedFile, WroteUntold}
 use Rattle.permit_program.proofs.Ends.{refusal_status}
 
 plain_named : (status : ℕ) → IsPlain status → IsStatus status

@@ -1,4 +1,4 @@
-use Rattle.std.proofs.Common.{Option, Some, sym, subst}
+use Rattle.std.proofs.Common.{Option, sym, subst}
 use Rattle.command_line.specs.declared.asked.Asked.{Asked}
 use Rattle.permit_program.specs.Runs.{IsAlone, outside_of}
 use Rattle.permit_program.specs.declared.runs.Alone.TheVariants as alone
