@@ -2,6 +2,7 @@
 
 ghost use Rattle.axle_limits.specs.Limits.{GroupLimitIsComputed};
 ghost use Rattle.axle_limits.specs.Groups.{GroupsAreListed};
+ghost use Rattle.axle_limits.specs.Tridems.{TridemIsComputed};
 ghost use Rattle.axle_limits.specs.Worst.{WorstIsThere, WorstIsOne};
 
 /// A law, and no code: the rules give each group one limit, which `group_limit_of` computes.
@@ -18,4 +19,10 @@ pub fn all_groups_are_listed()
 pub fn there_is_one_worst_group()
     ensures there { WorstIsThere }
     ensures one { WorstIsOne }
+{}
+
+/// A law, and no code: the heaviest tridem group is the one that `heaviest_tridem_of` finds, and it finds none exactly where no
+/// axles are a tridem group.
+pub fn tridem_is_computed()
+    ensures { TridemIsComputed }
 {}

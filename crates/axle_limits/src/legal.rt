@@ -6,6 +6,10 @@ pub const SINGLE_SPREAD: u32 = 40;
 /// 23 CFR 658.5: axles further apart than a single axle's and at most this far are a tandem axle.
 pub const TANDEM_SPREAD: u32 = 96;
 
+/// Three axles further apart, from first to last, than a tandem axle's and at most this far are a tridem group. No federal rule
+/// has one, and this is the project's own choice.
+pub const TRIDEM_SPREAD: u32 = 144;
+
 /// 23 CFR 658.17(e): 36 ft, the least distance from first to last at which two tandem axles have a limit of their own.
 pub const TWO_TANDEM_SPREAD: u32 = 432;
 

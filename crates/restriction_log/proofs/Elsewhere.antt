@@ -5,37 +5,33 @@ use Rattle.std.proofs.lemmas.Bool.{or_parts, eqb-false}
 use Rattle.std.proofs.lemmas.List.{take-append-drop}
 use Rattle.std.proofs.lemmas.Option.{get_or_from_slice_get}
 use Rattle.road_graph.specs.declared.segment.Span.{Span}
-use Rattle.road_graph.specs.Ranges.{default_values}
+use Rattle.road_graph.specs.Ranges.{default_values, with_value}
 use Rattle.road_graph.specs.Roads.{Roads, no_span, span_at}
 use Rattle.restriction_log.specs.declared.change.Change.{Change}
-use Rattle.restriction_log.specs.declared.change.Change.TheVariants.{Closed, Height, Width, Length, Gross, Allowance, Rating}
-use Rattle.restriction_log.specs.Changes.{touched, is_touched, value_after}
-use Rattle.restriction_log.specs.States.{InForce, values_at, with_change, state_after, state_of, base_of, AgreeOn, AgreeSince}
+use Rattle.restriction_log.specs.declared.change.Replaced.{Replaced}
+use Rattle.restriction_log.specs.declared.change.Replaced.TheVariants as replaced
+use Rattle.restriction_log.specs.Changes.{replaced_by, segment_in, touched, is_touched}
+use Rattle.restriction_log.specs.States.{InForce, values_at, with_replaced, state_after, state_of, base_of, AgreeOn, AgreeSince}
 
--- what a segment's change leaves: each other segment, and each span
-agree-change : (roads : Roads) (segment other : ℕ) (state : InForce) (change : Change) → segment ≢ other
-    → AgreeOn roads segment state (with_change state other change)
-agree-change roads segment other state change apart = record {
-  values = get_or-set_other state.values other segment (value_after (values_at state.values other) change) default_values apart;
+-- what replaces a value elsewhere leaves the segment as it was, and each of its spans
+agree-with : (roads : Roads) (segment : ℕ) (state : InForce) (r : Replaced) → segment ≢ segment_in roads r
+    → AgreeOn roads segment state (with_replaced state r)
+agree-with roads segment state (replaced.Limit other limit value) apart = record {
+  values = get_or-set_other state.values other segment (with_value (values_at state.values other) limit value) default_values apart;
   ratings = λ i t at on. refl;
 }
-
--- one change that does not name the segment or a span of it
-pub agree-after : (roads : Roads) (segment : ℕ) (state : InForce) (change : Change) → segment ≢ touched roads change
-    → AgreeOn roads segment state (state_after state change)
-agree-after roads segment state (Closed other closed) apart = agree-change roads segment other state (Closed other closed) apart
-agree-after roads segment state (Height other inches) apart = agree-change roads segment other state (Height other inches) apart
-agree-after roads segment state (Width other inches) apart = agree-change roads segment other state (Width other inches) apart
-agree-after roads segment state (Length other inches) apart = agree-change roads segment other state (Length other inches) apart
-agree-after roads segment state (Gross other pounds) apart = agree-change roads segment other state (Gross other pounds) apart
-agree-after roads segment state (Allowance other permille) apart = agree-change roads segment other state (Allowance other permille) apart
-agree-after roads segment state (Rating span permille) apart = record {
+agree-with roads segment state (replaced.Rating span permille) apart = record {
   values = refl;
   ratings = λ i t at on.
       let here : span_at roads.spans i ≡ t = get_or_from_slice_get roads.spans i t no_span at in
       let far : i ≢ span = λ same. apart (sym on ∙ ap (λ (u : Span). u.segment) (sym here) ∙ ap (λ (k : ℕ). (span_at roads.spans k).segment) same) in
       get_or-set_other state.ratings span i permille 0 far;
 }
+
+-- one change that does not name the segment or a span of it
+pub agree-after : (roads : Roads) (segment : ℕ) (state : InForce) (change : Change) → segment ≢ touched roads change
+    → AgreeOn roads segment state (state_after state change)
+agree-after roads segment state change = agree-with roads segment state (replaced_by change)
 
 agree-trans : (roads : Roads) (segment : ℕ) (a b c : InForce) → AgreeOn roads segment a b → AgreeOn roads segment b c → AgreeOn roads segment a c
 agree-trans roads segment a b c h k = record {

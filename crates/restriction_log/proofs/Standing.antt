@@ -1,40 +1,36 @@
 -- A state keeps its numbers of segments and spans, so it has what its network takes; and a network's states are of it: the
 -- base, and each state after a change that the network takes.
 use Rattle.std.proofs.Common.{◌≡◌, ◌∷◌, [], ℕ, ◌<◌, ◌≤◌, List, true, length, map, refl, ap, ◌∙◌, inl, inr, arith, length-set, get_or-set_same, get_or-set_other}
-use Rattle.std.specs.Prelude.{nat_lt, fold}
+use Rattle.std.specs.Prelude.{nat_lt, fold, slice_set}
 use Rattle.std.proofs.lemmas.Bool.{and_parts, ltb-true, leb-true, cases_eq}
 use Rattle.std.proofs.lemmas.List.{length-map, get_or_past}
 use Rattle.std.proofs.lemmas.List.Elements.{All-head, All-tail}
 use Rattle.std.proofs.lemmas.Option.{get_or_from_slice_get, slice_get_cases}
 use Rattle.road_graph.specs.declared.segment.Segment.{Segment}
 use Rattle.road_graph.specs.declared.segment.Span.{Span}
-use Rattle.road_graph.specs.Ranges.{is_limit, is_rating}
-use Rattle.road_graph.specs.declared.values.What.TheVariants as what
+use Rattle.road_graph.specs.Ranges.{is_limit, is_rating, with_value}
 use Rattle.road_graph.specs.Roads.{Roads}
 use Rattle.road_graph.proofs.Places.{get-map}
 use Rattle.restriction_log.specs.declared.change.Change.{Change}
-use Rattle.restriction_log.specs.declared.change.Change.TheVariants.{Closed, Height, Width, Length, Gross, Allowance, Rating}
-use Rattle.restriction_log.specs.Changes.{takes, AreTaken, has_segment, value_after}
-use Rattle.restriction_log.specs.States.{InForce, AreOf, values_at, rating_at, state_after, state_of, base_of, is_named}
+use Rattle.restriction_log.specs.declared.change.Replaced.{Replaced}
+use Rattle.restriction_log.specs.declared.change.Replaced.TheVariants as replaced
+use Rattle.restriction_log.specs.Changes.{takes, takes_replaced, replaced_by, AreTaken, has_segment}
+use Rattle.restriction_log.specs.States.{InForce, AreOf, values_at, rating_at, with_replaced, state_after, state_of, base_of, has_replaced, is_named}
 use Rattle.restriction_log.specs.Laws.{BaseIsOf, StaysOf, StateIsOf}
 
+values_many_with : (state : InForce) (r : Replaced) → length (with_replaced state r).values ≡ length state.values
+values_many_with state (replaced.Limit s limit x) = length-set state.values s (with_value (values_at state.values s) limit x)
+values_many_with state (replaced.Rating t x) = refl
+
 pub values_many_after : (state : InForce) (c : Change) → length (state_after state c).values ≡ length state.values
-values_many_after state (Closed s x) = length-set state.values s (value_after (values_at state.values s) (Closed s x))
-values_many_after state (Height s x) = length-set state.values s (value_after (values_at state.values s) (Height s x))
-values_many_after state (Width s x) = length-set state.values s (value_after (values_at state.values s) (Width s x))
-values_many_after state (Length s x) = length-set state.values s (value_after (values_at state.values s) (Length s x))
-values_many_after state (Gross s x) = length-set state.values s (value_after (values_at state.values s) (Gross s x))
-values_many_after state (Allowance s x) = length-set state.values s (value_after (values_at state.values s) (Allowance s x))
-values_many_after state (Rating t x) = refl
+values_many_after state c = values_many_with state (replaced_by c)
+
+ratings_many_with : (state : InForce) (r : Replaced) → length (with_replaced state r).ratings ≡ length state.ratings
+ratings_many_with state (replaced.Limit s limit x) = refl
+ratings_many_with state (replaced.Rating t x) = length-set state.ratings t x
 
 pub ratings_many_after : (state : InForce) (c : Change) → length (state_after state c).ratings ≡ length state.ratings
-ratings_many_after state (Closed s x) = refl
-ratings_many_after state (Height s x) = refl
-ratings_many_after state (Width s x) = refl
-ratings_many_after state (Length s x) = refl
-ratings_many_after state (Gross s x) = refl
-ratings_many_after state (Allowance s x) = refl
-ratings_many_after state (Rating t x) = length-set state.ratings t x
+ratings_many_after state c = ratings_many_with state (replaced_by c)
 
 values_many_fold : (state : InForce) (cs : List Change) → length (fold state_after state cs).values ≡ length state.values
 values_many_fold state [] = refl
@@ -52,15 +48,14 @@ pub ratings_many : (roads : Roads) (postings : List Change) → length (state_of
 ratings_many roads postings = ratings_many_fold (base_of roads) postings ∙ length-map roads.spans (λ (t : Span). t.rating)
 
 -- what a state has of the numbers of segments and spans of a network
+has_by_count : (roads : Roads) (state : InForce) (r : Replaced) → length state.values ≡ length roads.segments → length state.ratings ≡ length roads.spans
+    → takes_replaced roads r ≡ true → has_replaced state r ≡ true
+has_by_count roads state (replaced.Limit s limit x) values ratings taken = ap (nat_lt s) values ∙ (and_parts (has_segment roads s) (is_limit limit x) taken).0
+has_by_count roads state (replaced.Rating t x) values ratings taken = ap (nat_lt t) ratings ∙ (and_parts (nat_lt t (length roads.spans)) (is_rating x) taken).0
+
 pub named_by_count : (roads : Roads) (state : InForce) (c : Change) → length state.values ≡ length roads.segments → length state.ratings ≡ length roads.spans
     → takes roads c ≡ true → is_named state c ≡ true
-named_by_count roads state (Closed s x) values ratings taken = ap (nat_lt s) values ∙ taken
-named_by_count roads state (Height s x) values ratings taken = ap (nat_lt s) values ∙ (and_parts (has_segment roads s) (is_limit what.Height x) taken).0
-named_by_count roads state (Width s x) values ratings taken = ap (nat_lt s) values ∙ (and_parts (has_segment roads s) (is_limit what.Width x) taken).0
-named_by_count roads state (Length s x) values ratings taken = ap (nat_lt s) values ∙ (and_parts (has_segment roads s) (is_limit what.Length x) taken).0
-named_by_count roads state (Gross s x) values ratings taken = ap (nat_lt s) values ∙ (and_parts (has_segment roads s) (is_limit what.Gross x) taken).0
-named_by_count roads state (Allowance s x) values ratings taken = ap (nat_lt s) values ∙ (and_parts (has_segment roads s) (is_limit what.Allowance x) taken).0
-named_by_count roads state (Rating t x) values ratings taken = ap (nat_lt t) ratings ∙ (and_parts (nat_lt t (length roads.spans)) (is_rating x) taken).0
+named_by_count roads state c = has_by_count roads state (replaced_by c)
 
 -- what the network takes is in each of its states
 pub named_if_taken : (roads : Roads) (postings : List Change) (c : Change) → takes roads c ≡ true → is_named (state_of roads postings) c ≡ true
@@ -93,21 +88,16 @@ named_of roads state change is taken = named_by_count roads state change is.valu
 
 -- a rating in range keeps the others
 rated : (ratings : List ℕ) (span permille i : ℕ) → span < length ratings → permille ≤ 100000 → rating_at ratings i ≤ 100000
-    → rating_at (state_after (record { values = []; ratings = ratings }) (Rating span permille)).ratings i ≤ 100000
+    → rating_at (slice_set ratings span permille) i ≤ 100000
 rated ratings span permille i within low before = elim (cases_eq i span) [
   | inl same ↦ rw (same, get_or-set_same ratings span permille 0 within) low
   | inr apart ↦ rw (get_or-set_other ratings span i permille 0 apart) before
 ]
 
-in_range_after : (roads : Roads) (state : InForce) (change : Change) → AreOf roads state → takes roads change ≡ true
-    → (i : ℕ) → rating_at (state_after state change).ratings i ≤ 100000
-in_range_after roads state (Closed s x) is taken i = is.in_range i
-in_range_after roads state (Height s x) is taken i = is.in_range i
-in_range_after roads state (Width s x) is taken i = is.in_range i
-in_range_after roads state (Length s x) is taken i = is.in_range i
-in_range_after roads state (Gross s x) is taken i = is.in_range i
-in_range_after roads state (Allowance s x) is taken i = is.in_range i
-in_range_after roads state (Rating span permille) is taken i =
+in_range_with : (roads : Roads) (state : InForce) (r : Replaced) → AreOf roads state → takes_replaced roads r ≡ true
+    → (i : ℕ) → rating_at (with_replaced state r).ratings i ≤ 100000
+in_range_with roads state (replaced.Limit s limit x) is taken i = is.in_range i
+in_range_with roads state (replaced.Rating span permille) is taken i =
     let parts = and_parts (nat_lt span (length roads.spans)) (is_rating permille) taken in
     let within : span < length state.ratings = omega (arith, ltb-true span (length roads.spans) parts.0, is.ratings) in
     rated state.ratings span permille i within (leb-true permille 100000 parts.1) (is.in_range i)
@@ -117,7 +107,7 @@ pub stays_of : StaysOf
 stays_of roads state change is taken = record {
   values = values_many_after state change ∙ is.values;
   ratings = ratings_many_after state change ∙ is.ratings;
-  in_range = in_range_after roads state change is taken;
+  in_range = in_range_with roads state (replaced_by change) is taken;
 }
 
 of_fold : (roads : Roads) (changes : List Change) (state : InForce) → AreOf roads state → AreTaken roads changes

@@ -2,11 +2,13 @@
 use Rattle.std.specs.Prelude.{◌≡◌, ◌≤◌, ℕ, Bool, List, map, take, fold, length, nat_lt, slice_get, slice_set, slice_index_or, Some}
 use Rattle.road_graph.specs.declared.values.Values.{Values}
 use Rattle.road_graph.specs.declared.segment.Span.{Span}
-use Rattle.road_graph.specs.Ranges.{default_values}
+use Rattle.road_graph.specs.declared.values.What.{What}
+use Rattle.road_graph.specs.Ranges.{default_values, with_value}
 use Rattle.road_graph.specs.Roads.{Roads}
 use Rattle.restriction_log.specs.declared.change.Change.{Change}
-use Rattle.restriction_log.specs.declared.change.Change.TheVariants.{Closed, Height, Width, Length, Gross, Allowance, Rating}
-use Rattle.restriction_log.specs.Changes.{value_after}
+use Rattle.restriction_log.specs.declared.change.Replaced.{Replaced}
+use Rattle.restriction_log.specs.declared.change.Replaced.TheVariants as replaced
+use Rattle.restriction_log.specs.Changes.{replaced_by}
 
 -- the limits of each segment and the rating of each span
 pub record InForce : Type 0 where
@@ -25,34 +27,32 @@ rating_at ratings i = slice_index_or ratings i 0
 abbrev pub base_of : Roads → InForce
 base_of roads = record { values = map (λ s. s.base) roads.segments; ratings = map (λ t. t.rating) roads.spans }
 
--- the limits of one segment after a change
-abbrev pub with_change : InForce → ℕ → Change → InForce
-with_change state segment change =
-    record state { values = slice_set state.values segment (value_after (values_at state.values segment) change) }
+-- the state with one limit of a segment replaced
+abbrev pub with_limit : InForce → ℕ → What → ℕ → InForce
+with_limit state segment limit value =
+    record state { values = slice_set state.values segment (with_value (values_at state.values segment) limit value) }
+
+-- the state with what is replaced
+abbrev pub with_replaced : InForce → Replaced → InForce
+with_replaced state (replaced.Limit segment limit value) = with_limit state segment limit value
+with_replaced state (replaced.Rating span permille) = record state { ratings = slice_set state.ratings span permille }
 
 -- the state after a change: the one value that it names is replaced, and every other stays
 abbrev pub state_after : InForce → Change → InForce
-state_after state (Closed segment closed) = with_change state segment (Closed segment closed)
-state_after state (Height segment inches) = with_change state segment (Height segment inches)
-state_after state (Width segment inches) = with_change state segment (Width segment inches)
-state_after state (Length segment inches) = with_change state segment (Length segment inches)
-state_after state (Gross segment pounds) = with_change state segment (Gross segment pounds)
-state_after state (Allowance segment permille) = with_change state segment (Allowance segment permille)
-state_after state (Rating span permille) = record state { ratings = slice_set state.ratings span permille }
+state_after state change = with_replaced state (replaced_by change)
 
 -- the base values of the network with the postings applied in order
 abbrev pub state_of : Roads → List Change → InForce
 state_of roads postings = fold state_after (base_of roads) postings
 
+-- whether the state has the segment or span of which a value is replaced
+abbrev pub has_replaced : InForce → Replaced → Bool
+has_replaced state (replaced.Limit segment limit value) = nat_lt segment (length state.values)
+has_replaced state (replaced.Rating span permille) = nat_lt span (length state.ratings)
+
 -- whether the state has the segment or span that the change names; it has where the network takes the change
 abbrev pub is_named : InForce → Change → Bool
-is_named state (Closed segment closed) = nat_lt segment (length state.values)
-is_named state (Height segment inches) = nat_lt segment (length state.values)
-is_named state (Width segment inches) = nat_lt segment (length state.values)
-is_named state (Length segment inches) = nat_lt segment (length state.values)
-is_named state (Gross segment pounds) = nat_lt segment (length state.values)
-is_named state (Allowance segment permille) = nat_lt segment (length state.values)
-is_named state (Rating span permille) = nat_lt span (length state.ratings)
+is_named state change = has_replaced state (replaced_by change)
 
 -- the two states have the same limits of the segment, and the same rating of each of its spans
 pub record AgreeOn (roads : Roads) (segment : ℕ) (old new : InForce) : Type 0 where

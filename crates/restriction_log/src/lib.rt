@@ -22,7 +22,7 @@ mod refusal;
 mod stamps;
 mod state;
 
-pub use change::{Change, takes, touched};
+pub use change::{Change, Replaced, takes, touched};
 pub use laws::states_are_of_their_network;
 pub use log::Log;
 pub use refusal::PostRefusal;

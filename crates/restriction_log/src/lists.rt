@@ -1,9 +1,7 @@
-// What a state consists of: the lists with which a network begins, and the limits of a segment after a change.
+// The lists with which the state of a network begins.
 
 ghost use Rattle.std.specs.Prelude.{◌≡◌, map, IfOk};
-ghost use Rattle.restriction_log.specs.Changes.{value_after};
 
-use crate::change::Change;
 use crate::pages::Pages;
 use road_graph::{Network, Values};
 use std::alloc::{AllocError, Global};
@@ -30,21 +28,4 @@ pub(crate) fn base_ratings(alloc: Global, network: &Network) -> Result<Pages<u32
         ratings.push(network.span(i).rating)?;
     }
     Pages::of(alloc, &ratings, 0)
-}
-
-/// The limits of a segment after a change that names it.
-pub(crate) fn replaced(values: Values, change: &Change) -> Values
-    ensures { result ≡ value_after values change.now }
-{
-    let mut values = values;
-    match change {
-        Change::Closed { closed, .. } => values.closed = *closed,
-        Change::Height { inches, .. } => values.height = *inches,
-        Change::Width { inches, .. } => values.width = *inches,
-        Change::Length { inches, .. } => values.length = *inches,
-        Change::Gross { pounds, .. } => values.gross = *pounds,
-        Change::Allowance { permille, .. } => values.allowance = *permille,
-        Change::Rating { .. } => {}
-    }
-    values
 }

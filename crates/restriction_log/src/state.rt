@@ -1,10 +1,10 @@
 // The limits and ratings in force.
 
-use crate::change::Change;
-use crate::lists::{base_ratings, base_values, replaced};
+use crate::change::{Change, Replaced};
+use crate::lists::{base_ratings, base_values};
 use crate::pages::Pages;
 use names::NoMemory;
-use road_graph::{Network, Values};
+use road_graph::{Network, Values, What};
 use std::alloc::Global;
 use std::marker::Model;
 
@@ -27,8 +27,8 @@ impl Model for State {
 
 impl State {
     ghost use Rattle.std.specs.Prelude.{◌≡◌, ◌<◌, length, true, IfOk};
-    ghost use Rattle.restriction_log.specs.States.{InForce, base_of, state_after, is_named, values_at, rating_at, with_change};
-    ghost use Rattle.restriction_log.specs.declared.change.Change.TheVariants.{Rating};
+    ghost use Rattle.restriction_log.specs.States.{InForce, base_of, state_after, is_named, values_at, rating_at, with_limit, with_replaced};
+    ghost use Rattle.restriction_log.specs.declared.change.Replaced.TheVariants.{Rating};
 
     /// The state before anything is posted.
     pub fn base(alloc: Global, network: &Network) -> Result<State, NoMemory>
@@ -67,23 +67,28 @@ impl State {
         ensures values { IfOk result (λ state. length state.values ≡ length self.now.values) }
         ensures ratings { IfOk result (λ state. length state.ratings ≡ length self.now.ratings) }
     {
-        match change {
-            Change::Closed { segment, .. } => self.with_limits(alloc, *segment, change),
-            Change::Height { segment, .. } => self.with_limits(alloc, *segment, change),
-            Change::Width { segment, .. } => self.with_limits(alloc, *segment, change),
-            Change::Length { segment, .. } => self.with_limits(alloc, *segment, change),
-            Change::Gross { segment, .. } => self.with_limits(alloc, *segment, change),
-            Change::Allowance { segment, .. } => self.with_limits(alloc, *segment, change),
-            Change::Rating { span, permille } => self.with_rating(alloc, *span, *permille),
+        match change.replaced() {
+            Replaced::Limit {
+                segment,
+                what,
+                value,
+            } => self.with_limit(alloc, segment, what, value),
+            Replaced::Rating { span, permille } => self.with_rating(alloc, span, permille),
         }
     }
 
-    // This state with other limits of the segment, those after a change that names it.
-    fn with_limits(&self, alloc: Global, segment: u32, change: &Change) -> Result<State, NoMemory>
+    // This state with another value of one limit of the segment.
+    fn with_limit(
+        &self,
+        alloc: Global,
+        segment: u32,
+        what: What,
+        value: u32,
+    ) -> Result<State, NoMemory>
         requires { segment < length self.now.values }
-        ensures { IfOk result (λ state. state ≡ with_change self.now segment change.now) }
+        ensures { IfOk result (λ state. state ≡ with_limit self.now segment what value) }
     {
-        let limits = replaced(self.segment(segment), change);
+        let limits = self.segment(segment).with(what, value);
         Ok(State {
             values: self.values.with(alloc, segment as usize, limits)?,
             ratings: self.ratings.again(alloc)?,
@@ -93,7 +98,7 @@ impl State {
     // This state with another rating of the span.
     fn with_rating(&self, alloc: Global, span: u32, permille: u32) -> Result<State, NoMemory>
         requires { span < length self.now.ratings }
-        ensures { IfOk result (λ state. state ≡ state_after self.now (Rating span permille)) }
+        ensures { IfOk result (λ state. state ≡ with_replaced self.now (Rating span permille)) }
     {
         Ok(State {
             values: self.values.again(alloc)?,

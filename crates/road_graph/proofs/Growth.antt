@@ -8,7 +8,7 @@ use Rattle.road_graph.specs.declared.segment.Segment.{Segment}
 use Rattle.road_graph.specs.declared.segment.Span.{Span}
 use Rattle.road_graph.specs.declared.values.Values.{Values}
 use Rattle.road_graph.specs.declared.values.What.{What}
-use Rattle.road_graph.specs.declared.values.What.TheVariants.{Closed, Height, Width, Length, Gross, Allowance}
+use Rattle.road_graph.specs.declared.values.What.TheVariants.{Closed, Height, Width, Length, Gross, Allowance, Tridem}
 use Rattle.road_graph.specs.Ranges.{is_between, is_feet, is_inches, is_rating, is_limit, with_value, AreInRange}
 use Rattle.road_graph.specs.Roads.{Roads, has_name, segment_names, span_names, spans_of, AreDistinct, IsSegment, IsSpan, IsRoads}
 use Rattle.road_graph.specs.Adding.{new_segment, with_node, with_segment, with_span, limited}
@@ -32,7 +32,7 @@ segment-fits nodes name from to feet ends long =
       to = ltb-true to nodes both.1;
       some = feet_are.0;
       far = feet_are.1;
-      base = record { height = refl; width = refl; length = refl; gross = refl; allowance = refl };
+      base = record { height = refl; width = refl; length = refl; gross = refl; allowance = refl; tridem = refl };
     }
 
 pub span-fits : (segments : ℕ) (name : List ℕ) (segment inches rating : ℕ) → segment < segments → is_inches inches && is_rating rating ≡ true
@@ -101,12 +101,13 @@ roads-span roads t h few few_here fits none =
     }
 
 pub range-limit : (v : Values) (what : What) (value : ℕ) → AreInRange v → is_limit what value ≡ true → AreInRange (with_value v what value)
-range-limit v Closed value h fits = record { height = h.height; width = h.width; length = h.length; gross = h.gross; allowance = h.allowance }
-range-limit v Height value h fits = record { height = fits; width = h.width; length = h.length; gross = h.gross; allowance = h.allowance }
-range-limit v Width value h fits = record { height = h.height; width = fits; length = h.length; gross = h.gross; allowance = h.allowance }
-range-limit v Length value h fits = record { height = h.height; width = h.width; length = fits; gross = h.gross; allowance = h.allowance }
-range-limit v Gross value h fits = record { height = h.height; width = h.width; length = h.length; gross = fits; allowance = h.allowance }
-range-limit v Allowance value h fits = record { height = h.height; width = h.width; length = h.length; gross = h.gross; allowance = fits }
+range-limit v Closed value h fits = record { height = h.height; width = h.width; length = h.length; gross = h.gross; allowance = h.allowance; tridem = h.tridem }
+range-limit v Height value h fits = record { height = fits; width = h.width; length = h.length; gross = h.gross; allowance = h.allowance; tridem = h.tridem }
+range-limit v Width value h fits = record { height = h.height; width = fits; length = h.length; gross = h.gross; allowance = h.allowance; tridem = h.tridem }
+range-limit v Length value h fits = record { height = h.height; width = h.width; length = fits; gross = h.gross; allowance = h.allowance; tridem = h.tridem }
+range-limit v Gross value h fits = record { height = h.height; width = h.width; length = h.length; gross = fits; allowance = h.allowance; tridem = h.tridem }
+range-limit v Allowance value h fits = record { height = h.height; width = h.width; length = h.length; gross = h.gross; allowance = fits; tridem = h.tridem }
+range-limit v Tridem value h fits = record { height = h.height; width = h.width; length = h.length; gross = h.gross; allowance = h.allowance; tridem = fits }
 
 -- a limit changes no name
 pub names-limit : (segments : List Segment) (i : ℕ) (s : Segment) (what : What) (value : ℕ) → slice_get segments i ≡ Some s

@@ -18,6 +18,8 @@ pub struct Values {
     pub gross: u32,
     /// What an axle group may weigh, in per mille of its federal limit, 0 to 100,000.
     pub allowance: u32,
+    /// The greatest weight of a tridem group in pounds, 1 to 600,000.
+    pub tridem: u32,
 }
 
 /// Which of the limits of a segment is meant.
@@ -35,6 +37,8 @@ pub enum What {
     Gross,
     /// The allowance on the limit of each axle group.
     Allowance,
+    /// The greatest weight of a tridem group.
+    Tridem,
 }
 
 impl What {
@@ -48,6 +52,7 @@ impl What {
             What::Length => 1 <= value && value <= 9999,
             What::Gross => 1 <= value && value <= 2000000,
             What::Allowance => value <= 100000,
+            What::Tridem => 1 <= value && value <= 600000,
         }
     }
 }
@@ -65,6 +70,7 @@ impl Values {
             What::Length => values.length = value,
             What::Gross => values.gross = value,
             What::Allowance => values.allowance = value,
+            What::Tridem => values.tridem = value,
         }
         values
     }
@@ -82,6 +88,7 @@ impl Default for Values {
             length: 9999,
             gross: 2000000,
             allowance: 100000,
+            tridem: 600000,
         }
     }
 }
