@@ -26,6 +26,10 @@ pub record IsHeaviestTridem (axles : List Axle) (g : Heaviest) : Type 0 where
 abbrev pub HasNoTridem : List Axle → Type 0
 HasNoTridem axles = (i j : ℕ) → IsTridem axles i j → ⊥
 
+-- every tridem group weighs at most so many pounds
+abbrev pub TridemsAreWithin : List Axle → ℕ → Type 0
+TridemsAreWithin axles pounds = (i j : ℕ) → IsTridem axles i j → group_weight axles i j ≤ pounds
+
 -- the same of the groups that begin before axle n alone
 pub record IsHeaviestBefore (axles : List Axle) (n : ℕ) (g : Heaviest) : Type 0 where
   pub is_tridem : IsTridem axles g.i g.j

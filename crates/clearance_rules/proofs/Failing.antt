@@ -12,6 +12,9 @@ use Rattle.axle_limits.specs.Worst.{is_over as is_group_over, worst_of}
 use Rattle.axle_limits.specs.declared.worst_group.WorstGroup.{WorstGroup}
 use Rattle.axle_limits.proofs.Allowance.{any_over}
 use Rattle.axle_limits.proofs.WorstGroups.{worst_is_there, worst_is_one}
+use Rattle.axle_limits.proofs.Tridems.{heaviest_is_found, tridem_is_computed}
+use Rattle.axle_limits.specs.Tridems.{IsHeaviestTridem, heaviest_tridem_of}
+use Rattle.axle_limits.specs.declared.tridem.Heaviest.{Heaviest}
 use Rattle.influence_line.specs.Fractions.{IsLowest, Ratio}
 use Rattle.influence_line.specs.Peaks.{IsTrainPlaced, IsHs20Placed}
 use Rattle.influence_line.proofs.Unique.{moment_same, moment_unique, shear_same, shear_unique}
@@ -26,14 +29,14 @@ use Rattle.road_graph.specs.Roads.{Roads, IsRoads, no_span, span_at, spans_of}
 use Rattle.road_graph.proofs.Filters.{spans_are}
 use Rattle.restriction_log.specs.States.{InForce, values_at, rating_at}
 use Rattle.clearance_rules.specs.Loads.{LoadParts}
-use Rattle.clearance_rules.specs.Limits.{posted_limit, group_limit, limit_of_fit, span_limit, limit_of_span, first_of_spans, limit_of}
+use Rattle.clearance_rules.specs.Limits.{posted_limit, group_limit, tridem_limit, limit_of_tridem, weights_limit, limit_of_fit, span_limit, limit_of_span, first_of_spans, limit_of}
 use Rattle.clearance_rules.specs.Failing.{IsOver, FailsAt}
 use Rattle.clearance_rules.specs.Names.{LimitName}
 use Rattle.clearance_rules.specs.Names as name
 use Rattle.clearance_rules.specs.Order.{name_of, limits_of_span, limits_in_order, FailsBy, NoneFails, IsInLowestTerms, FailsFirst}
 use Rattle.clearance_rules.specs.Laws.{NamedLimitFails, NamedLimitIsFirst, NoneNamedWhereNoneFails}
 use Rattle.clearance_rules.specs.declared.limit.Limit.{Limit}
-use Rattle.clearance_rules.specs.declared.limit.Limit.TheVariants.{Closed, Height, Width, Length, Gross, Group, Moment, Shear}
+use Rattle.clearance_rules.specs.declared.limit.Limit.TheVariants.{Closed, Height, Width, Length, Gross, Group, Tridem, Moment, Shear}
 use Rattle.clearance_rules.proofs.Naming.{worst_named}
 
 -- a choice
@@ -123,6 +126,7 @@ module _ (roads : Roads) (state : InForce) (load : LoadParts) (s : ℕ) where
   judge name.Length = cond (ltb values.length load.length) (Some (Length s load.length values.length)) None
   judge name.Gross = cond (ltb values.gross (gross_of load.train)) (Some (Gross s (gross_of load.train) values.gross)) None
   judge name.Group = group_limit values.allowance load s
+  judge name.Tridem = tridem_limit values.tridem load s
   judge (name.Moment i) = cond (moment_passes i) None (Some (Moment s i (truck i).moment (design i).moment (rating i)))
   judge (name.Shear i) = cond (shear_passes i) None (Some (Shear s i (truck i).shear (design i).shear (rating i)))
 
@@ -140,9 +144,9 @@ module _ (roads : Roads) (state : InForce) (load : LoadParts) (s : ℕ) where
   by_spans (i ∷ list) = rw (by_span i, by_spans list) (or_or (judge (name.Moment i)) (judge (name.Shear i)) (first_by (flat_map limits_of_span list)))
 
   in_order : limit_of roads state load s ≡ first_by (limits_in_order roads s)
-  unfolding limit_of posted_limit
+  unfolding limit_of posted_limit weights_limit
   in_order =
-      rw (by_spans (spans_of roads.spans s))
+      rw (by_spans (spans_of roads.spans s), or_or (judge name.Group) (judge name.Tridem) (first_by (flat_map limits_of_span (spans_of roads.spans s))))
       (one_by_one values.closed (ltb values.height load.height) (ltb values.width load.width) (ltb values.length load.length)
       (Closed s) (Height s load.height values.height) (Width s load.width values.width) (Length s load.length values.length)
       (judge name.Gross) _)
@@ -158,7 +162,7 @@ module _ (roads : Roads) (state : InForce) (load : LoadParts) (s : ℕ) where
   spans_here (i ∷ list) there = (there 0 i refl, (there 0 i refl, spans_here list (λ k j at. there (suc k) j at)))
 
   all_here : IsRoads roads → AllByRecursion IsHere (limits_in_order roads s)
-  all_here is = (tt, (tt, (tt, (tt, (tt, (tt, spans_here (spans_of roads.spans s) (are_there roads s is)))))))
+  all_here is = (tt, (tt, (tt, (tt, (tt, (tt, (tt, spans_here (spans_of roads.spans s) (are_there roads s is))))))))
 
   -- what is judged to fail is of that name, and fails
   record IsJudged (n : LimitName) (l : Limit) : Type 0 where
@@ -170,7 +174,7 @@ module _ (roads : Roads) (state : InForce) (load : LoadParts) (s : ℕ) where
   same n x l e h = subst (IsJudged n) e h
 
   judged : IsTrain load.train → (n : LimitName) (l : Limit) → IsHere n → judge n ≡ Some l → IsJudged n l
-  unfolding group_limit
+  unfolding group_limit tridem_limit
   judged train name.Closed l here e =
       let is = taken values.closed (Closed s) l e in
       same name.Closed (Closed s) l is.1 (record { named = refl; fails = record { segment = refl; fails = is.0 }; written = tt })
@@ -195,6 +199,14 @@ module _ (roads : Roads) (state : InForce) (load : LoadParts) (s : ℕ) where
         fails = record { segment = refl; fails = (is_worst, refl, ltb-true (values.allowance * worst.limit) (1000 * worst.weight) (sym (any_over load.train worst values.allowance is_worst) ∙ is.0)) };
         written = tt;
       })
+  judged train name.Tridem l here e = judged_tridem (heaviest_tridem_of load.train) refl e
+    where
+      judged_tridem : (o : Option Heaviest) → heaviest_tridem_of load.train ≡ o → limit_of_tridem values.tridem s o ≡ Some l → IsJudged name.Tridem l
+      judged_tridem None there e = absurd (none-some l e)
+      judged_tridem (Some g) there e =
+          let is = taken (ltb values.tridem g.weight) (Tridem s g.i g.j g.weight values.tridem) l e in
+          let heaviest = (tridem_is_computed.some load.train g).0 there in
+          same name.Tridem (Tridem s g.i g.j g.weight values.tridem) l is.1 (record { named = refl; fails = record { segment = refl; fails = (heaviest, refl, ltb-true values.tridem g.weight is.0) }; written = tt })
   judged train (name.Moment i) l here e =
       let own = effects_are_the_peaks load.train (span_at roads.spans i).inches train here.some here.long in
       let other = design_is_the_peaks (span_at roads.spans i).inches here.some here.long in
@@ -246,6 +258,12 @@ module _ (roads : Roads) (state : InForce) (load : LoadParts) (s : ℕ) where
   refused : (b : Bool) (x : Limit) → b ≡ false → cond b None (Some x) ≡ Some x
   refused b x e = rw e refl
 
+  met_tridem : (g : Heaviest) → IsHeaviestTridem load.train g → values.tridem < g.weight → judge name.Tridem ≡ Some (Tridem s g.i g.j g.weight values.tridem)
+  unfolding tridem_limit
+  met_tridem g is over =
+      ap (limit_of_tridem values.tridem s) (heaviest_is_found load.train g is)
+      ∙ flagged (ltb values.tridem g.weight) (Tridem s g.i g.j g.weight values.tridem) (lt-ltb values.tridem g.weight over)
+
   met : IsRoads roads → IsTrain load.train → (l : Limit) → FailsAt roads state load s l → IsMet l
   met is train (Closed z) h = record {
     limit = Closed s;
@@ -274,6 +292,14 @@ module _ (roads : Roads) (state : InForce) (load : LoadParts) (s : ℕ) where
       record {
         limit = Group s i j weight most values.allowance;
         is = sym (worst_named load g values.allowance s a (worst_is_one load.train g a) (rw (← b) c));
+        same = λ w. cc (h.segment, b);
+      }
+  met is train (Tridem z i j weight allowed) h =
+      let (a, b, c) = (rw h.segment at h.fails) in
+      let g : Heaviest = record { i = i; j = j; weight = weight } in
+      record {
+        limit = Tridem s i j weight values.tridem;
+        is = met_tridem g a (rw b at c);
         same = λ w. cc (h.segment, b);
       }
   met is train (Moment z i has other most) h =
@@ -372,12 +398,13 @@ module _ (roads : Roads) (state : InForce) (load : LoadParts) (s : ℕ) where
   none_at is (Length z has allowed) h none = none.1.1.1.0
   none_at is (Gross z has allowed) h none = none.1.1.1.1.0
   none_at is (Group z i j weight most allowance) h none = none.1.1.1.1.1.0
+  none_at is (Tridem z i j weight allowed) h none = none.1.1.1.1.1.1.0
   none_at is (Moment z i has other most) h none =
       let ((inside, on, rated), over, peak, others_peak) = h.fails in
-      (of_span is i (span_here roads s is i inside (on ∙ h.segment)) none.1.1.1.1.1.1).0
+      (of_span is i (span_here roads s is i inside (on ∙ h.segment)) none.1.1.1.1.1.1.1).0
   none_at is (Shear z i has other most) h none =
       let ((inside, on, rated), over, peak, others_peak) = h.fails in
-      (of_span is i (span_here roads s is i inside (on ∙ h.segment)) none.1.1.1.1.1.1).1
+      (of_span is i (span_here roads s is i inside (on ∙ h.segment)) none.1.1.1.1.1.1.1).1
 
   none_fails : IsRoads roads → IsTrain load.train → limit_of roads state load s ≡ None → NoneFails roads state load s
   none_fails is train e l h =

@@ -1,5 +1,5 @@
 -- No limit fails exactly where the segment meets the load.
-use Rattle.std.proofs.Common.{◌≡◌, ℕ, zero, suc, ◌+◌, ◌*◌, ◌≤◌, ◌<◌, ◌↔◌, List, [], ◌∷◌, Bool, true, false, cond, not, ◌&&◌, ltb, refl, sym, ap, ◌∙◌, Option, Some, None, inl, inr, length, get_or, drop}
+use Rattle.std.proofs.Common.{◌≡◌, arith, ℕ, zero, suc, ◌+◌, ◌*◌, ◌≤◌, ◌<◌, ◌↔◌, List, [], ◌∷◌, Bool, true, false, cond, not, ◌&&◌, ltb, refl, sym, ap, ◌∙◌, Option, Some, None, inl, inr, length, get_or, drop}
 use Rattle.std.specs.Prelude.{slice_get, is_some, is_none}
 use Rattle.std.specs.List.{list_all, list_any}
 use Rattle.std.specs.Option.{option_or}
@@ -26,12 +26,15 @@ use Rattle.road_graph.specs.Roads.{Roads, IsRoads, no_span, span_at, spans_of}
 use Rattle.road_graph.proofs.Filters.{spans_are}
 use Rattle.restriction_log.specs.States.{InForce, values_at, rating_at}
 use Rattle.clearance_rules.specs.Loads.{LoadParts}
-use Rattle.clearance_rules.specs.Limits.{IsWithinPosted, Meets, posted_limit, group_limit, span_limit, limit_of_span, first_of_spans, spans_limit, limit_of, limit_of_fit, meets}
+use Rattle.clearance_rules.specs.Limits.{IsWithinPosted, Meets, posted_limit, group_limit, tridem_limit, limit_of_tridem, weights_limit, span_limit, limit_of_span, first_of_spans, spans_limit, limit_of, limit_of_fit, meets}
 use Rattle.clearance_rules.specs.declared.limit.Limit.{Limit}
 use Rattle.clearance_rules.specs.declared.limit.Limit.TheVariants as limit
 use Rattle.axle_limits.proofs.Allowance.{any_is_not_all}
 use Rattle.clearance_rules.proofs.Naming.{next_span}
 use Rattle.axle_limits.proofs.Groups.{all_groups, each_group}
+use Rattle.axle_limits.proofs.Tridems.{tridem_is_computed}
+use Rattle.axle_limits.specs.Tridems.{TridemsAreWithin, heaviest_tridem_of}
+use Rattle.axle_limits.specs.declared.tridem.Heaviest.{Heaviest}
 
 -- a choice that gives nothing did not take its first part
 not_taken : (b : Bool) (x : Limit) (o : Option Limit) → cond b (Some x) o ≡ None → (b ≡ false) × (o ≡ None)
@@ -102,6 +105,46 @@ groups_none allowance load s pass =
     let all = all_groups (λ g. not (is_over allowance g)) load.train
     (λ i j ordered inside. ap not (le-ltb (allowance * limit_of_group load.train i j) (1000 * group_weight load.train i j) (pass i j ordered inside))) in
     taken_next (list_any (is_over allowance) (groups_of load.train)) _ _ (any_is_not_all (is_over allowance) (groups_of load.train) ∙ ap not all) refl
+
+-- the tridem groups: the heaviest decides for all
+tridem_only : (pounds : ℕ) (load : LoadParts) (s : ℕ) → tridem_limit pounds load s ≡ None → TridemsAreWithin load.train pounds
+unfolding tridem_limit
+tridem_only pounds load s = by (heaviest_tridem_of load.train) refl
+  where
+    by : (o : Option Heaviest) → heaviest_tridem_of load.train ≡ o → limit_of_tridem pounds s o ≡ None → TridemsAreWithin load.train pounds
+    by None e h i j is = absurd ((tridem_is_computed.none load.train).0 e i j is)
+    by (Some g) e h i j is =
+        let heaviest = (tridem_is_computed.some load.train g).0 e in
+        let passes = not_taken (ltb pounds g.weight) _ _ h in
+        omega (arith, heaviest.greatest i j is, ltb-false pounds g.weight passes.0)
+
+tridem_none : (pounds : ℕ) (load : LoadParts) (s : ℕ) → TridemsAreWithin load.train pounds → tridem_limit pounds load s ≡ None
+unfolding tridem_limit
+tridem_none pounds load s pass = by (heaviest_tridem_of load.train) refl
+  where
+    by : (o : Option Heaviest) → heaviest_tridem_of load.train ≡ o → limit_of_tridem pounds s o ≡ None
+    by None e = refl
+    by (Some g) e =
+        let heaviest = (tridem_is_computed.some load.train g).0 e in
+        let low = pass g.i g.j heaviest.is_tridem in
+        taken_next (ltb pounds g.weight) _ _ (le-ltb pounds g.weight (rw (← heaviest.weight_is) at low)) refl
+
+-- the weights of groups
+record WeightsPass (values : Values) (load : LoadParts) : Type 0 where
+  groups : AllPass load.train values.allowance
+  tridems : TridemsAreWithin load.train values.tridem
+
+weights_only : (values : Values) (load : LoadParts) (s : ℕ) → weights_limit values load s ≡ None → WeightsPass values load
+unfolding weights_limit
+weights_only values load s h =
+    let parts = or_none (group_limit values.allowance load s) (tridem_limit values.tridem load s) h in
+    record { groups = groups_only values.allowance load s parts.0; tridems = tridem_only values.tridem load s parts.1 }
+
+weights_none : (values : Values) (load : LoadParts) (s : ℕ) → WeightsPass values load → weights_limit values load s ≡ None
+unfolding weights_limit
+weights_none values load s pass =
+    none_or (group_limit values.allowance load s) (tridem_limit values.tridem load s)
+    (groups_none values.allowance load s pass.groups) (tridem_none values.tridem load s pass.tridems)
 
 -- one span
 fits_only : (truck design : Effects) (rating s i : ℕ) → limit_of_fit (fit_of truck design rating) truck design rating s i ≡ None → fit_of truck design rating ≡ Fits
@@ -179,10 +222,12 @@ unfolding limit_of
 none_meets roads state load s is train h =
     let values = values_at state.values s in
     let a = or_none (posted_limit values load s) _ h in
-    let b = or_none (group_limit values.allowance load s) _ a.1 in
+    let b = or_none (weights_limit values load s) _ a.1 in
+    let weights = weights_only values load s b.0 in
     record {
       posted = posted_only values load s a.0;
-      groups = groups_only values.allowance load s b.0;
+      groups = weights.groups;
+      tridems = weights.tridems;
       spans = λ i t at on.
           let listed = (spans_are roads.spans s).complete i t at on in
           let here : span_at roads.spans i ≡ t = get_or_from_slice_get roads.spans i t no_span at in
@@ -194,7 +239,7 @@ unfolding limit_of
 meets_none roads state load s is train meets =
     let values = values_at state.values s in
     none_or (posted_limit values load s) _ (posted_none values load s meets.posted)
-    (none_or (group_limit values.allowance load s) _ (groups_none values.allowance load s meets.groups)
+    (none_or (weights_limit values load s) _ (weights_none values load s (record { groups = meets.groups; tridems = meets.tridems }))
     (spans_none roads state load.train s (spans_of roads.spans s) train (in_range roads s is) (λ k i at.
     let (t, there, on) = (spans_are roads.spans s).sound k i at in
     let here : span_at roads.spans i ≡ t = get_or_from_slice_get roads.spans i t no_span there in
@@ -209,11 +254,11 @@ met_means roads state load s met is train e = (
 )
 
 -- whether the segment meets the load, from its parts
-pub meets_in_parts : (roads : Roads) (state : InForce) (load : LoadParts) (s : ℕ) (values : Values) (posted group spans : Bool)
-    → values ≡ values_at state.values s → posted ≡ is_some (posted_limit values load s) → group ≡ is_some (group_limit values.allowance load s)
-    → spans ≡ is_none (spans_limit roads state load.train s) → (not posted && (not group && spans)) ≡ meets roads state load s
+pub meets_in_parts : (roads : Roads) (state : InForce) (load : LoadParts) (s : ℕ) (values : Values) (posted weights spans : Bool)
+    → values ≡ values_at state.values s → posted ≡ is_some (posted_limit values load s) → weights ≡ is_some (weights_limit values load s)
+    → spans ≡ is_none (spans_limit roads state load.train s) → (not posted && (not weights && spans)) ≡ meets roads state load s
 unfolding limit_of
-meets_in_parts roads state load s values posted group spans ev ep eg es = rw (ep, eg, es, ← ev) (by (posted_limit values load s) (group_limit values.allowance load s))
+meets_in_parts roads state load s values posted weights spans ev ep ew es = rw (ep, ew, es, ← ev) (by (posted_limit values load s) (weights_limit values load s))
   where
     by : (p g : Option Limit) → (not (is_some p) && (not (is_some g) && is_none (spans_limit roads state load.train s))) ≡ is_none (option_or p (option_or g (spans_limit roads state load.train s)))
     by None None = refl

@@ -17,7 +17,7 @@ use Rattle.road_graph.specs.declared.values.Values.{Values}
 use Rattle.road_graph.specs.Roads.{Roads}
 use Rattle.restriction_log.specs.States.{InForce, values_at}
 use Rattle.clearance_rules.specs.Loads.{LoadParts}
-use Rattle.clearance_rules.specs.Limits.{posted_limit, group_limit, limit_of_fit, span_limit, limit_of_span, first_of_spans, spans_limit, limit_of}
+use Rattle.clearance_rules.specs.Limits.{posted_limit, group_limit, weights_limit, limit_of_fit, span_limit, limit_of_span, first_of_spans, spans_limit, limit_of}
 use Rattle.clearance_rules.specs.declared.limit.Limit.{Limit}
 use Rattle.clearance_rules.specs.declared.limit.Limit.TheVariants.{Group}
 use Rattle.axle_limits.proofs.Allowance.{any_over}
@@ -55,8 +55,8 @@ pub no_more_spans : (roads : Roads) (state : InForce) (axles : List Axle) (s : �
 no_more_spans roads state axles s list k past = rw (drop_all k list past) refl
 
 -- the limit of a segment from its parts
-pub in_parts : (roads : Roads) (state : InForce) (load : LoadParts) (s : ℕ) (values : Values) (posted group : Option Limit)
-    → values ≡ values_at state.values s → posted_limit values load s ≡ posted → group_limit values.allowance load s ≡ group
-    → option_or posted (option_or group (spans_limit roads state load.train s)) ≡ limit_of roads state load s
+pub in_parts : (roads : Roads) (state : InForce) (load : LoadParts) (s : ℕ) (values : Values) (posted weights : Option Limit)
+    → values ≡ values_at state.values s → posted_limit values load s ≡ posted → weights_limit values load s ≡ weights
+    → option_or posted (option_or weights (spans_limit roads state load.train s)) ≡ limit_of roads state load s
 unfolding limit_of
-in_parts roads state load s values posted group ev ep eg = rw (← ep, ← eg, ev) refl
+in_parts roads state load s values posted weights ev ep ew = rw (← ep, ← ew, ev) refl

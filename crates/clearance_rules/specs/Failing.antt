@@ -2,13 +2,14 @@
 use Rattle.std.specs.Prelude.{◌≡◌, ℕ, ◌*◌, ◌<◌, true, length}
 use Rattle.axle_limits.specs.Groups.{gross_of}
 use Rattle.axle_limits.specs.Worst.{IsWorst}
+use Rattle.axle_limits.specs.Tridems.{IsHeaviestTridem}
 use Rattle.influence_line.specs.Fractions.{Ratio}
 use Rattle.influence_line.specs.Peaks.{IsPeakMoment, IsPeakShear, IsTrainPlaced, IsHs20Placed}
 use Rattle.road_graph.specs.Roads.{Roads, span_at}
 use Rattle.restriction_log.specs.States.{InForce, values_at, rating_at}
 use Rattle.clearance_rules.specs.Loads.{LoadParts}
 use Rattle.clearance_rules.specs.declared.limit.Limit.{Limit}
-use Rattle.clearance_rules.specs.declared.limit.Limit.TheVariants.{Closed, Height, Width, Length, Gross, Group, Moment, Shear}
+use Rattle.clearance_rules.specs.declared.limit.Limit.TheVariants.{Closed, Height, Width, Length, Gross, Group, Tridem, Moment, Shear}
 
 -- an effect of a truck on a span is more than so many thousandths of the design truck's
 abbrev pub IsOver : ℕ → Ratio → Ratio → Type 0
@@ -20,7 +21,7 @@ IsRatedSpan roads state segment span rating =
     (span < length roads.spans) × ((span_at roads.spans span).segment ≡ segment) × (rating ≡ rating_at state.ratings span)
 
 -- the limit fails the load in this state: its two sides are those of the load and of its segment, and the one is over the
--- other. The group is the worst one; a moment and a shear are peaks over all placements of the truck and of the HS20-44
+-- other. The group is the worst one, and a tridem group the heaviest one; a moment and a shear are peaks over all placements of the truck and of the HS20-44
 -- truck
 abbrev pub Fails : Roads → InForce → LoadParts → Limit → Type 0
 Fails roads state load (Closed s) = (values_at state.values s).closed ≡ true
@@ -35,6 +36,9 @@ Fails roads state load (Gross s has allowed) =
 Fails roads state load (Group s i j weight limit allowance) =
     IsWorst load.train (record { i = i; j = j; weight = weight; limit = limit })
     × (allowance ≡ (values_at state.values s).allowance) × (allowance * limit < 1000 * weight)
+Fails roads state load (Tridem s i j weight allowed) =
+    IsHeaviestTridem load.train (record { i = i; j = j; weight = weight })
+    × (allowed ≡ (values_at state.values s).tridem) × (allowed < weight)
 Fails roads state load (Moment s span has design rating) =
     IsRatedSpan roads state s span rating × IsOver rating has design
     × IsPeakMoment (IsTrainPlaced load.train) (span_at roads.spans span).inches has.num has.den
@@ -52,6 +56,7 @@ segment_of (Width s has allowed) = s
 segment_of (Length s has allowed) = s
 segment_of (Gross s has allowed) = s
 segment_of (Group s i j weight limit allowance) = s
+segment_of (Tridem s i j weight allowed) = s
 segment_of (Moment s span has design rating) = s
 segment_of (Shear s span has design rating) = s
 

@@ -5,6 +5,8 @@ use Rattle.std.specs.Option.{option_or}
 use Rattle.axle_train.specs.declared.axle.Axle.{Axle}
 use Rattle.axle_limits.specs.Groups.{gross_of, groups_of}
 use Rattle.axle_limits.specs.Worst.{AllPass, is_over, worst_of}
+use Rattle.axle_limits.specs.Tridems.{TridemsAreWithin, heaviest_tridem_of}
+use Rattle.axle_limits.specs.declared.tridem.Heaviest.{Heaviest}
 use Rattle.span_rating.specs.declared.loading.Effects.{Effects}
 use Rattle.span_rating.specs.declared.judgement.Fit.{Fit}
 use Rattle.span_rating.specs.declared.judgement.Fit.TheVariants as fit
@@ -17,7 +19,7 @@ use Rattle.road_graph.specs.Roads.{Roads, span_at, spans_of}
 use Rattle.restriction_log.specs.States.{InForce, values_at, rating_at}
 use Rattle.clearance_rules.specs.Loads.{LoadParts}
 use Rattle.clearance_rules.specs.declared.limit.Limit.{Limit}
-use Rattle.clearance_rules.specs.declared.limit.Limit.TheVariants.{Closed, Height, Width, Length, Gross, Group, Moment, Shear}
+use Rattle.clearance_rules.specs.declared.limit.Limit.TheVariants.{Closed, Height, Width, Length, Gross, Group, Tridem, Moment, Shear}
 
 -- the first posted value that fails the load: the segment is closed, or the load is higher, wider, longer or heavier
 unfoldable pub posted_limit : Values → LoadParts → ℕ → Option Limit
@@ -36,6 +38,20 @@ group_limit allowance load segment =
     if list_any (is_over allowance) (groups_of load.train)
     then Some (Group segment worst.i worst.j worst.weight worst.limit allowance)
     else None
+
+-- the failing limit on a tridem group, if there is one: it is over its posted weight
+abbrev pub limit_of_tridem : ℕ → ℕ → Option Heaviest → Option Limit
+limit_of_tridem pounds segment None = None
+limit_of_tridem pounds segment (Some g) = if nat_lt pounds g.weight then Some (Tridem segment g.i g.j g.weight pounds) else None
+
+-- the failing limit on tridem groups: where any is over its posted weight, the heaviest one is named
+unfoldable pub tridem_limit : ℕ → LoadParts → ℕ → Option Limit
+tridem_limit pounds load segment = limit_of_tridem pounds segment (heaviest_tridem_of load.train)
+
+-- the first failing limit on the weights of groups of axles: the allowance, then the posted weight of tridem groups
+unfoldable pub weights_limit : Values → LoadParts → ℕ → Option Limit
+weights_limit values load segment =
+    option_or (group_limit values.allowance load segment) (tridem_limit values.tridem load segment)
 
 -- what a judgement of a span says of the limit that fails
 abbrev pub limit_of_fit : Fit → Effects → Effects → ℕ → ℕ → ℕ → Option Limit
@@ -65,12 +81,12 @@ first_of_spans roads state axles segment (span ∷ spans) =
 abbrev pub spans_limit : Roads → InForce → List Axle → ℕ → Option Limit
 spans_limit roads state axles segment = first_of_spans roads state axles segment (spans_of roads.spans segment)
 
--- the first limit of the segment that fails the load: a posted value, a group of axles, a span by rising number
+-- the first limit of the segment that fails the load: a posted value, the weight of a group of axles, a span by rising number
 unfoldable pub limit_of : Roads → InForce → LoadParts → ℕ → Option Limit
 limit_of roads state load segment =
     let values = values_at state.values segment in
     option_or (posted_limit values load segment)
-    (option_or (group_limit values.allowance load segment)
+    (option_or (weights_limit values load segment)
     (spans_limit roads state load.train segment))
 
 -- whether the segment meets the load: no limit fails
@@ -86,8 +102,9 @@ pub record IsWithinPosted (values : Values) (load : LoadParts) : Type 0 where
   pub gross : gross_of load.train ≤ values.gross
 
 -- the segment meets the load, in words: it is open, the load is within its posted values, every group of axles passes the
--- allowance, and every span on it carries the truck
+-- allowance and every tridem group its posted weight, and every span on it carries the truck
 pub record Meets (roads : Roads) (state : InForce) (load : LoadParts) (segment : ℕ) : Type 0 where
   pub posted : IsWithinPosted (values_at state.values segment) load
   pub groups : AllPass load.train (values_at state.values segment).allowance
+  pub tridems : TridemsAreWithin load.train (values_at state.values segment).tridem
   pub spans : (i : ℕ) (t : Span) → slice_get roads.spans i ≡ Some t → t.segment ≡ segment → Carries load.train t.inches (rating_at state.ratings i)

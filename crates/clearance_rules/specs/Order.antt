@@ -9,7 +9,7 @@ use Rattle.clearance_rules.specs.Failing.{FailsAt}
 use Rattle.clearance_rules.specs.Names.{LimitName}
 use Rattle.clearance_rules.specs.Names as name
 use Rattle.clearance_rules.specs.declared.limit.Limit.{Limit}
-use Rattle.clearance_rules.specs.declared.limit.Limit.TheVariants.{Closed, Height, Width, Length, Gross, Group, Moment, Shear}
+use Rattle.clearance_rules.specs.declared.limit.Limit.TheVariants.{Closed, Height, Width, Length, Gross, Group, Tridem, Moment, Shear}
 
 -- the name of a limit: which one it is, without its two sides
 abbrev pub name_of : Limit → LimitName
@@ -19,6 +19,7 @@ name_of (Width s has allowed) = name.Width
 name_of (Length s has allowed) = name.Length
 name_of (Gross s has allowed) = name.Gross
 name_of (Group s i j weight limit allowance) = name.Group
+name_of (Tridem s i j weight allowed) = name.Tridem
 name_of (Moment s span has design rating) = name.Moment span
 name_of (Shear s span has design rating) = name.Shear span
 
@@ -26,11 +27,11 @@ name_of (Shear s span has design rating) = name.Shear span
 abbrev pub limits_of_span : ℕ → List LimitName
 limits_of_span span = name.Moment span ∷ name.Shear span ∷ []
 
--- the limits of a segment in their order: whether it is open, what is posted, the groups of axles, and its spans by rising
+-- the limits of a segment in their order: whether it is open, what is posted, the groups of axles, tridem groups, and its spans by rising
 -- number. The order is this project's own
 abbrev pub limits_in_order : Roads → ℕ → List LimitName
 limits_in_order roads segment =
-    name.Closed ∷ name.Height ∷ name.Width ∷ name.Length ∷ name.Gross ∷ name.Group
+    name.Closed ∷ name.Height ∷ name.Width ∷ name.Length ∷ name.Gross ∷ name.Group ∷ name.Tridem
     ∷ flat_map limits_of_span (spans_of roads.spans segment)
 
 -- the limit of this name fails the load on the segment

@@ -4,7 +4,7 @@ ghost use Rattle.std.specs.Prelude.{◌≡◌, ◌<◌, ◌+◌, ◌↔◌, leng
 ghost use Rattle.axle_train.specs.Bounds.{IsTrain};
 ghost use Rattle.road_graph.specs.Roads.{IsRoads};
 ghost use Rattle.restriction_log.specs.States.{AreOf};
-ghost use Rattle.clearance_rules.specs.Limits.{posted_limit, group_limit, limit_of_fit, limit_of_span, spans_limit, limit_of, Meets};
+ghost use Rattle.clearance_rules.specs.Limits.{posted_limit, group_limit, tridem_limit, weights_limit, limit_of_fit, limit_of_span, spans_limit, limit_of, Meets};
 
 use crate::limit::Limit;
 use crate::load::Load;
@@ -16,8 +16,8 @@ use std::sync::ledger::Ledger;
 
 /// The first limit of the segment that fails the load in this state, or none where the segment meets it.
 ///
-/// The order is that of [`Limit`], and then that of the span numbers, moment before shear. The worst group alone is
-/// tested, since some group is over the allowance exactly where the worst one is. The study is asked whether
+/// The order is that of [`Limit`], and then that of the span numbers, moment before shear. The worst group and the heaviest
+/// tridem group alone are tested, since some group is over exactly where these are. The study is asked whether
 /// each span that is tested carries the truck, and for the effects on the one that does not. Takes a step and
 /// no memory.
 pub fn first_failing<E: SpanStudy, L: Ledger>(
@@ -58,7 +58,7 @@ fn first_limit<E: SpanStudy>(
     if let Some(limit) = posted_limit(&values, load, segment) {
         return Some(limit);
     }
-    if let Some(limit) = group_limit(load, segment, values.allowance) {
+    if let Some(limit) = weights_limit(&values, load, segment) {
         return Some(limit);
     }
     spans_limit(network, state, load, study, segment)
@@ -113,8 +113,39 @@ pub(crate) fn posted_limit(values: &Values, load: &Load, segment: u32) -> Option
     None
 }
 
+/// The first failing limit on the weights of groups of axles.
+#[tactic(auto, unfolding(crate::specs::Limits::weights_limit))]
+pub(crate) fn weights_limit(values: &Values, load: &Load, segment: u32) -> Option<Limit>
+    ensures { result ≡ weights_limit values.now load.now segment }
+{
+    if let Some(limit) = group_limit(load, segment, values.allowance) {
+        return Some(limit);
+    }
+    tridem_limit(load, segment, values.tridem)
+}
+
+/// The limit on tridem groups, where the heaviest one is over the posted weight.
+#[tactic(auto, unfolding(crate::specs::Limits::tridem_limit))]
+fn tridem_limit(load: &Load, segment: u32, pounds: u32) -> Option<Limit>
+    ensures { result ≡ tridem_limit pounds load.now segment }
+{
+    let heaviest = load.heaviest_tridem()?;
+    if heaviest.weight <= pounds {
+        return None;
+    }
+    let axles = load.train().len();
+    prove!(heaviest.i < axles && heaviest.j < axles && axles <= 32);
+    Some(Limit::Tridem {
+        segment,
+        i: heaviest.i as u32,
+        j: heaviest.j as u32,
+        weight: heaviest.weight,
+        allowed: pounds,
+    })
+}
+
 /// The limit on groups of axles, where the worst one is over the allowance.
-pub(crate) fn group_limit(load: &Load, segment: u32, allowance: u32) -> Option<Limit>
+fn group_limit(load: &Load, segment: u32, allowance: u32) -> Option<Limit>
     ensures { result ≡ group_limit allowance load.now segment }
 {
     let worst = load.worst();

@@ -2,7 +2,7 @@
 //!
 //! A load is a truck as the road sees it: its height, width and length, and its axles. A segment is tested in this order:
 //! it is closed; the load is higher, wider, longer or heavier than is posted; a group of axles weighs more than the
-//! allowance of its limit by 23 CFR 658.17; and then, for each bridge span by rising number, the peak moment and the peak
+//! allowance of its limit by 23 CFR 658.17; a tridem group weighs more than is posted; and then, for each bridge span by rising number, the peak moment and the peak
 //! end shear are over the span's rating in thousandths of the HS20-44 truck's of the AASHTO Standard Specifications.
 //! Every limit is met at equality. The order, and the legal height of 162 in, are this project's own.
 //!

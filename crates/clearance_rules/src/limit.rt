@@ -44,6 +44,14 @@ pub enum Limit {
         limit: u32,
         allowance: u32,
     },
+    /// The tridem group from axle `i` to axle `j`, the heaviest one, weighs more than is posted, in pounds.
+    Tridem {
+        segment: u32,
+        i: u32,
+        j: u32,
+        weight: u32,
+        allowed: u32,
+    },
     /// The peak moment on a span, in pounds times inches, is more than `rating` thousandths of the design truck's.
     Moment {
         segment: u32,

@@ -1,12 +1,15 @@
 // A load: a truck as the road sees it.
 
-ghost use Rattle.std.specs.Prelude.{◌≡◌, ◌≤◌, ◌&&◌, IfOk, OnOk, OnErr, IsTrue, ◌↔◌, true, false};
+ghost use Rattle.std.specs.Prelude.{◌≡◌, ◌≤◌, ◌&&◌, IfOk, IfSome, OnOk, OnErr, IsTrue, ◌↔◌, true, false};
 ghost use Rattle.axle_train.specs.Bounds.{IsTrain};
 ghost use Rattle.axle_limits.specs.Findings.{is_legal_by_weight};
 ghost use Rattle.axle_limits.specs.Worst.{IsWorst, IsInRange, worst_of};
+ghost use Rattle.axle_limits.specs.Tridems.{IsHeaviestTridem, heaviest_tridem_of};
 ghost use Rattle.clearance_rules.specs.Loads.{is_cross_section, is_length, is_load, parts_of, is_legal, IsLegal, is_legal_size};
 
-use axle_limits::{GROSS_LIMIT, LEGAL_HEIGHT, LEGAL_WIDTH, WorstGroup, worst};
+use axle_limits::{
+    GROSS_LIMIT, Heaviest, LEGAL_HEIGHT, LEGAL_WIDTH, WorstGroup, heaviest_tridem, worst,
+};
 use axle_train::Train;
 use hs20_truck::Kept;
 use std::alloc::{AllocError, Global};
@@ -20,7 +23,8 @@ pub struct Range;
 
 /// Height and width (1 to 999 in), length (1 to 9,999 in) and the axles of a truck.
 ///
-/// The worst group of the axles and whether the load is legal are found once, when the load is made. What the
+/// The worst group of the axles, their heaviest tridem group and whether the load is legal are found once, when the load is
+/// made. What the
 /// truck asks of spans is kept with it, for the lengths that it is told to keep, so that whoever judges it
 /// finds it there.
 #[derive(Drop)]
@@ -30,6 +34,7 @@ pub struct Load {
     length: u32,
     study: Kept,
     worst: WorstGroup,
+    tridem: Option<Heaviest>,
     legal: bool,
 }
 
@@ -40,7 +45,7 @@ impl Model for Load {
 
     ghost view = { λ a. parts_of a.height a.width a.length a.study };
 
-    ghost invariant = { λ a. IsKept (parts_of a.height a.width a.length a.study) a.worst a.legal };
+    ghost invariant = { λ a. IsKept (parts_of a.height a.width a.length a.study) a.worst a.tridem a.legal };
 }
 
 impl Load {
@@ -55,6 +60,7 @@ impl Load {
         }
         bounds(&train);
         let worst = worst(&train);
+        let tridem = heaviest_tridem(&train);
         let by_weight = is_legal_by_weight(&train, &worst);
         let by_size = is_legal_size(height, width);
         Ok(Load {
@@ -63,6 +69,7 @@ impl Load {
             length,
             study: Kept::new(train),
             worst,
+            tridem,
             legal: by_weight && by_size,
         })
     }
@@ -120,6 +127,15 @@ impl Load {
         ensures range { IsInRange result }
     {
         self.worst
+    }
+
+    /// The heaviest tridem group of the axles, or none where they have no tridem group. Of groups that weigh the same it is
+    /// the first.
+    pub fn heaviest_tridem(&self) -> Option<Heaviest>
+        ensures value { result ≡ heaviest_tridem_of self.now.train }
+        ensures meaning { IfSome result (IsHeaviestTridem self.now.train) }
+    {
+        self.tridem
     }
 
     /// Whether the load is legal: no group of axles is over its limit and neither is the gross weight

@@ -5,7 +5,7 @@ ghost use Rattle.axle_train.specs.Bounds.{IsTrain};
 ghost use Rattle.restriction_log.specs.States.{AreOf};
 ghost use Rattle.clearance_rules.specs.Limits.{spans_limit, meets, Meets};
 
-use crate::first_limit::{bounds, group_limit, posted_limit};
+use crate::first_limit::{bounds, posted_limit, weights_limit};
 use crate::load::Load;
 use crate::steps::Steps;
 use restriction_log::State;
@@ -55,7 +55,7 @@ fn is_met<E: SpanStudy>(
     if posted_limit(&values, load, segment).is_some() {
         return false;
     }
-    if group_limit(load, segment, values.allowance).is_some() {
+    if weights_limit(&values, load, segment).is_some() {
         return false;
     }
     spans_carry(network, state, study, segment)
