@@ -5,7 +5,9 @@ use Rattle.std.specs.List.{AllByRecursion}
 use Rattle.std.proofs.lemmas.Bool.{cases_order}
 use Rattle.office_words.specs.declared.entry.Entry.{Entry}
 use Rattle.journal_text.specs.Journals.{ended, journal_of}
+use Rattle.journal_text.specs.declared.format.Format.TheVariants.{Two}
 use Rattle.journal_reader.specs.Fits.{FitsHistory}
+use Rattle.journal_reader.specs.Formats.{HasJournalIn}
 use Rattle.journal_reader.specs.Journals.{IsAnswer, IsBadLine, IsBadNext, IsJournalOf, IsLine, lines_text}
 use Rattle.journal_reader.specs.declared.refusal.JournalRefusal.{JournalRefusal}
 use Rattle.journal_reader.specs.declared.refusal.JournalRefusal.TheVariants as refusal
@@ -13,12 +15,12 @@ use Rattle.journal_reader.proofs.Whole.{first_lines, no_feed, one_history}
 
 -- no journal has a bad line
 none_is_bad : (h : List Entry) (text : List ℕ) (row : ℕ) → IsJournalOf h text → IsBadLine text row → ⊥
-none_is_bad h text row (fits, is) b = by b.bad
+none_is_bad h text row (f, fits, is) b = by b.bad
   where
     by : IsBadNext (lines_text b.before) b.rest → ⊥
-    by (inl (clean, none)) = none h (fits, sym b.whole ∙ is)
+    by (inl (clean, none)) = none h (f, fits, sym b.whole ∙ is)
     by (inr (line, more, clean, next, none)) =
-        none (h, more, (fits, append_assoc (lines_text b.before) (ended line) more ∙ (ap (λ t. lines_text b.before ++ t) (sym next) ∙ (sym b.whole ∙ is))))
+        none (h, more, (f, fits, append_assoc (lines_text b.before) (ended line) more ∙ (ap (λ t. lines_text b.before ++ t) (sym next) ∙ (sym b.whole ∙ is))))
 
 -- of two beginnings of a text in lines, the longer one goes on with the line that follows the shorter one
 record GoesOn (xs ys : List (List ℕ)) (p : List ℕ) : Type 0 where
@@ -56,7 +58,7 @@ not_before text row other b c low = by b.bad
     by (inr (line, more, clean, next, none)) =
         let is : line ≡ g.line = (first_lines line g.line more g.more clean g.clean (sym next ∙ g.next)).0 in
         let (k, x, journal) = c.good in
-        none (k, g.rest ++ x, (journal.0, whole line x is ∙ journal.1))
+        none (k, g.rest ++ x, (journal.0, journal.1.0, whole line x is ∙ journal.1.1))
       where
         whole : (l x : List ℕ) → l ≡ g.line → (lines_text b.before ++ ended l) ++ (g.rest ++ x) ≡ lines_text c.before ++ x
         whole l x same =
@@ -81,7 +83,12 @@ one_answer text (Err refusal.NoMemory) b x y p q = absurd (p refl)
 one_answer text (Ok h) (Err refusal.NoMemory) x y p q = absurd (q refl)
 one_answer text (Err (refusal.BadLine row)) (Err refusal.NoMemory) x y p q = absurd (q refl)
 
+-- the newest format has words for every entry
+pub all_said : (history : List Entry) → FitsHistory history → HasJournalIn Two history
+all_said [] fits = tt
+all_said (e ∷ history) (fit, fits) = ((fit, refl), all_said history fits)
+
 pub printed_is_read : (history : List Entry) (answer : Result (List Entry) JournalRefusal) → FitsHistory history → IsAnswer (journal_of history) answer → (answer ≡ Ok history) ⊎ (answer ≡ Err refusal.NoMemory)
-printed_is_read history (Ok h) fits is = inl (ap Ok (one_history h history (journal_of history) is (fits, refl)))
-printed_is_read history (Err (refusal.BadLine row)) fits is = absurd (none_is_bad history (journal_of history) row (fits, refl) is)
+printed_is_read history (Ok h) fits is = inl (ap Ok (one_history h history (journal_of history) is (Two, all_said history fits, refl)))
+printed_is_read history (Err (refusal.BadLine row)) fits is = absurd (none_is_bad history (journal_of history) row (Two, all_said history fits, refl) is)
 printed_is_read history (Err refusal.NoMemory) fits is = inr refl

@@ -7,3 +7,4 @@ pub mod Spelled
 pub mod Whole
 pub mod Rows
 pub mod Answers
+pub mod Changes

@@ -15,6 +15,12 @@ use Rattle.permit_days.specs.declared.refusal.DayRefusal.{DayRefusal}
 use Rattle.permit_days.specs.declared.refusal.DayRefusal.TheVariants.{Shape, NoSuchDay}
 use Rattle.restriction_log.specs.declared.change.Change.{Change}
 use Rattle.restriction_log.specs.declared.change.Change.TheVariants as change
+use Rattle.restriction_log.specs.declared.change.Replaced.{Replaced}
+use Rattle.restriction_log.specs.declared.change.Replaced.TheVariants as replaced
+use Rattle.restriction_log.specs.Changes.{replaced_by}
+use Rattle.road_graph.specs.Words.{what_word}
+use Rattle.road_graph.specs.declared.values.What.{What as Limited}
+use Rattle.road_graph.specs.declared.values.What.TheVariants as road_what
 use Rattle.clearance_rules.specs.declared.limit.Limit.{Limit}
 use Rattle.clearance_rules.specs.declared.limit.Limit.TheVariants as limit
 use Rattle.trip_analysis.specs.declared.application.Application.{Application}
@@ -30,11 +36,11 @@ use Rattle.office_words.specs.declared.entry.Reply.{Reply}
 use Rattle.office_words.specs.declared.entry.Reply.TheVariants as reply
 use Rattle.office_words.specs.declared.entry.Entry.{Entry}
 use Rattle.journal_text.specs.Words.{Words, group, index, list_text, spaced}
-use Rattle.journal_text.specs.Entries.{application_words, asked_words, call_words, cause_words, change_words, days_words, limit_words, reply_words, standing_words, status_words, what_words}
+use Rattle.journal_text.specs.Entries.{application_words, asked_words, call_words, cause_words, change_words, days_words, limit_words, replaced_words, reply_words, standing_words, status_words, what_words}
 use Rattle.journal_text.specs.Journals.{line_of}
 use Rattle.journal_reader.specs.Words.{day_at, day_of, fraction_of, group_of, list_of, number32, number_at, number_of, pair_of, parts, place_at, place_of, wide_of}
 use Rattle.journal_reader.specs.Fits.{FitsApplication, FitsAsked, FitsCall, FitsCause, FitsChange, FitsDay, FitsEntry, FitsIndex, FitsIndices, FitsLimit, FitsNumber, FitsNumbers, FitsRatio, FitsReply, FitsStatus, FitsWhat}
-use Rattle.journal_reader.specs.Readers.{application_at, asked_at, bare_reply, call_at, cause_at, change_at, days_at, effect_at, entry_of, entry_words, flag_at, fraction_at, group_limit, held_at, issued_at, limit_at, list_at, named_number, named_place, numbers_at, outdated_at, over_limit, places_at, plain_call, plain_reply, posted_at, refused_at, reply_at, segment_change, shown_at, span_change, span_limit, standing_at, status_at, submit_at, trip_at, value_change, what_at, whose_at}
+use Rattle.journal_reader.specs.Readers.{application_at, asked_at, bare_reply, call_at, cause_at, change_at, days_at, effect_at, entry_of, entry_words, fraction_at, group_limit, held_at, issued_at, limit_at, list_at, named_number, named_place, numbers_at, outdated_at, over_limit, places_at, plain_call, plain_reply, posted_at, refused_at, reply_at, segment_change, shown_at, span_change, span_limit, standing_at, status_at, submit_at, tridem_limit, trip_at, what_at, whose_at}
 use Rattle.journal_reader.proofs.Lowest.{lowest_test}
 use Rattle.journal_reader.proofs.Clean.{all_append, all_words, is_dark, is_no, is_word, keeps, left_spaced, list_again, no_digit, word_day, word_index, word_indices, word_number, word_numbers}
 
@@ -116,14 +122,15 @@ group_again i j h k = pair_again 45 place_of place_of (index i) (index j) i j (n
 
 -- a line for each form
 change_again : (c : Change) (ws : Words) → FitsChange c → change_at (change_words c ws) ≡ Some (c, ws)
-unfolding change_at segment_change value_change span_change named_number flag_at
-change_again (change.Closed s true) ws h = rw (place_at_again s) refl
-change_again (change.Closed s false) ws h = rw (place_at_again s) refl
+unfolding change_at segment_change span_change named_number
+change_again (change.Closed s true) ws (h, k) = rw (place_at_again s, number_at_again 1) refl
+change_again (change.Closed s false) ws (h, k) = rw (place_at_again s, number_at_again 0) refl
 change_again (change.Height s n) ws (h, k) = rw (place_at_again s, number_at_again n) refl
 change_again (change.Width s n) ws (h, k) = rw (place_at_again s, number_at_again n) refl
 change_again (change.Length s n) ws (h, k) = rw (place_at_again s, number_at_again n) refl
 change_again (change.Gross s n) ws (h, k) = rw (place_at_again s, number_at_again n) refl
 change_again (change.Allowance s n) ws (h, k) = rw (place_at_again s, number_at_again n) refl
+change_again (change.Tridem s n) ws (h, k) = rw (place_at_again s, number_at_again n) refl
 change_again (change.Rating s n) ws (h, k) = rw (place_at_again s, number_at_again n) refl
 
 effect_again : (name : List ℕ) (f g : Ratio) (n : ℕ) (ws : Words) → FitsRatio f → FitsRatio g → FitsNumber n → effect_at (ratio_text f ∷ codes "hs20" ∷ ratio_text g ∷ codes "rating" ∷ decimal n ∷ ws) ≡ Some ((f, g, n), ws)
@@ -131,13 +138,14 @@ unfolding effect_at named_number
 effect_again name f g n ws hf hg hn = rw (fraction_at_again f _ hf, fraction_at_again g _ hg, number_at_again n) refl
 
 limit_again : (l : Limit) (ws : Words) → FitsLimit l → limit_at (limit_words l ws) ≡ Some (l, ws)
-unfolding limit_at group_limit span_limit over_limit named_number named_place
+unfolding limit_at group_limit tridem_limit span_limit over_limit named_number named_place
 limit_again (limit.Closed s) ws h = rw (place_at_again s) refl
 limit_again (limit.Height s n m) ws (h, k, l) = rw (place_at_again s, number_at_again n, number_at_again m) refl
 limit_again (limit.Width s n m) ws (h, k, l) = rw (place_at_again s, number_at_again n, number_at_again m) refl
 limit_again (limit.Length s n m) ws (h, k, l) = rw (place_at_again s, number_at_again n, number_at_again m) refl
 limit_again (limit.Gross s n m) ws (h, k, l) = rw (place_at_again s, number_at_again n, number_at_again m) refl
 limit_again (limit.Group s i j w m a) ws (h, hi, hj, hw, hm, ha) = rw (place_at_again s, group_again i j hi hj, number_at_again w, number_at_again m, number_at_again a) refl
+limit_again (limit.Tridem s i j w a) ws (h, hi, hj, hw, ha) = rw (place_at_again s, group_again i j hi hj, number_at_again w, number_at_again a) refl
 limit_again (limit.Moment s b f g r) ws (h, k, hf, hg, hr) = rw (place_at_again s, place_at_again b, effect_again (codes "moment") f g r ws hf hg hr) refl
 limit_again (limit.Shear s b f g r) ws (h, k, hf, hg, hr) = rw (place_at_again s, place_at_again b, effect_again (codes "shear") f g r ws hf hg hr) refl
 
@@ -220,15 +228,21 @@ reply_again (reply.Full n) ws h = absurd h
 reply_again reply.NoMemory ws h = refl
 
 -- no space and no line feed: a line for each form
+word_of_what : (w : Limited) → is_word (what_word w) ≡ true
+word_of_what road_what.Closed = refl
+word_of_what road_what.Height = refl
+word_of_what road_what.Width = refl
+word_of_what road_what.Length = refl
+word_of_what road_what.Gross = refl
+word_of_what road_what.Allowance = refl
+word_of_what road_what.Tridem = refl
+
+replaced_clean : (r : Replaced) (ws : Words) → all_words (replaced_words r ws) ≡ all_words ws
+replaced_clean (replaced.Limit s what n) ws = rw (word_index s, word_of_what what, word_number n) refl
+replaced_clean (replaced.Rating s n) ws = rw (word_index s, word_number n) refl
+
 change_clean : (c : Change) (ws : Words) → all_words (change_words c ws) ≡ all_words ws
-change_clean (change.Closed s true) ws = rw (word_index s) refl
-change_clean (change.Closed s false) ws = rw (word_index s) refl
-change_clean (change.Height s n) ws = rw (word_index s, word_number n) refl
-change_clean (change.Width s n) ws = rw (word_index s, word_number n) refl
-change_clean (change.Length s n) ws = rw (word_index s, word_number n) refl
-change_clean (change.Gross s n) ws = rw (word_index s, word_number n) refl
-change_clean (change.Allowance s n) ws = rw (word_index s, word_number n) refl
-change_clean (change.Rating s n) ws = rw (word_index s, word_number n) refl
+change_clean c ws = replaced_clean (replaced_by c) ws
 
 word_ratio : (f : Ratio) → is_word (ratio_text f) ≡ true
 word_ratio f = all_append is_dark (decimal f.num) (47 ∷ decimal f.den) (word_number f.num) (word_number f.den)
@@ -243,6 +257,7 @@ limit_clean (limit.Width s n m) ws = rw (word_index s, word_number n, word_numbe
 limit_clean (limit.Length s n m) ws = rw (word_index s, word_number n, word_number m) refl
 limit_clean (limit.Gross s n m) ws = rw (word_index s, word_number n, word_number m) refl
 limit_clean (limit.Group s i j w m a) ws = rw (word_index s, word_group i j, word_number w, word_number m, word_number a) refl
+limit_clean (limit.Tridem s i j w a) ws = rw (word_index s, word_group i j, word_number w, word_number a) refl
 limit_clean (limit.Moment s b f g r) ws = rw (word_index s, word_index b, word_ratio f, word_ratio g, word_number r) refl
 limit_clean (limit.Shear s b f g r) ws = rw (word_index s, word_index b, word_ratio f, word_ratio g, word_number r) refl
 

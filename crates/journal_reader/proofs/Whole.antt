@@ -7,9 +7,13 @@ use Rattle.std.proofs.lemmas.Bool.Decides.{nat_tests}
 use Rattle.std.proofs.lemmas.List.Splits.{join_with_byte-slice_split}
 use Rattle.office_words.specs.declared.entry.Entry.{Entry}
 use Rattle.journal_text.specs.Words.{Words, index, spaced}
-use Rattle.journal_text.specs.Journals.{end_line, ended, journal_of, line_of}
+use Rattle.journal_text.specs.declared.format.Format.{Format}
+use Rattle.journal_text.specs.declared.format.Format.TheVariants.{One, Two}
+use Rattle.journal_text.specs.Journals.{end_line, ended, first_line, journal_in, line_of}
 use Rattle.journal_reader.specs.Words.{number_of, parts, place_of}
-use Rattle.journal_reader.specs.Fits.{FitsEntry, FitsHistory}
+use Rattle.journal_reader.specs.Fits.{FitsEntry}
+use Rattle.journal_reader.specs.Formats.{FitsIn, HasJournalIn}
+use Rattle.journal_reader.specs.Laws.{NoProperPrefix}
 use Rattle.journal_reader.specs.Readers.{entry_of, entry_words}
 use Rattle.journal_reader.specs.Journals.{IsJournalOf, IsLine, front_of, lines_of}
 use Rattle.journal_reader.proofs.Clean.{all_append, all_words, append_nil, dark_is_no, is_no, is_word, no_digit}
@@ -53,8 +57,16 @@ entry_line e h = line_from (line_of e) (spaced_no (entry_words e) (line_words e 
 pub end_is_line : (n : ℕ) → IsLine (end_line n)
 end_is_line n = line_from (end_line n) (no_digit 10 (omega arith) n)
 
-pub header_is_line : IsLine (codes "permit-journal 1")
-header_is_line = line_from (codes "permit-journal 1") refl
+pub header_is_line : (f : Format) → IsLine (first_line f)
+header_is_line One = line_from (first_line One) refl
+header_is_line Two = line_from (first_line Two) refl
+
+-- the first line tells the format
+same_format : (f g : Format) → first_line f ≡ first_line g → f ≡ g
+same_format One One e = refl
+same_format One Two e = absurd (cc e)
+same_format Two One e = absurd (cc e)
+same_format Two Two e = refl
 
 -- two texts that are equal have one first line
 pub first_lines : (a b x y : List ℕ) → IsLine a → IsLine b → ended a ++ x ≡ ended b ++ y → (a ≡ b) × (x ≡ y)
@@ -106,28 +118,28 @@ one_entry e f h k is = same (sym (entry_again e h) ∙ (ap entry_of is ∙ entry
     same q = cc
 
 -- a journal that begins with the lines of some entries has these entries first, and the lines of the others follow
-pub record Follows (h k : List Entry) (n : ℕ) (rest : List ℕ) : Type 0 where
+pub record Follows (f : Format) (h k : List Entry) (n : ℕ) (rest : List ℕ) : Type 0 where
   pub others : List Entry
-  pub fits : FitsHistory others
+  pub fits : HasJournalIn f others
   pub all : k ≡ h ++ others
   pub lines : rest ≡ lines_of others ++ ended (end_line n)
 
-pub follows : (h k : List Entry) (n : ℕ) (rest : List ℕ) → FitsHistory h → FitsHistory k → lines_of k ++ ended (end_line n) ≡ lines_of h ++ rest → Follows h k n rest
-follows [] k n rest fits fits' e = record { others = k; fits = fits'; all = refl; lines = sym e }
-follows (e ∷ h) [] n rest (fit, fits) fits' is =
-    absurd (entry_is_no_end e n fit (sym (first_lines (end_line n) (line_of e) [] (lines_of h ++ rest) (end_is_line n) (entry_line e fit)
+pub follows : (f : Format) (h k : List Entry) (n : ℕ) (rest : List ℕ) → HasJournalIn f h → HasJournalIn f k → lines_of k ++ ended (end_line n) ≡ lines_of h ++ rest → Follows f h k n rest
+follows f [] k n rest fits fits' e = record { others = k; fits = fits'; all = refl; lines = sym e }
+follows f (e ∷ h) [] n rest (fit, fits) fits' is =
+    absurd (entry_is_no_end e n fit.0 (sym (first_lines (end_line n) (line_of e) [] (lines_of h ++ rest) (end_is_line n) (entry_line e fit.0)
     (append_nil (ended (end_line n)) ∙ (is ∙ append_assoc (ended (line_of e)) (lines_of h) rest))).0))
-follows (e ∷ h) (f ∷ k) n rest (fit, fits) (fit', fits') is =
-    let two = first_lines (line_of f) (line_of e) (lines_of k ++ ended (end_line n)) (lines_of h ++ rest) (entry_line f fit') (entry_line e fit)
-    (sym (append_assoc (ended (line_of f)) (lines_of k) (ended (end_line n))) ∙ (is ∙ append_assoc (ended (line_of e)) (lines_of h) rest)) in
-    let more = follows h k n rest fits fits' two.1 in
-    record { others = more.others; fits = more.fits; all = both (one_entry f e fit' fit two.0) more.all; lines = more.lines }
+follows f (e ∷ h) (d ∷ k) n rest (fit, fits) (fit', fits') is =
+    let two = first_lines (line_of d) (line_of e) (lines_of k ++ ended (end_line n)) (lines_of h ++ rest) (entry_line d fit'.0) (entry_line e fit.0)
+    (sym (append_assoc (ended (line_of d)) (lines_of k) (ended (end_line n))) ∙ (is ∙ append_assoc (ended (line_of e)) (lines_of h) rest)) in
+    let more = follows f h k n rest fits fits' two.1 in
+    record { others = more.others; fits = more.fits; all = both (one_entry d e fit'.0 fit.0 two.0) more.all; lines = more.lines }
   where
     both : {a b : Entry} {s t : List Entry} → a ≡ b → s ≡ t → a ∷ s ≡ b ∷ t
     both p q = cc
 
-pub journal_front : (h : List Entry) → journal_of h ≡ front_of h ++ ended (end_line (length h))
-journal_front h = sym (append_assoc (ended (codes "permit-journal 1")) (lines_of h) (ended (end_line (length h))))
+pub journal_front : (f : Format) (h : List Entry) → journal_in f h ≡ front_of f h ++ ended (end_line (length h))
+journal_front f h = sym (append_assoc (ended (first_line f)) (lines_of h) (ended (end_line (length h))))
 
 append_same : (a x y : List ℕ) → a ++ x ≡ a ++ y → x ≡ y
 append_same [] x y e = e
@@ -136,15 +148,24 @@ append_same (b ∷ a) x y e = append_same a x y (tail e)
     tail : {c d : ℕ} {s t : List ℕ} → c ∷ s ≡ d ∷ t → s ≡ t
     tail q = cc
 
-pub journal_follows : (h k : List Entry) (rest : List ℕ) → FitsHistory h → FitsHistory k → journal_of k ≡ front_of h ++ rest → Follows h k (length k) rest
-journal_follows h k rest fits fits' e =
-    follows h k (length k) rest fits fits' (append_same (ended (codes "permit-journal 1")) _ _ (e ∙ append_assoc (ended (codes "permit-journal 1")) (lines_of h) rest))
+-- a journal that begins with the first line of a format is in this format
+same_first : (f g : Format) (h k : List Entry) (rest : List ℕ) → journal_in g k ≡ front_of f h ++ rest → g ≡ f
+same_first f g h k rest e =
+    same_format g f (first_lines (first_line g) (first_line f) _ _ (header_is_line g) (header_is_line f) (e ∙ append_assoc (ended (first_line f)) (lines_of h) rest)).0
+
+pub journal_follows : (f g : Format) (h k : List Entry) (rest : List ℕ) → HasJournalIn f h → HasJournalIn g k → journal_in g k ≡ front_of f h ++ rest → Follows f h k (length k) rest
+journal_follows f g h k rest fits fits' e = by g (same_first f g h k rest e) fits' e
+  where
+    by : (g : Format) → g ≡ f → HasJournalIn g k → journal_in g k ≡ front_of f h ++ rest → Follows f h k (length k) rest
+    by g same fits' e =
+        follows f h k (length k) rest fits (subst (λ x. HasJournalIn x k) same fits')
+        (append_same (ended (first_line f)) _ _ (sym (ap (λ x. journal_in x k) same) ∙ (e ∙ append_assoc (ended (first_line f)) (lines_of h) rest)))
 
 -- what follows is a line and more: it is the line of an entry, or the end line
-pub next_line : (h k : List Entry) (line more : List ℕ) → FitsHistory h → FitsHistory k → IsLine line → journal_of k ≡ front_of h ++ (ended line ++ more)
-    → ((e : Entry) × FitsEntry e × (line ≡ line_of e)) ⊎ ((k ≡ h) × (line ≡ end_line (length h)) × (more ≡ []))
-next_line h k line more fits fits' clean e =
-    let f = journal_follows h k (ended line ++ more) fits fits' e in by f.others f.fits f.all f.lines
+pub next_line : (f g : Format) (h k : List Entry) (line more : List ℕ) → HasJournalIn f h → HasJournalIn g k → IsLine line → journal_in g k ≡ front_of f h ++ (ended line ++ more)
+    → ((e : Entry) × FitsIn f e × (line ≡ line_of e)) ⊎ ((k ≡ h) × (line ≡ end_line (length h)) × (more ≡ []))
+next_line f g h k line more fits fits' clean e =
+    let t = journal_follows f g h k (ended line ++ more) fits fits' e in by t.others t.fits t.all t.lines
   where
     alone : (o : List Entry) → o ≡ [] → k ≡ h ++ o → k ≡ h
     alone [] z all = all ∙ nil h
@@ -154,36 +175,36 @@ next_line h k line more fits fits' clean e =
         nil (x ∷ xs) = ap (λ t. x ∷ t) (nil xs)
     alone (x ∷ o) z all = absurd (cc z)
 
-    by : (o : List Entry) → FitsHistory o → k ≡ h ++ o → ended line ++ more ≡ lines_of o ++ ended (end_line (length k))
-        → ((e : Entry) × FitsEntry e × (line ≡ line_of e)) ⊎ ((k ≡ h) × (line ≡ end_line (length h)) × (more ≡ []))
+    by : (o : List Entry) → HasJournalIn f o → k ≡ h ++ o → ended line ++ more ≡ lines_of o ++ ended (end_line (length k))
+        → ((e : Entry) × FitsIn f e × (line ≡ line_of e)) ⊎ ((k ≡ h) × (line ≡ end_line (length h)) × (more ≡ []))
     by [] fit all lines =
         let same : k ≡ h = alone [] refl all in
         let two = first_lines line (end_line (length k)) more [] clean (end_is_line (length k)) (lines ∙ sym (append_nil (ended (end_line (length k))))) in
         inr (same, two.0 ∙ ap (λ (x : List Entry). end_line (length x)) same, two.1)
     by (x ∷ o) (fit, fits) all lines =
-        inl (x, fit, (first_lines line (line_of x) more (lines_of o ++ ended (end_line (length k))) clean (entry_line x fit) (lines ∙ append_assoc (ended (line_of x)) (lines_of o) (ended (end_line (length k))))).0)
+        inl (x, fit, (first_lines line (line_of x) more (lines_of o ++ ended (end_line (length k))) clean (entry_line x fit.0) (lines ∙ append_assoc (ended (line_of x)) (lines_of o) (ended (end_line (length k))))).0)
 
 -- what follows is not without a line feed
-pub never_unended : (h k : List Entry) (rest : List ℕ) → FitsHistory h → FitsHistory k → IsLine rest → journal_of k ≢ front_of h ++ rest
-never_unended h k rest fits fits' clean e =
-    let f = journal_follows h k rest fits fits' e in by f.others f.lines
+pub never_unended : (f g : Format) (h k : List Entry) (rest : List ℕ) → HasJournalIn f h → HasJournalIn g k → IsLine rest → journal_in g k ≢ front_of f h ++ rest
+never_unended f g h k rest fits fits' clean e =
+    let t = journal_follows f g h k rest fits fits' e in by t.others t.lines
   where
     by : (o : List Entry) → rest ≡ lines_of o ++ ended (end_line (length k)) → ⊥
     by [] lines = no_feed (end_line (length k)) [] (subst (λ (t : List ℕ). IsLine t) (lines ∙ sym (append_nil (ended (end_line (length k))))) clean)
     by (x ∷ o) lines = no_feed (line_of x) (lines_of o ++ ended (end_line (length k))) (subst (λ (t : List ℕ). IsLine t) (lines ∙ append_assoc (ended (line_of x)) (lines_of o) (ended (end_line (length k)))) clean)
 
 -- after a whole journal nothing follows, and it is that of one history
-pub nothing_follows : (h k : List Entry) (more : List ℕ) → FitsHistory h → FitsHistory k → journal_of k ≡ journal_of h ++ more → (k ≡ h) × (more ≡ [])
-nothing_follows h k more fits fits' e =
-    by (next_line h k (end_line (length h)) more fits fits' (end_is_line (length h)) (e ∙ (ap (λ t. t ++ more) (journal_front h) ∙ append_assoc (front_of h) (ended (end_line (length h))) more)))
+pub nothing_follows : (f g : Format) (h k : List Entry) (more : List ℕ) → HasJournalIn f h → HasJournalIn g k → journal_in g k ≡ journal_in f h ++ more → (k ≡ h) × (more ≡ [])
+nothing_follows f g h k more fits fits' e =
+    by (next_line f g h k (end_line (length h)) more fits fits' (end_is_line (length h)) (e ∙ (ap (λ t. t ++ more) (journal_front f h) ∙ append_assoc (front_of f h) (ended (end_line (length h))) more)))
   where
-    by : ((x : Entry) × FitsEntry x × (end_line (length h) ≡ line_of x)) ⊎ ((k ≡ h) × (end_line (length h) ≡ end_line (length h)) × (more ≡ [])) → (k ≡ h) × (more ≡ [])
-    by (inl (x, fit, is)) = absurd (entry_is_no_end x (length h) fit (sym is))
+    by : ((x : Entry) × FitsIn f x × (end_line (length h) ≡ line_of x)) ⊎ ((k ≡ h) × (end_line (length h) ≡ end_line (length h)) × (more ≡ [])) → (k ≡ h) × (more ≡ [])
+    by (inl (x, fit, is)) = absurd (entry_is_no_end x (length h) fit.0 (sym is))
     by (inr (same, is, none)) = (same, none)
 
 pub one_history : (h k : List Entry) (text : List ℕ) → IsJournalOf h text → IsJournalOf k text → h ≡ k
-one_history h k text (fits, is) (fits', is') =
-    sym (nothing_follows h k [] fits fits' (sym is' ∙ (is ∙ sym (append_nil (journal_of h))))).0
+one_history h k text (f, fits, is) (g, fits', is') =
+    sym (nothing_follows f g h k [] fits fits' (sym is' ∙ (is ∙ sym (append_nil (journal_in f h))))).0
 
-pub no_proper_prefix : (h k : List Entry) (more : List ℕ) → FitsHistory h → FitsHistory k → journal_of k ≡ journal_of h ++ more → more ≡ []
-no_proper_prefix h k more fits fits' e = (nothing_follows h k more fits fits' e).1
+pub no_proper_prefix : NoProperPrefix
+no_proper_prefix f g h k more fits fits' e = (nothing_follows f g h k more fits fits' e).1

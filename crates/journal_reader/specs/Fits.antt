@@ -1,11 +1,13 @@
--- What may stand in a journal: its indices are below 65536, its numbers below 2^32, its fractions in lowest terms below
+-- What may stand in a journal of any format: its indices are below 65536, its numbers below 2^32, its fractions in lowest terms below
 -- 2^128, its days are days, and no reply says that the office is full.
 use Rattle.std.specs.Prelude.{◌≡◌, ℕ, ◌<◌, ◌^◌, List, Option, Some, None, true}
 use Rattle.std.specs.List.{AllByRecursion}
 use Rattle.influence_line.specs.Fractions.{IsLowest, Ratio}
 use Rattle.permit_days.specs.Days.{is_day_text}
 use Rattle.restriction_log.specs.declared.change.Change.{Change}
-use Rattle.restriction_log.specs.declared.change.Change.TheVariants as change
+use Rattle.restriction_log.specs.declared.change.Replaced.{Replaced}
+use Rattle.restriction_log.specs.declared.change.Replaced.TheVariants as replaced
+use Rattle.restriction_log.specs.Changes.{replaced_by}
 use Rattle.clearance_rules.specs.declared.limit.Limit.{Limit}
 use Rattle.clearance_rules.specs.declared.limit.Limit.TheVariants as limit
 use Rattle.trip_analysis.specs.declared.application.Application.{Application}
@@ -39,14 +41,12 @@ FitsDay day = is_day_text day ≡ true
 abbrev pub FitsRatio : Ratio → Type 0
 FitsRatio f = (f.num < 2 ^ 128) × (f.den < 2 ^ 128) × IsLowest f
 
+abbrev pub FitsReplaced : Replaced → Type 0
+FitsReplaced (replaced.Limit segment what value) = FitsIndex segment × FitsNumber value
+FitsReplaced (replaced.Rating span permille) = FitsIndex span × FitsNumber permille
+
 abbrev pub FitsChange : Change → Type 0
-FitsChange (change.Closed segment closed) = FitsIndex segment
-FitsChange (change.Height segment inches) = FitsIndex segment × FitsNumber inches
-FitsChange (change.Width segment inches) = FitsIndex segment × FitsNumber inches
-FitsChange (change.Length segment inches) = FitsIndex segment × FitsNumber inches
-FitsChange (change.Gross segment pounds) = FitsIndex segment × FitsNumber pounds
-FitsChange (change.Allowance segment permille) = FitsIndex segment × FitsNumber permille
-FitsChange (change.Rating span permille) = FitsIndex span × FitsNumber permille
+FitsChange change = FitsReplaced (replaced_by change)
 
 abbrev pub FitsLimit : Limit → Type 0
 FitsLimit (limit.Closed segment) = FitsIndex segment
@@ -56,6 +56,8 @@ FitsLimit (limit.Length segment has allowed) = FitsIndex segment × FitsNumber h
 FitsLimit (limit.Gross segment has allowed) = FitsIndex segment × FitsNumber has × FitsNumber allowed
 FitsLimit (limit.Group segment i j weight most allowance) =
     FitsIndex segment × FitsIndex i × FitsIndex j × FitsNumber weight × FitsNumber most × FitsNumber allowance
+FitsLimit (limit.Tridem segment i j weight allowed) =
+    FitsIndex segment × FitsIndex i × FitsIndex j × FitsNumber weight × FitsNumber allowed
 FitsLimit (limit.Moment segment span has design rating) =
     FitsIndex segment × FitsIndex span × FitsRatio has × FitsRatio design × FitsNumber rating
 FitsLimit (limit.Shear segment span has design rating) =
@@ -118,6 +120,6 @@ FitsReply reply.NoMemory = Unit {0}
 abbrev pub FitsEntry : Entry → Type 0
 FitsEntry e = FitsIndex e.caller × FitsCall e.call × FitsReply e.reply
 
--- a history whose journal can be read
+-- a history whose journal can be read, in the format in which it is written
 abbrev pub FitsHistory : List Entry → Type 0
 FitsHistory history = AllByRecursion FitsEntry history

@@ -1,20 +1,25 @@
 -- Which texts are journals, and which line of a text is bad.
-use Rattle.std.specs.Prelude.{◌≡◌, ◌≢◌, ◌⊎◌, ℕ, ◌+◌, List, ◌++◌, length, flat_map, codes, Result, Ok, Err}
+use Rattle.std.specs.Prelude.{◌≡◌, ◌≢◌, ◌⊎◌, ℕ, ◌+◌, List, ◌++◌, length, flat_map, Result, Ok, Err}
 use Rattle.std.specs.List.{AllByRecursion}
 use Rattle.office_words.specs.declared.entry.Entry.{Entry}
-use Rattle.journal_text.specs.Journals.{ended, journal_of, line_of}
-use Rattle.journal_reader.specs.Fits.{FitsHistory}
+use Rattle.journal_text.specs.declared.format.Format.{Format}
+use Rattle.journal_text.specs.Journals.{ended, first_line, journal_in, line_of}
+use Rattle.journal_reader.specs.Formats.{HasJournalIn}
 use Rattle.journal_reader.specs.declared.refusal.JournalRefusal.{JournalRefusal}
 use Rattle.journal_reader.specs.declared.refusal.JournalRefusal.TheVariants as refusal
 
--- the text is the journal of this history
+-- the text is the journal of this history, in this format
+abbrev pub IsJournalIn : Format → List Entry → List ℕ → Type 0
+IsJournalIn format history text = HasJournalIn format history × (text ≡ journal_in format history)
+
+-- the text is the journal of this history, in some format
 abbrev pub IsJournalOf : List Entry → List ℕ → Type 0
-IsJournalOf history text = FitsHistory history × (text ≡ journal_of history)
+IsJournalOf history text = (format : Format) × IsJournalIn format history text
 
 abbrev pub IsNoJournal : List ℕ → Type 0
 IsNoJournal text = (history : List Entry) → IsJournalOf history text → ⊥
 
--- some journal begins with this text
+-- some journal, in some format, begins with this text
 abbrev pub BeginsAJournal : List ℕ → Type 0
 BeginsAJournal front = (history : List Entry) × (more : List ℕ) × IsJournalOf history (front ++ more)
 
@@ -30,8 +35,12 @@ lines_text lines = flat_map ended lines
 abbrev pub lines_of : List Entry → List ℕ
 lines_of history = flat_map (λ e. ended (line_of e)) history
 
-abbrev pub front_of : List Entry → List ℕ
-front_of history = ended (codes "permit-journal 1") ++ lines_of history
+abbrev pub front_of : Format → List Entry → List ℕ
+front_of format history = ended (first_line format) ++ lines_of history
+
+-- the line is the first one of a journal, in some format
+abbrev pub IsFirstLine : List ℕ → Type 0
+IsFirstLine line = (format : Format) × (line ≡ first_line format)
 
 -- after the lines of `front` comes a last line without its line feed, or none, and all is no journal; or a line with which
 -- no journal goes on

@@ -1,20 +1,23 @@
 -- Laws of journals.
 use Rattle.std.specs.Prelude.{◌≡◌, ◌≢◌, ◌⊎◌, List, [], ◌++◌, ℕ, Result, Ok, Err}
 use Rattle.office_words.specs.declared.entry.Entry.{Entry}
-use Rattle.journal_text.specs.Journals.{journal_of}
+use Rattle.journal_text.specs.declared.format.Format.{Format}
+use Rattle.journal_text.specs.Journals.{journal_in, journal_of}
+use Rattle.journal_reader.specs.Formats.{HasJournalIn}
 use Rattle.journal_reader.specs.Fits.{FitsHistory}
 use Rattle.journal_reader.specs.Journals.{IsAnswer, IsJournalOf}
 use Rattle.journal_reader.specs.declared.refusal.JournalRefusal.{JournalRefusal}
 use Rattle.journal_reader.specs.declared.refusal.JournalRefusal.TheVariants.{NoMemory}
 
--- a text is the journal of one history at most
+-- a text is the journal of one history at most, in whatever formats it is read
 abbrev pub OneHistory : Type 0
 OneHistory = (h k : List Entry) (text : List ℕ) → IsJournalOf h text → IsJournalOf k text → h ≡ k
 
--- no journal is a proper prefix of another
+-- no journal is a proper prefix of another, whatever their formats are
 abbrev pub NoProperPrefix : Type 0
 NoProperPrefix =
-    (h k : List Entry) (more : List ℕ) → FitsHistory h → FitsHistory k → journal_of k ≡ journal_of h ++ more → more ≡ []
+    (f g : Format) (h k : List Entry) (more : List ℕ) → HasJournalIn f h → HasJournalIn g k
+    → journal_in g k ≡ journal_in f h ++ more → more ≡ []
 
 -- an answer other than want of memory is determined by the text
 abbrev pub OneAnswer : Type 0

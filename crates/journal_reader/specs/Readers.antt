@@ -1,16 +1,20 @@
 -- What words spell: each function gives what it found and the words that follow. They are the inverses of the functions
 -- that put words in front of others.
-use Rattle.std.specs.Prelude.{[], ◌∷◌, ℕ, List, Bool, true, false, codes, if◌then◌else◌, Option, Some, None, option_map, IfSome, ◌≡◌}
+use Rattle.std.specs.Prelude.{[], ◌∷◌, ℕ, List, Bool, true, false, codes, if◌then◌else◌, Option, Some, None, option_map, IfSome, nat_le, ◌≡◌}
 use Rattle.std.specs.Str.{bytes_eq}
 use Rattle.std.specs.Borrow.{Bor}
 use Rattle.std.specs.Fmt.{decimal}
 use Rattle.influence_line.specs.Fractions.{Ratio, ratio_text}
 use Rattle.restriction_log.specs.declared.change.Change.{Change}
 use Rattle.restriction_log.specs.declared.change.Change.TheVariants as change
+use Rattle.restriction_log.specs.Changes.{change_of}
+use Rattle.road_graph.specs.Words.{what_of}
+use Rattle.road_graph.specs.declared.values.What.{What}
+use Rattle.road_graph.specs.declared.values.What.TheVariants.{Closed}
 use Rattle.clearance_rules.specs.declared.limit.Limit.{Limit}
 use Rattle.clearance_rules.specs.declared.limit.Limit.TheVariants as limit
 use Rattle.trip_analysis.specs.declared.application.Application.{Application}
-use Rattle.trip_analysis.specs.declared.finding.What.{What}
+use Rattle.trip_analysis.specs.declared.finding.What.{What as Found}
 use Rattle.trip_analysis.specs.declared.finding.What.TheVariants as what
 use Rattle.permit_book.specs.declared.permit.Status.{Status}
 use Rattle.permit_book.specs.declared.permit.Status.TheVariants as status
@@ -22,8 +26,10 @@ use Rattle.office_words.specs.declared.entry.Reply.{Reply}
 use Rattle.office_words.specs.declared.entry.Reply.TheVariants as reply
 use Rattle.office_words.specs.declared.entry.Entry.{Entry}
 use Rattle.journal_text.specs.Words.{Words, index, list_text}
-use Rattle.journal_text.specs.Entries.{call_words, change_words, days_words, limit_words, reply_words, shown_words, standing_words}
-use Rattle.journal_reader.specs.Fits.{FitsChange, FitsDay, FitsEntry, FitsIndex, FitsLimit, FitsNumber, FitsRatio, FitsStatus}
+use Rattle.journal_text.specs.Entries.{call_words, days_words, limit_words, reply_words, shown_words, standing_words}
+use Rattle.journal_text.specs.declared.format.Format.{Format}
+use Rattle.journal_reader.specs.Formats.{if_said}
+use Rattle.journal_reader.specs.Fits.{FitsDay, FitsEntry, FitsIndex, FitsLimit, FitsNumber, FitsRatio, FitsStatus}
 use Rattle.journal_reader.specs.Words.{Spells, after_word, day_at, fraction_of, group_of, is_empty, list_of, number32, number_at, parts, place_at, place_of, word_at, ◌>>=◌}
 
 -- words that are read in one go
@@ -67,11 +73,7 @@ entry_words e = index e.caller ∷ call_words e.call (codes "=" ∷ reply_words 
 abbrev pub IsWordsOf : Words → Option Entry → Type 0
 IsWordsOf ws found = IfSome found (λ e. (ws ≡ entry_words e) × FitsEntry e)
 
--- a change or a limit of this segment was found behind this name
-abbrev pub SpellsChangeOf : ℕ → List ℕ → Words → Option (Change × Bor (List ℕ)) → Type 0
-SpellsChangeOf segment named before found =
-    FitsIndex segment → Spells change_words FitsChange (codes "segment" ∷ index segment ∷ named ∷ before) found
-
+-- a limit of this segment was found behind this name
 abbrev pub SpellsLimitOf : ℕ → List ℕ → Words → Option (Limit × Bor (List ℕ)) → Type 0
 SpellsLimitOf segment named before found =
     FitsIndex segment → Spells limit_words FitsLimit (codes "segment" ∷ index segment ∷ named ∷ before) found
@@ -109,29 +111,18 @@ fraction_at ws = do
   f ← fraction_of w.0
   Some (f, w.1)
 
-unfoldable pub flag_at : Words → Option (Bool × Words)
-flag_at ws = do
-  w ← word_at ws
-  if bytes_eq w.0 (codes "0") then Some (false, w.1)
-      else if bytes_eq w.0 (codes "1") then Some (true, w.1)
-      else None
-
-unfoldable pub value_change : ℕ → List ℕ → Words → Option (Change × Words)
-value_change segment named ws = do
-  n ← number_at ws
-  if bytes_eq named (codes "height") then Some (change.Height segment n.0, n.1)
-      else if bytes_eq named (codes "width") then Some (change.Width segment n.0, n.1)
-      else if bytes_eq named (codes "length") then Some (change.Length segment n.0, n.1)
-      else if bytes_eq named (codes "gross") then Some (change.Gross segment n.0, n.1)
-      else if bytes_eq named (codes "allowance") then Some (change.Allowance segment n.0, n.1)
-      else None
+-- whether a value of this limit may stand in a journal: a segment is closed by 1 and open by 0
+abbrev pub may_stand : What → ℕ → Bool
+may_stand Closed n = nat_le n 1
+may_stand other n = true
 
 unfoldable pub segment_change : Words → Option (Change × Words)
 segment_change ws = do
   s ← place_at ws
   named ← word_at s.1
-  if bytes_eq named.0 (codes "closed") then option_map (λ x. (change.Closed s.0 x.0, x.1)) (flag_at named.1)
-      else value_change s.0 named.0 named.1
+  what ← what_of named.0
+  n ← number_at named.1
+  if may_stand what n.0 then Some (change_of s.0 what n.0, n.1) else None
 
 unfoldable pub span_change : Words → Option (Change × Words)
 span_change ws = do
@@ -165,6 +156,14 @@ group_limit segment ws = do
   allowance ← named_number (codes "allowance") most.1
   Some (limit.Group segment g.0 g.1 weight.0 most.0 allowance.0, allowance.1)
 
+unfoldable pub tridem_limit : ℕ → Words → Option (Limit × Words)
+tridem_limit segment ws = do
+  w ← word_at ws
+  g ← group_of w.0
+  weight ← named_number (codes "weight") w.1
+  allowed ← named_number (codes "over") weight.1
+  Some (limit.Tridem segment g.0 g.1 weight.0 allowed.0, allowed.1)
+
 -- an effect behind its name
 unfoldable pub effect_at : Words → Option ((Ratio × Ratio × ℕ) × Words)
 effect_at ws = do
@@ -189,6 +188,7 @@ limit_at ws = do
   named ← word_at s.1
   if bytes_eq named.0 (codes "closed") then Some (limit.Closed s.0, named.1)
       else if bytes_eq named.0 (codes "group") then group_limit s.0 named.1
+      else if bytes_eq named.0 (codes "tridem") then tridem_limit s.0 named.1
       else if bytes_eq named.0 (codes "span") then span_limit s.0 named.1
       else over_limit s.0 named.0 named.1
 
@@ -230,7 +230,7 @@ list_at ws = do
   xs ← list_of place_of w.0
   Some (xs, w.1)
 
-unfoldable pub what_at : Words → Option (What × Words)
+unfoldable pub what_at : Words → Option (Found × Words)
 what_at ws = do
   kind ← word_at ws
   if bytes_eq kind.0 (codes "none") then Some (what.NotNeeded, kind.1)
@@ -372,3 +372,7 @@ entry_of line = do
   rest ← after_word (codes "=") c.1
   r ← reply_at rest
   if is_empty r.1 then Some (record { caller = caller; call = c.0; reply = r.0 }) else None
+
+-- the entry of a line in a journal of this format
+abbrev pub entry_in : Format → List ℕ → Option Entry
+entry_in format line = if_said format (entry_of line)

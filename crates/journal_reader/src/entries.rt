@@ -7,20 +7,38 @@ ghost use Rattle.journal_text.specs.Entries.{call_words, reply_words};
 ghost use Rattle.journal_text.specs.Journals.{end_line, line_of};
 ghost use Rattle.journal_reader.specs.Words.{IsTextOf, left, parts, seen};
 ghost use Rattle.journal_reader.specs.Fits.{FitsEntry};
-ghost use Rattle.journal_reader.specs.Readers.{IsWordsOf, call_at, entry_of, reply_at};
+ghost use Rattle.journal_reader.specs.Formats.{FitsIn, is_said_in};
+ghost use Rattle.journal_reader.specs.Readers.{IsWordsOf, call_at, entry_in, entry_of, reply_at};
 
 use crate::calls::call;
+use crate::formats::is_said_in;
 use crate::numbers::first_place;
 use crate::parts::is_done;
 use crate::replies::reply;
 use crate::words::after;
 use itoa::Buffer;
+use journal_text::Format;
 use office_words::Entry;
 use std::alloc::{AllocError, Global};
 
-/// The entry of a line.
+/// The entry of a line in a journal of this format.
+pub fn entry(alloc: Global, format: Format, line: &[u8]) -> Result<Option<Entry>, AllocError>
+    ensures exact { IfOk result (λ found. found ≡ entry_in format line.now) }
+    ensures sound { IfOk result (IsTextOf line_of (FitsIn format) line.now) }
+{
+    let Some(entry) = any_entry(alloc, line)? else {
+        return Ok(None);
+    };
+    if is_said_in(format, &entry) {
+        Ok(Some(entry))
+    } else {
+        Ok(None)
+    }
+}
+
+// The entry of a line, whatever the format is.
 #[tactic(auto, using(crate::proofs::Whole::line_found))]
-pub fn entry(alloc: Global, line: &[u8]) -> Result<Option<Entry>, AllocError>
+fn any_entry(alloc: Global, line: &[u8]) -> Result<Option<Entry>, AllocError>
     ensures exact { IfOk result (λ found. found ≡ entry_of line.now) }
     ensures sound { IfOk result (IsTextOf line_of FitsEntry line.now) }
 {

@@ -10,6 +10,7 @@
 
 mod calls;
 mod entries;
+mod formats;
 mod laws;
 mod limits;
 mod numbers;

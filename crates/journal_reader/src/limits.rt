@@ -5,10 +5,10 @@ ghost use Rattle.std.specs.Fmt.{decimal};
 ghost use Rattle.std.specs.Str.{bytes_eq};
 ghost use Rattle.influence_line.specs.Fractions.{ratio_text};
 ghost use Rattle.journal_text.specs.Words.{group, index};
-ghost use Rattle.journal_text.specs.Entries.{cause_words, change_words, effect_words, flag_words, limit_words};
+ghost use Rattle.journal_text.specs.Entries.{cause_words, change_words, effect_words, limit_words};
 ghost use Rattle.journal_reader.specs.Words.{Spells, group_of, left, seen, word_at};
 ghost use Rattle.journal_reader.specs.Fits.{FitsCause, FitsChange, FitsIndex, FitsLimit, FitsNumber, FitsRatio};
-ghost use Rattle.journal_reader.specs.Readers.{FitsRated, SpellsChangeOf, SpellsLimitOf, rated_words, cause_at, change_at, effect_at, flag_at, group_limit, limit_at, over_limit, segment_change, span_change, span_limit, value_change};
+ghost use Rattle.journal_reader.specs.Readers.{FitsRated, SpellsLimitOf, rated_words, cause_at, change_at, effect_at, group_limit, limit_at, may_stand, over_limit, segment_change, span_change, span_limit, tridem_limit};
 
 use crate::numbers::{group_in, is};
 use crate::words::{after, fraction, named_number, named_place, number, place, word};
@@ -16,6 +16,7 @@ use clearance_rules::Limit;
 use influence_line::Frac;
 use office_words::Cause;
 use restriction_log::Change;
+use road_graph::What;
 
 /// A change.
 #[tactic(auto, unfolding(crate::specs::Readers::change_at))]
@@ -65,6 +66,8 @@ pub fn limit(rest: &[u8]) -> Option<(Limit, &[u8])>
         Some((Limit::Closed { segment }, rest))
     } else if is(named, "group") {
         group_limit(segment, rest)
+    } else if is(named, "tridem") {
+        tridem_limit(segment, rest)
     } else if is(named, "span") {
         span_limit(segment, rest)
     } else {
@@ -72,61 +75,29 @@ pub fn limit(rest: &[u8]) -> Option<(Limit, &[u8])>
     }
 }
 
-#[tactic(auto, unfolding(crate::specs::Readers::flag_at))]
-fn flag(rest: &[u8]) -> Option<(bool, &[u8])>
-    ensures exact { seen result ≡ flag_at (left rest.now) }
-    ensures sound { Spells flag_words (λ _. Unit {0}) (left rest.now) result }
-{
-    let (word, rest) = word(rest)?;
-    if is(word, "0") {
-        Some((false, rest))
-    } else if is(word, "1") {
-        Some((true, rest))
-    } else {
-        None
-    }
-}
-
 // A change of a segment.
-#[tactic(auto, unfolding(crate::specs::Readers::segment_change))]
+#[tactic(auto, using(crate::proofs::Changes::change_spelled), unfolding(crate::specs::Readers::segment_change))]
 fn segment_change(rest: &[u8]) -> Option<(Change, &[u8])>
     ensures exact { seen result ≡ segment_change (left rest.now) }
     ensures sound { Spells change_words FitsChange (codes "segment" ∷ left rest.now) result }
 {
     let (segment, rest) = place(rest)?;
     let (named, rest) = word(rest)?;
-    if is(named, "closed") {
-        let (closed, rest) = flag(rest)?;
-        return Some((Change::Closed { segment, closed }, rest));
+    let what = What::of_word(named)?;
+    let (value, rest) = number(rest)?;
+    if !may_stand(what, value) {
+        return None;
     }
-    value_change(segment, named, rest)
+    Some((Change::of(segment, what, value), rest))
 }
 
-// A new value of a segment.
-#[tactic(auto, unfolding(crate::specs::Readers::value_change))]
-fn value_change<'a>(segment: u32, named: &[u8], rest: &'a [u8]) -> Option<(Change, &'a [u8])>
-    ensures exact { seen result ≡ value_change segment named.now (left rest.now) }
-    ensures sound { SpellsChangeOf segment named.now (left rest.now) result }
+// Whether a value of this limit may stand in a journal: a segment is closed by 1 and open by 0.
+fn may_stand(what: What, value: u32) -> bool
+    ensures { result ≡ may_stand what value }
 {
-    let (n, rest) = number(rest)?;
-    if is(named, "height") {
-        Some((Change::Height { segment, inches: n }, rest))
-    } else if is(named, "width") {
-        Some((Change::Width { segment, inches: n }, rest))
-    } else if is(named, "length") {
-        Some((Change::Length { segment, inches: n }, rest))
-    } else if is(named, "gross") {
-        Some((Change::Gross { segment, pounds: n }, rest))
-    } else if is(named, "allowance") {
-        Some((
-            Change::Allowance {
-                segment,
-                permille: n,
-            },
-            rest,
-        ))
-    } else {
-        None
+    match what {
+        What::Closed => value <= 1,
+        _ => true,
     }
 }
 
@@ -209,6 +180,28 @@ fn group_limit(segment: u32, rest: &[u8]) -> Option<(Limit, &[u8])>
             weight,
             limit,
             allowance,
+        },
+        rest,
+    ))
+}
+
+// A tridem group over its posted weight.
+#[tactic(auto, unfolding(crate::specs::Readers::tridem_limit))]
+fn tridem_limit(segment: u32, rest: &[u8]) -> Option<(Limit, &[u8])>
+    ensures exact { seen result ≡ tridem_limit segment (left rest.now) }
+    ensures sound { SpellsLimitOf segment (codes "tridem") (left rest.now) result }
+{
+    let (axles, rest) = word(rest)?;
+    let (i, j) = group_in(axles)?;
+    let (weight, rest) = named_number(rest, "weight")?;
+    let (allowed, rest) = named_number(rest, "over")?;
+    Some((
+        Limit::Tridem {
+            segment,
+            i,
+            j,
+            weight,
+            allowed,
         },
         rest,
     ))

@@ -1,20 +1,21 @@
 // The history that a text is the journal of.
 
-ghost use Rattle.std.specs.Prelude.{◌≡◌, ◌++◌, IfOk, IfErr, None, codes};
-ghost use Rattle.journal_text.specs.Journals.{ended};
-ghost use Rattle.journal_reader.specs.Fits.{FitsHistory};
-ghost use Rattle.journal_reader.specs.Readers.{entry_of};
+ghost use Rattle.std.specs.Prelude.{◌≡◌, ◌++◌, IfOk, IfErr, None};
+ghost use Rattle.journal_text.specs.Journals.{ended, first_line};
+ghost use Rattle.journal_reader.specs.Formats.{HasJournalIn};
+ghost use Rattle.journal_reader.specs.Readers.{entry_in};
 ghost use Rattle.journal_reader.specs.Journals.{IsJournalOf, IsLine, IsWhy, front_of};
 
 use crate::entries::{entry, is_end};
-use crate::numbers::is;
+use crate::formats::format_of;
 use crate::parts::line;
 use crate::refusal::JournalRefusal;
+use journal_text::Format;
 use office_words::Entry;
 use std::alloc::Global;
 
-/// The history that the bytes are the journal of, or the first line such that no journal begins with the lines up to it;
-/// `NoMemory` where no memory was left.
+/// The history that the bytes are the journal of, in whatever format, or the first line such that no journal begins with the
+/// lines up to it; `NoMemory` where no memory was left.
 #[tactic(auto, using(crate::proofs::Rows::no_lines))]
 pub fn read(alloc: Global, bytes: &[u8]) -> Result<Vec<Entry>, JournalRefusal>
     ensures journal { IfOk result (λ history. IsJournalOf history.items bytes.now) }
@@ -23,24 +24,31 @@ pub fn read(alloc: Global, bytes: &[u8]) -> Result<Vec<Entry>, JournalRefusal>
     let Some((first, rest)) = line(bytes) else {
         return Err(JournalRefusal::BadLine { row: 1 });
     };
-    if !is(first, "permit-journal 1") {
+    let Some(format) = format_of(first) else {
         return Err(JournalRefusal::BadLine { row: 1 });
-    }
-    entries(alloc, bytes, rest)
+    };
+    entries(alloc, Text { format, bytes }, rest)
+}
+
+// A text whose first line names its format. The bytes are for contracts, which speak of all of them.
+#[derive(Clone, Copy)]
+struct Text<'a> {
+    format: Format,
+    bytes: &'a [u8],
 }
 
 // The entries of the lines behind the first one.
 #[tactic(auto, using(crate::proofs::Rows::one_more, crate::proofs::Rows::one_more_fits))]
-fn entries(alloc: Global, bytes: &[u8], text: &[u8]) -> Result<Vec<Entry>, JournalRefusal>
-    requires header { bytes.now ≡ ended (codes "permit-journal 1") ++ text.now }
-    ensures journal { IfOk result (λ history. IsJournalOf history.items bytes.now) }
-    ensures refused { IfErr result (IsWhy bytes.now) }
+fn entries(alloc: Global, text: Text, behind: &[u8]) -> Result<Vec<Entry>, JournalRefusal>
+    requires header { text.bytes.now ≡ ended (first_line text.format) ++ behind.now }
+    ensures journal { IfOk result (λ history. IsJournalOf history.items text.entry.bytes.now) }
+    ensures refused { IfErr result (IsWhy text.entry.bytes.now) }
 {
     let mut list = Vec::new(alloc);
-    let mut rest = text;
+    let mut rest = behind;
     'lines: while let Some((found, more)) = line(rest) {
-        let Some(entry) = entry(alloc, found)? else {
-            return finish(bytes, list, found, more);
+        let Some(entry) = entry(alloc, text.format, found)? else {
+            return finish(text, list, found, more);
         };
         list.push(entry)?;
         rest = more;
@@ -52,17 +60,17 @@ fn entries(alloc: Global, bytes: &[u8], text: &[u8]) -> Result<Vec<Entry>, Journ
 
 // What a line that is no entry says of the text, and what follows it.
 fn finish(
-    bytes: &[u8],
+    text: Text,
     list: Vec<Entry>,
     last: &[u8],
     more: &[u8],
 ) -> Result<Vec<Entry>, JournalRefusal>
-    requires whole { bytes.now ≡ front_of list.items ++ (ended last.now ++ more.now) }
-    requires fits { FitsHistory list.items }
+    requires whole { text.bytes.now ≡ front_of text.format list.items ++ (ended last.now ++ more.now) }
+    requires fits { HasJournalIn text.format list.items }
     requires line { IsLine last.now }
-    requires no_entry { entry_of last.now ≡ None }
-    ensures journal { IfOk result (λ history. IsJournalOf history.items bytes.now) }
-    ensures refused { IfErr result (IsWhy bytes.now) }
+    requires no_entry { entry_in text.format last.now ≡ None }
+    ensures journal { IfOk result (λ history. IsJournalOf history.items text.entry.bytes.now) }
+    ensures refused { IfErr result (IsWhy text.entry.bytes.now) }
 {
     let row = list.len() as u64 + 2;
     if !is_end(last, list.len()) {

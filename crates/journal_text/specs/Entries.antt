@@ -1,9 +1,12 @@
 -- The words of an entry of a journal. Each function puts its words in front of those that follow.
-use Rattle.std.specs.Prelude.{ℕ, Bool, true, false, List, ◌∷◌, codes, Option, Some, None}
+use Rattle.std.specs.Prelude.{ℕ, List, ◌∷◌, codes, Option, Some, None}
 use Rattle.std.specs.Fmt.{decimal}
 use Rattle.influence_line.specs.Fractions.{Ratio, ratio_text}
+use Rattle.road_graph.specs.Words.{what_word}
+use Rattle.restriction_log.specs.Changes.{replaced_by}
 use Rattle.restriction_log.specs.declared.change.Change.{Change}
-use Rattle.restriction_log.specs.declared.change.Change.TheVariants as change
+use Rattle.restriction_log.specs.declared.change.Replaced.{Replaced}
+use Rattle.restriction_log.specs.declared.change.Replaced.TheVariants as replaced
 use Rattle.clearance_rules.specs.declared.limit.Limit.{Limit}
 use Rattle.clearance_rules.specs.declared.limit.Limit.TheVariants as limit
 use Rattle.trip_analysis.specs.declared.application.Application.{Application}
@@ -19,23 +22,17 @@ use Rattle.office_words.specs.declared.entry.Reply.{Reply}
 use Rattle.office_words.specs.declared.entry.Reply.TheVariants as reply
 use Rattle.journal_text.specs.Words.{Words, group, index, numbers_words, places_words}
 
--- a flag is 0 or 1
-abbrev pub flag_words : Bool → Words → Words
-flag_words false ws = codes "0" ∷ ws
-flag_words true ws = codes "1" ∷ ws
-
 -- a value of a segment
 abbrev pub posted_words : ℕ → List ℕ → ℕ → Words → Words
 posted_words segment named value ws = codes "segment" ∷ index segment ∷ named ∷ decimal value ∷ ws
 
+-- a value that is posted, on a segment or on a span
+abbrev pub replaced_words : Replaced → Words → Words
+replaced_words (replaced.Limit segment what value) ws = posted_words segment (what_word what) value ws
+replaced_words (replaced.Rating span permille) ws = codes "span" ∷ index span ∷ codes "rating" ∷ decimal permille ∷ ws
+
 abbrev pub change_words : Change → Words → Words
-change_words (change.Closed segment closed) ws = codes "segment" ∷ index segment ∷ codes "closed" ∷ flag_words closed ws
-change_words (change.Height segment inches) ws = posted_words segment (codes "height") inches ws
-change_words (change.Width segment inches) ws = posted_words segment (codes "width") inches ws
-change_words (change.Length segment inches) ws = posted_words segment (codes "length") inches ws
-change_words (change.Gross segment pounds) ws = posted_words segment (codes "gross") pounds ws
-change_words (change.Allowance segment permille) ws = posted_words segment (codes "allowance") permille ws
-change_words (change.Rating span permille) ws = codes "span" ∷ index span ∷ codes "rating" ∷ decimal permille ∷ ws
+change_words change ws = replaced_words (replaced_by change) ws
 
 -- a posted value that is exceeded: what the load has, and what is allowed
 abbrev pub over_words : ℕ → List ℕ → ℕ → ℕ → Words → Words
@@ -59,6 +56,8 @@ limit_words (limit.Length segment has allowed) ws = over_words segment (codes "l
 limit_words (limit.Gross segment has allowed) ws = over_words segment (codes "gross") has allowed ws
 limit_words (limit.Group segment i j weight most allowance) ws =
     codes "segment" ∷ index segment ∷ codes "group" ∷ group i j ∷ weighed_words weight most allowance ws
+limit_words (limit.Tridem segment i j weight allowed) ws =
+    codes "segment" ∷ index segment ∷ codes "tridem" ∷ group i j ∷ codes "weight" ∷ decimal weight ∷ codes "over" ∷ decimal allowed ∷ ws
 limit_words (limit.Moment segment span has design rating) ws =
     codes "segment" ∷ index segment ∷ codes "span" ∷ index span ∷ effect_words (codes "moment") has design rating ws
 limit_words (limit.Shear segment span has design rating) ws =

@@ -4,49 +4,28 @@ ghost use Rattle.std.specs.Prelude.{◌≡◌, ◌∷◌, OnOk, codes};
 ghost use Rattle.std.specs.Fmt.{decimal};
 ghost use Rattle.influence_line.specs.Fractions.{ratio_text};
 ghost use Rattle.journal_text.specs.Words.{Adds, index};
-ghost use Rattle.journal_text.specs.Entries.{IsOfSpan, cause_words, change_words, effect_words, flag_words, limit_words, over_words, posted_words, weighed_words};
+ghost use Rattle.journal_text.specs.Entries.{IsOfSpan, cause_words, change_words, effect_words, limit_words, over_words, posted_words, weighed_words};
 
 use crate::words::{named, named_fraction, named_group, named_place, word};
 use clearance_rules::Limit;
 use influence_line::Frac;
 use office_words::Cause;
-use restriction_log::Change;
+use restriction_log::{Change, Replaced};
 use std::alloc::AllocError;
 
 /// A change that is posted.
 pub fn change(out: &mut Vec<u8>, change: &Change) -> Result<(), AllocError>
     ensures { OnOk result (Adds out.old.items out.new.items (change_words change.now)) }
 {
-    match change {
-        Change::Closed { segment, closed } => {
-            named_place(out, "segment", *segment)?;
-            word(out, "closed")?;
-            flag(out, *closed)?;
-            Ok(())
-        }
-        Change::Height { segment, inches } => {
-            posted(out, *segment, "height", *inches)?;
-            Ok(())
-        }
-        Change::Width { segment, inches } => {
-            posted(out, *segment, "width", *inches)?;
-            Ok(())
-        }
-        Change::Length { segment, inches } => {
-            posted(out, *segment, "length", *inches)?;
-            Ok(())
-        }
-        Change::Gross { segment, pounds } => {
-            posted(out, *segment, "gross", *pounds)?;
-            Ok(())
-        }
-        Change::Allowance { segment, permille } => {
-            posted(out, *segment, "allowance", *permille)?;
-            Ok(())
-        }
-        Change::Rating { span, permille } => {
-            named_place(out, "span", *span)?;
-            named(out, "rating", *permille)?;
+    match change.replaced() {
+        Replaced::Limit {
+            segment,
+            what,
+            value,
+        } => posted(out, segment, what.word(), value),
+        Replaced::Rating { span, permille } => {
+            named_place(out, "span", span)?;
+            named(out, "rating", permille)?;
             Ok(())
         }
     }
@@ -89,6 +68,18 @@ pub fn limit(out: &mut Vec<u8>, limit: &Limit) -> Result<(), AllocError>
             named_place(out, "segment", *segment)?;
             named_group(out, "group", *i, *j)?;
             weighed(out, *weight, *limit, *allowance)
+        }
+        Limit::Tridem {
+            segment,
+            i,
+            j,
+            weight,
+            allowed,
+        } => {
+            named_place(out, "segment", *segment)?;
+            named_group(out, "tridem", *i, *j)?;
+            named(out, "weight", *weight)?;
+            named(out, "over", *allowed)
         }
         Limit::Moment { .. } | Limit::Shear { .. } => span_limit(out, limit),
     }
@@ -153,13 +144,6 @@ fn closed(out: &mut Vec<u8>, segment: u32) -> Result<(), AllocError>
     named_place(out, "segment", segment)?;
     word(out, "closed")?;
     Ok(())
-}
-
-// A flag, 0 or 1.
-fn flag(out: &mut Vec<u8>, flag: bool) -> Result<(), AllocError>
-    ensures { OnOk result (Adds out.old.items out.new.items (flag_words flag)) }
-{
-    if flag { word(out, "1") } else { word(out, "0") }
 }
 
 // A value of a segment.

@@ -10,7 +10,7 @@ use names::NoMemory;
 use office_words::Entry;
 use std::alloc::{AllocError, Global};
 
-/// The text of a history: a line for each entry, between a first line and an end that counts them. `NoMemory` where no
+/// The text of a history, in the newest format: a line for each entry, between a first line and an end that counts them. `NoMemory` where no
 /// memory was left.
 pub fn print(alloc: Global, history: &[Entry]) -> Result<Vec<u8>, NoMemory>
     ensures { IfOk result (λ text. text.items ≡ journal_of history.now) }
@@ -23,7 +23,7 @@ fn text(alloc: Global, history: &[Entry]) -> Result<Vec<u8>, AllocError>
     ensures { IfOk result (λ text. text.items ≡ journal_of history.now) }
 {
     let mut out = Vec::new(alloc);
-    out.extend_from_slice(b"permit-journal 1\n")?;
+    out.extend_from_slice(b"permit-journal 2\n")?;
     lines(&mut out, history)?;
     out.extend_from_slice(b"end ")?;
     digits(&mut out, history.len() as u64)?;

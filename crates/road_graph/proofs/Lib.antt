@@ -7,3 +7,4 @@ pub mod Growth
 pub mod Keeping
 pub mod Lookups
 pub mod Naming
+pub mod Words

@@ -1,4 +1,5 @@
 pub mod Ranges
+pub mod Words
 pub mod Roads
 pub mod Adding
 pub mod Lists

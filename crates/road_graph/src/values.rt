@@ -2,6 +2,7 @@
 
 ghost use Rattle.std.specs.Prelude.{◌≡◌};
 ghost use Rattle.road_graph.specs.Ranges.{is_limit, default_values, with_value};
+ghost use Rattle.road_graph.specs.Words.{what_of, what_word};
 
 /// The limits in force on a segment.
 #[derive(Clone, Copy, Debug, PartialEq, Eq)]
@@ -42,6 +43,44 @@ pub enum What {
 }
 
 impl What {
+    /// The word for this limit, in records and in journals. Takes no memory.
+    pub fn word(self) -> &'static str
+        ensures { result.now ≡ what_word self }
+    {
+        match self {
+            What::Closed => "closed",
+            What::Height => "height",
+            What::Width => "width",
+            What::Length => "length",
+            What::Gross => "gross",
+            What::Allowance => "allowance",
+            What::Tridem => "tridem",
+        }
+    }
+
+    /// The limit of this word. Takes no memory.
+    pub fn of_word(text: &[u8]) -> Option<What>
+        ensures { result ≡ what_of text.now }
+    {
+        if text == "closed".as_bytes() {
+            Some(What::Closed)
+        } else if text == "height".as_bytes() {
+            Some(What::Height)
+        } else if text == "width".as_bytes() {
+            Some(What::Width)
+        } else if text == "length".as_bytes() {
+            Some(What::Length)
+        } else if text == "gross".as_bytes() {
+            Some(What::Gross)
+        } else if text == "allowance".as_bytes() {
+            Some(What::Allowance)
+        } else if text == "tridem".as_bytes() {
+            Some(What::Tridem)
+        } else {
+            None
+        }
+    }
+
     /// Whether the value is in the range of this limit. Takes no memory.
     pub fn takes(self, value: u32) -> bool
         ensures { result ≡ is_limit self value }

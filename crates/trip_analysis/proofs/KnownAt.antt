@@ -39,7 +39,7 @@ pub passes_alike : (base : BaseLists) (old new : InForce) (truck i : ℕ) → Ag
 passes_alike base old new truck i agree = ap (λ (l : Option Limit). is_none l) (sym (limits_agree base.roads old new (truck_of base truck).load i agree))
 
 -- limits that a test finds equal are the same
-pub same_values : (v w : Values) → not ((beq v.closed w.closed) && ((v.height == w.height) && ((v.width == w.width) && ((v.length == w.length) && ((v.gross == w.gross) && (v.allowance == w.allowance)))))) ≡ false → v ≡ w
+pub same_values : (v w : Values) → not ((beq v.closed w.closed) && ((v.height == w.height) && ((v.width == w.width) && ((v.length == w.length) && ((v.gross == w.gross) && ((v.allowance == w.allowance) && (v.tridem == w.tridem))))))) ≡ false → v ≡ w
 same_values v w e = grind (arith, e)
 
 -- where the limits of a segment and the ratings of its spans, which these are, are the same, the states agree on it
