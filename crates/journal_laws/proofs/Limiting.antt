@@ -19,7 +19,10 @@ use Rattle.axle_limits.specs.Limits.{limit_of as limit_of_group}
 use Rattle.axle_limits.specs.Worst.{is_over, worst_of}
 use Rattle.axle_limits.specs.declared.group.GroupLimit.{GroupLimit}
 use Rattle.axle_limits.specs.declared.group.Rule.TheVariants as rule
+use Rattle.axle_limits.proofs.Tridems.{tridem_is_computed}
 use Rattle.axle_limits.proofs.WorstGroups.{worst_is_there}
+use Rattle.axle_limits.specs.Tridems.{heaviest_tridem_of}
+use Rattle.axle_limits.specs.declared.tridem.Heaviest.{Heaviest}
 use Rattle.influence_line.specs.Fractions.{IsSmall, Ratio}
 use Rattle.span_rating.specs.declared.loading.Effects.{Effects}
 use Rattle.span_rating.specs.declared.judgement.Fit.{Fit}
@@ -30,19 +33,19 @@ use Rattle.hs20_truck.proofs.OneEffects.{effects_are_the_peaks, design_is_the_pe
 use Rattle.road_graph.specs.declared.segment.Segment.{Segment}
 use Rattle.road_graph.specs.declared.segment.Span.{Span}
 use Rattle.road_graph.specs.declared.values.Values.{Values}
-use Rattle.road_graph.specs.declared.values.What.TheVariants as limits
 use Rattle.road_graph.specs.Ranges.{AreInRange, default_values, is_between}
 use Rattle.road_graph.specs.Roads.{IsRoads, Roads, no_span, span_at, spans_of}
 use Rattle.road_graph.proofs.Filters.{spans_are}
 use Rattle.road_graph.proofs.Growth.{range-limit}
 use Rattle.restriction_log.specs.declared.change.Change.{Change}
-use Rattle.restriction_log.specs.declared.change.Change.TheVariants as change
-use Rattle.restriction_log.specs.Changes.{AreTaken, takes}
-use Rattle.restriction_log.specs.States.{AreOf, InForce, base_of, rating_at, state_after, state_of, values_at}
+use Rattle.restriction_log.specs.declared.change.Replaced.{Replaced}
+use Rattle.restriction_log.specs.declared.change.Replaced.TheVariants as replaced
+use Rattle.restriction_log.specs.Changes.{AreTaken, replaced_by, takes, takes_replaced}
+use Rattle.restriction_log.specs.States.{AreOf, InForce, base_of, rating_at, state_after, state_of, values_at, with_replaced}
 use Rattle.clearance_rules.specs.Loads.{LoadParts, is_cross_section, is_length, is_load}
-use Rattle.clearance_rules.specs.Limits.{first_of_spans, group_limit, limit_of, limit_of_fit, limit_of_span, posted_limit, span_limit}
+use Rattle.clearance_rules.specs.Limits.{first_of_spans, group_limit, limit_of, limit_of_fit, limit_of_span, limit_of_tridem, posted_limit, span_limit, tridem_limit, weights_limit}
 use Rattle.clearance_rules.specs.declared.limit.Limit.{Limit}
-use Rattle.clearance_rules.specs.declared.limit.Limit.TheVariants.{Closed, Height, Width, Length, Gross, Group, Moment, Shear}
+use Rattle.clearance_rules.specs.declared.limit.Limit.TheVariants.{Closed, Height, Width, Length, Gross, Group, Tridem, Moment, Shear}
 use Rattle.journal_reader.specs.Fits.{FitsIndex, FitsLimit, FitsNumber, FitsRatio}
 
 pub both : (a b : Bool) → (a && b) ≡ true → (a ≡ true) × (b ≡ true)
@@ -57,7 +60,7 @@ at_or P xs i d all here = elim (cases_lt i (length xs)) [
 ]
 
 defaults : AreInRange default_values
-defaults = record { height = refl; width = refl; length = refl; gross = refl; allowance = refl }
+defaults = record { height = refl; width = refl; length = refl; gross = refl; allowance = refl; tridem = refl }
 
 abbrev AreRanged : InForce → Type 0
 AreRanged state = All AreInRange state.values
@@ -65,21 +68,13 @@ AreRanged state = All AreInRange state.values
 set_ranged : (state : InForce) (i : ℕ) (v : Values) → AreRanged state → AreInRange v → All AreInRange (slice_set state.values i v)
 set_ranged state i v h fits = All-set AreInRange state.values i v fits h
 
+with_ranged : (roads : Roads) (state : InForce) (r : Replaced) → takes_replaced roads r ≡ true → AreRanged state → AreRanged (with_replaced state r)
+with_ranged roads state (replaced.Limit segment limit value) taken h =
+    set_ranged state segment _ h (range-limit (values_at state.values segment) limit value (at_or AreInRange state.values segment default_values h defaults) (both _ _ taken).1)
+with_ranged roads state (replaced.Rating span permille) taken h = h
+
 after_ranged : (roads : Roads) (state : InForce) (c : Change) → takes roads c ≡ true → AreRanged state → AreRanged (state_after state c)
-after_ranged roads state (change.Closed segment closed) taken h =
-    let old = at_or AreInRange state.values segment default_values h defaults in
-    set_ranged state segment _ h (record { height = old.height; width = old.width; length = old.length; gross = old.gross; allowance = old.allowance })
-after_ranged roads state (change.Height segment inches) taken h =
-    set_ranged state segment _ h (range-limit (values_at state.values segment) limits.Height inches (at_or AreInRange state.values segment default_values h defaults) (both _ _ taken).1)
-after_ranged roads state (change.Width segment inches) taken h =
-    set_ranged state segment _ h (range-limit (values_at state.values segment) limits.Width inches (at_or AreInRange state.values segment default_values h defaults) (both _ _ taken).1)
-after_ranged roads state (change.Length segment inches) taken h =
-    set_ranged state segment _ h (range-limit (values_at state.values segment) limits.Length inches (at_or AreInRange state.values segment default_values h defaults) (both _ _ taken).1)
-after_ranged roads state (change.Gross segment pounds) taken h =
-    set_ranged state segment _ h (range-limit (values_at state.values segment) limits.Gross pounds (at_or AreInRange state.values segment default_values h defaults) (both _ _ taken).1)
-after_ranged roads state (change.Allowance segment permille) taken h =
-    set_ranged state segment _ h (range-limit (values_at state.values segment) limits.Allowance permille (at_or AreInRange state.values segment default_values h defaults) (both _ _ taken).1)
-after_ranged roads state (change.Rating span permille) taken h = h
+after_ranged roads state c = with_ranged roads state (replaced_by c)
 
 all_ranged : (roads : Roads) (changes : List Change) (state : InForce) → AreTaken roads changes → AreRanged state → AreRanged (fold state_after state changes)
 all_ranged roads [] state taken h = h
@@ -180,6 +175,25 @@ module _ (roads : Roads) (state : InForce) (load : LoadParts) (s : ℕ) (is : Is
       picked (list_any (is_over values.allowance) (groups_of load.train)) (Group s worst.i worst.j worst.weight worst.limit values.allowance) l None
       (here, first, last, weight, small, allowance) (λ none. absurd (none-some l none)) e
 
+  tridem_fits : (l : Limit) → tridem_limit values.tridem load s ≡ Some l → FitsLimit l
+  unfolding tridem_limit
+  tridem_fits l = by (heaviest_tridem_of load.train) refl
+    where
+      by : (o : Option Heaviest) → heaviest_tridem_of load.train ≡ o → limit_of_tridem values.tridem s o ≡ Some l → FitsLimit l
+      by None there e = absurd (none-some l e)
+      by (Some g) there e =
+          let heaviest = (tridem_is_computed.some load.train g).0 there in
+          let group = heaviest.is_tridem in
+          let weight : g.weight < 2 ^ 32 = omega (arith, heaviest.weight_is, group_light load.train g.i (g.j + 1 - g.i), train.gross) in
+          let tridem : values.tridem < 2 ^ 32 = omega (arith, most 1 600000 values.tridem in_range.tridem) in
+          let first : g.i < 65536 = omega (arith, group.three, group.within, train.few) in
+          let last : g.j < 65536 = omega (arith, group.within, train.few) in
+          picked (ltb values.tridem g.weight) (Tridem s g.i g.j g.weight values.tridem) l None (here, first, last, weight, tridem) (λ none. absurd (none-some l none)) e
+
+  weights_fit : (l : Limit) → weights_limit values load s ≡ Some l → FitsLimit l
+  unfolding weights_limit
+  weights_fit l = either (group_limit values.allowance load s) (tridem_limit values.tridem load s) l (group_fits l) (tridem_fits l)
+
   -- a span of the segment
   span_fits : (i : ℕ) (t : Span) (l : Limit) → slice_get roads.spans i ≡ Some t → limit_of_span roads state load.train s i ≡ Some l → FitsLimit l
   unfolding span_limit
@@ -232,5 +246,5 @@ module _ (roads : Roads) (state : InForce) (load : LoadParts) (s : ℕ) (is : Is
   unfolding limit_of
   limit_fits l e =
       either (posted_limit values load s) _ l (posted_fits l)
-      (either (group_limit values.allowance load s) _ l (group_fits l)
+      (either (weights_limit values load s) _ l (weights_fit l)
       (spans_fit (spans_of roads.spans s) l (λ k i at. let (t, there, on) = (spans_are roads.spans s).sound k i at in (t, there)))) e

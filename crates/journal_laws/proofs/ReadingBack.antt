@@ -7,9 +7,13 @@ use Rattle.std.proofs.lemmas.List.Elements.{All-filter, All-map, All-weaker}
 use Rattle.std.proofs.lemmas.List.Sums.{count_by-le-length, length-filter}
 use Rattle.road_graph.specs.Ranges.{is_rating}
 use Rattle.road_graph.specs.Roads.{IsRoads, Roads}
-use Rattle.restriction_log.specs.Changes.{takes}
+use Rattle.restriction_log.specs.Changes.{replaced_by, takes, takes_replaced}
+use Rattle.restriction_log.specs.declared.change.Replaced.{Replaced}
+use Rattle.restriction_log.specs.declared.change.Replaced.TheVariants as replaced
+use Rattle.road_graph.specs.declared.values.What.{What}
+use Rattle.road_graph.specs.declared.values.What.TheVariants as what
+use Rattle.journal_text.specs.Formats.{format_for}
 use Rattle.restriction_log.specs.declared.change.Change.{Change}
-use Rattle.restriction_log.specs.declared.change.Change.TheVariants as change
 use Rattle.office_words.specs.declared.entry.Command.{Command}
 use Rattle.office_words.specs.declared.entry.Command.TheVariants as command
 use Rattle.office_words.specs.declared.entry.Entry.{Entry}
@@ -22,9 +26,9 @@ use Rattle.day_text.specs.declared.orders.Order.{Order}
 use Rattle.day_text.proofs.Bounds.{day_bounded}
 use Rattle.day_text.proofs.Counts.{below, below-le, count_all}
 use Rattle.day_text.proofs.EveryDay.{day_keeps}
-use Rattle.journal_reader.specs.Fits.{FitsChange, FitsIndex}
+use Rattle.journal_reader.specs.Fits.{FitsChange, FitsIndex, FitsNumber, FitsReplaced}
 use Rattle.journal_text.specs.Journals.{journal_of}
-use Rattle.journal_reader.proofs.Answers.{printed_is_read}
+use Rattle.journal_reader.proofs.Answers.{has_journal, printed_is_read}
 use Rattle.journal_reader.proofs.Whole.{one_history}
 use Rattle.journal_laws.specs.Laws.{DayHistoriesFit, DayJournalsHaveOneHistory, DayJournalsReadBack}
 use Rattle.journal_laws.proofs.Asking.{Asks, FitsCommand, finished_ask}
@@ -39,17 +43,24 @@ index roads i b is e =
     let less : i < length roads.segments = ltb-true _ _ h.0 in
     (omega (arith, is.few_segments), h.1)
 
-change_fits : (roads : Roads) (c : Change) → IsRoads roads → takes roads c ≡ true → FitsChange c
-change_fits roads (change.Closed segment closed) is e = let less : segment < length roads.segments = ltb-true _ _ e in omega (arith, is.few_segments)
-change_fits roads (change.Height segment inches) is e = let (i, b) = index roads segment _ is e in (i, omega (arith, most 1 999 inches b))
-change_fits roads (change.Width segment inches) is e = let (i, b) = index roads segment _ is e in (i, omega (arith, most 1 999 inches b))
-change_fits roads (change.Length segment inches) is e = let (i, b) = index roads segment _ is e in (i, omega (arith, most 1 9999 inches b))
-change_fits roads (change.Gross segment pounds) is e = let (i, b) = index roads segment _ is e in (i, omega (arith, most 1 2000000 pounds b))
-change_fits roads (change.Allowance segment permille) is e = let (i, b) = index roads segment _ is e in (i, omega (arith, leb-true _ _ b))
-change_fits roads (change.Rating span permille) is e =
+limit_small : (w : What) (n : ℕ) → is_limit w n ≡ true → FitsNumber n
+limit_small what.Closed n e = omega (arith, leb-true n 1 e)
+limit_small what.Height n e = omega (arith, most 1 999 n e)
+limit_small what.Width n e = omega (arith, most 1 999 n e)
+limit_small what.Length n e = omega (arith, most 1 9999 n e)
+limit_small what.Gross n e = omega (arith, most 1 2000000 n e)
+limit_small what.Allowance n e = omega (arith, leb-true n 100000 e)
+limit_small what.Tridem n e = omega (arith, most 1 600000 n e)
+
+replaced_fits : (roads : Roads) (r : Replaced) → IsRoads roads → takes_replaced roads r ≡ true → FitsReplaced r
+replaced_fits roads (replaced.Limit segment w n) is e = let (i, b) = index roads segment _ is e in (i, limit_small w n b)
+replaced_fits roads (replaced.Rating span permille) is e =
     let h = both (nat_lt span (length roads.spans)) (is_rating permille) e in
     let less : span < length roads.spans = ltb-true _ _ h.0 in
     (omega (arith, is.few_spans), omega (arith, leb-true _ _ h.1))
+
+change_fits : (roads : Roads) (c : Change) → IsRoads roads → takes roads c ≡ true → FitsChange c
+change_fits roads c = replaced_fits roads (replaced_by c)
 
 command_fits : (roads : Roads) (c : Command) → IsRoads roads → IsWithin roads c → FitsCommand c
 command_fits roads (command.Apply a) is h = h
@@ -94,4 +105,6 @@ journals_read_back bytes history answer h is = printed_is_read history answer (h
 
 pub journals_have_one_history : DayJournalsHaveOneHistory
 journals_have_one_history bytes other history second h k same =
-    one_history history second (journal_of history) (histories_fit bytes history h, refl) (histories_fit other second k, same)
+    one_history history second (journal_of history)
+    (format_for history, has_journal history (histories_fit bytes history h), refl)
+    (format_for second, has_journal second (histories_fit other second k), same)

@@ -9,8 +9,8 @@ use Rattle.std.proofs.lemmas.Bool.{cases_eq, eqb-true}
 use Rattle.std.proofs.lemmas.Bool.Decides.{nat_tests}
 use Rattle.office_words.specs.declared.entry.Entry.{Entry}
 use Rattle.journal_text.specs.declared.format.Format.{Format}
-use Rattle.journal_text.specs.declared.format.Format.TheVariants.{One, Two}
-use Rattle.journal_text.specs.Journals.{end_line, ended, first_line, journal_in, journal_of, line_of}
+use Rattle.journal_text.specs.declared.format.Format.TheVariants.{One}
+use Rattle.journal_text.specs.Journals.{end_line, ended, first_line, journal_in, line_of}
 use Rattle.journal_reader.specs.Formats.{FitsIn, HasJournalIn, if_said}
 use Rattle.journal_reader.specs.Readers.{entry_in}
 use Rattle.journal_reader.specs.Journals.{BeginsAJournal, IsBadLine, IsBadNext, IsFirstLine, IsJournalOf, IsLine, front_of, lines_of, lines_text}
@@ -142,7 +142,7 @@ no_header text line rest whole clean other =
       lines = tt;
       whole = refl;
       counted = refl;
-      good = ([], journal_of [], (Two, tt, refl));
+      good = ([], journal_in One [], (One, tt, refl));
       bad = inr (line, rest, clean, whole, λ (k, x, g, fits, is). other (g, (first_lines line (first_line g) x _ clean (header_is_line g) is).0));
     }
 
@@ -154,7 +154,7 @@ no_lines text clean =
       lines = tt;
       whole = refl;
       counted = refl;
-      good = ([], journal_of [], (Two, tt, refl));
+      good = ([], journal_in One [], (One, tt, refl));
       bad = inl (clean, λ k (g, fits, is). no_feed (first_line g) _ (subst (λ (t : List ℕ). IsLine t) is clean));
     }
 

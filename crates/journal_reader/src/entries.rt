@@ -7,11 +7,10 @@ ghost use Rattle.journal_text.specs.Entries.{call_words, reply_words};
 ghost use Rattle.journal_text.specs.Journals.{end_line, line_of};
 ghost use Rattle.journal_reader.specs.Words.{IsTextOf, left, parts, seen};
 ghost use Rattle.journal_reader.specs.Fits.{FitsEntry};
-ghost use Rattle.journal_reader.specs.Formats.{FitsIn, is_said_in};
+ghost use Rattle.journal_reader.specs.Formats.{FitsIn};
 ghost use Rattle.journal_reader.specs.Readers.{IsWordsOf, call_at, entry_in, entry_of, reply_at};
 
 use crate::calls::call;
-use crate::formats::is_said_in;
 use crate::numbers::first_place;
 use crate::parts::is_done;
 use crate::replies::reply;
@@ -29,7 +28,7 @@ pub fn entry(alloc: Global, format: Format, line: &[u8]) -> Result<Option<Entry>
     let Some(entry) = any_entry(alloc, line)? else {
         return Ok(None);
     };
-    if is_said_in(format, &entry) {
+    if format.has_words_for(&entry) {
         Ok(Some(entry))
     } else {
         Ok(None)

@@ -35,5 +35,5 @@ line_adds old a b c d new caller call reply h i j k l =
     let whole : d ≡ old ++ (caller ++ spaced (call (codes "=" ∷ reply []))) = sym (append_nil d) ∙ (sym text ∙ (ap (λ t. t ++ spaced (call (codes "=" ∷ reply []))) h ∙ append_assoc old caller _)) in
     l ∙ (ap (λ t. t ++ (10 ∷ [])) whole ∙ append_assoc old _ (10 ∷ []))
 
-pub journal_adds : (a b c d new head lines number : List ℕ) → a ≡ head → b ≡ a ++ lines → c ≡ b ++ codes "end " → d ≡ c ++ number → new ≡ d ++ (10 ∷ []) → new ≡ head ++ (lines ++ ((codes "end " ++ number) ++ (10 ∷ [])))
-journal_adds a b c d new head lines number h i j k l = rw (l, k, j, i, h) (simp append_assoc)
+pub journal_adds : (z a b c d new head lines number : List ℕ) → z ≡ head → a ≡ z ++ (10 ∷ []) → b ≡ a ++ lines → c ≡ b ++ codes "end " → d ≡ c ++ number → new ≡ d ++ (10 ∷ []) → new ≡ (head ++ (10 ∷ [])) ++ (lines ++ ((codes "end " ++ number) ++ (10 ∷ [])))
+journal_adds z a b c d new head lines number g h i j k l = rw (l, k, j, i, h, g) (simp append_assoc)

@@ -43,6 +43,10 @@ abbrev pub weighed_words : ℕ → ℕ → ℕ → Words → Words
 weighed_words weight most allowance ws =
     codes "weight" ∷ decimal weight ∷ codes "limit" ∷ decimal most ∷ codes "allowance" ∷ decimal allowance ∷ ws
 
+-- what a tridem group weighs, and what is allowed
+abbrev pub outweighed_words : ℕ → ℕ → Words → Words
+outweighed_words weight allowed ws = codes "weight" ∷ decimal weight ∷ codes "over" ∷ decimal allowed ∷ ws
+
 -- an effect that is over a span's rating: the truck's, that of HS20-44, and the rating
 abbrev pub effect_words : List ℕ → Ratio → Ratio → ℕ → Words → Words
 effect_words named has design rating ws =
@@ -57,7 +61,7 @@ limit_words (limit.Gross segment has allowed) ws = over_words segment (codes "gr
 limit_words (limit.Group segment i j weight most allowance) ws =
     codes "segment" ∷ index segment ∷ codes "group" ∷ group i j ∷ weighed_words weight most allowance ws
 limit_words (limit.Tridem segment i j weight allowed) ws =
-    codes "segment" ∷ index segment ∷ codes "tridem" ∷ group i j ∷ codes "weight" ∷ decimal weight ∷ codes "over" ∷ decimal allowed ∷ ws
+    codes "segment" ∷ index segment ∷ codes "tridem" ∷ group i j ∷ outweighed_words weight allowed ws
 limit_words (limit.Moment segment span has design rating) ws =
     codes "segment" ∷ index segment ∷ codes "span" ∷ index span ∷ effect_words (codes "moment") has design rating ws
 limit_words (limit.Shear segment span has design rating) ws =

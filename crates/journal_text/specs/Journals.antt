@@ -3,6 +3,7 @@ use Rattle.std.specs.Prelude.{ℕ, List, [], ◌∷◌, ◌++◌, length, flat_m
 use Rattle.std.specs.Fmt.{decimal}
 use Rattle.journal_text.specs.Words.{index, spaced}
 use Rattle.journal_text.specs.Entries.{call_words, reply_words}
+use Rattle.journal_text.specs.Formats.{format_for}
 use Rattle.journal_text.specs.declared.format.Format.{Format}
 use Rattle.journal_text.specs.declared.format.Format.TheVariants.{One, Two}
 use Rattle.office_words.specs.declared.entry.Entry.{Entry}
@@ -29,6 +30,6 @@ abbrev pub journal_in : Format → List Entry → List ℕ
 journal_in format history =
     ended (first_line format) ++ (flat_map (λ e. ended (line_of e)) history ++ ended (end_line (length history)))
 
--- the journal of a history, as it is written: in the newest format
+-- the journal of a history, as it is written: in the oldest format that has words for it
 abbrev pub journal_of : List Entry → List ℕ
-journal_of history = journal_in Two history
+journal_of history = journal_in (format_for history) history

@@ -4,7 +4,7 @@ ghost use Rattle.std.specs.Prelude.{◌≡◌, ◌∷◌, OnOk, codes};
 ghost use Rattle.std.specs.Fmt.{decimal};
 ghost use Rattle.influence_line.specs.Fractions.{ratio_text};
 ghost use Rattle.journal_text.specs.Words.{Adds, index};
-ghost use Rattle.journal_text.specs.Entries.{IsOfSpan, cause_words, change_words, effect_words, limit_words, over_words, posted_words, weighed_words};
+ghost use Rattle.journal_text.specs.Entries.{IsOfSpan, cause_words, change_words, effect_words, limit_words, outweighed_words, over_words, posted_words, weighed_words};
 
 use crate::words::{named, named_fraction, named_group, named_place, word};
 use clearance_rules::Limit;
@@ -78,8 +78,7 @@ pub fn limit(out: &mut Vec<u8>, limit: &Limit) -> Result<(), AllocError>
         } => {
             named_place(out, "segment", *segment)?;
             named_group(out, "tridem", *i, *j)?;
-            named(out, "weight", *weight)?;
-            named(out, "over", *allowed)
+            outweighed(out, *weight, *allowed)
         }
         Limit::Moment { .. } | Limit::Shear { .. } => span_limit(out, limit),
     }
@@ -177,6 +176,15 @@ fn weighed(out: &mut Vec<u8>, weight: u32, limit: u32, allowance: u32) -> Result
     named(out, "weight", weight)?;
     named(out, "limit", limit)?;
     named(out, "allowance", allowance)?;
+    Ok(())
+}
+
+// What a tridem group weighs, and what is allowed.
+fn outweighed(out: &mut Vec<u8>, weight: u32, allowed: u32) -> Result<(), AllocError>
+    ensures { OnOk result (Adds out.old.items out.new.items (outweighed_words weight allowed)) }
+{
+    named(out, "weight", weight)?;
+    named(out, "over", allowed)?;
     Ok(())
 }
 

@@ -4,13 +4,14 @@ ghost use Rattle.std.specs.Prelude.{◌≡◌, ◌∷◌, ◌++◌, codes, flat_
 ghost use Rattle.journal_text.specs.Journals.{ended, journal_of, line_of};
 
 use crate::calls::call;
+use crate::format::Format;
 use crate::replies::reply;
 use crate::words::{digits, index_digits, word};
 use names::NoMemory;
 use office_words::Entry;
 use std::alloc::{AllocError, Global};
 
-/// The text of a history, in the newest format: a line for each entry, between a first line and an end that counts them. `NoMemory` where no
+/// The text of a history, in the oldest format that has words for it: a line for each entry, between a first line and an end that counts them. `NoMemory` where no
 /// memory was left.
 pub fn print(alloc: Global, history: &[Entry]) -> Result<Vec<u8>, NoMemory>
     ensures { IfOk result (λ text. text.items ≡ journal_of history.now) }
@@ -23,7 +24,8 @@ fn text(alloc: Global, history: &[Entry]) -> Result<Vec<u8>, AllocError>
     ensures { IfOk result (λ text. text.items ≡ journal_of history.now) }
 {
     let mut out = Vec::new(alloc);
-    out.extend_from_slice(b"permit-journal 2\n")?;
+    out.extend_from_slice(Format::of(history).first_line().as_bytes())?;
+    out.push(b'\n')?;
     lines(&mut out, history)?;
     out.extend_from_slice(b"end ")?;
     digits(&mut out, history.len() as u64)?;
