@@ -16,12 +16,12 @@ use Rattle.journal_reader.proofs.Whole.{first_lines, no_feed, one_history}
 
 -- no journal has a bad line
 none_is_bad : (h : List Entry) (text : List ℕ) (row : ℕ) → IsJournalOf h text → IsBadLine text row → ⊥
-none_is_bad h text row (f, fits, is) b = by b.bad
+none_is_bad h text row (f, (fits, is)) b = by b.bad
   where
     by : IsBadNext (lines_text b.before) b.rest → ⊥
-    by (inl (clean, none)) = none h (f, fits, sym b.whole ∙ is)
+    by (inl (clean, none)) = none h (f, (fits, sym b.whole ∙ is))
     by (inr (line, more, clean, next, none)) =
-        none (h, more, (f, fits, append_assoc (lines_text b.before) (ended line) more ∙ (ap (λ t. lines_text b.before ++ t) (sym next) ∙ (sym b.whole ∙ is))))
+        none (h, more, (f, (fits, append_assoc (lines_text b.before) (ended line) more ∙ (ap (λ t. lines_text b.before ++ t) (sym next) ∙ (sym b.whole ∙ is)))))
 
 -- of two beginnings of a text in lines, the longer one goes on with the line that follows the shorter one
 record GoesOn (xs ys : List (List ℕ)) (p : List ℕ) : Type 0 where
@@ -59,7 +59,7 @@ not_before text row other b c low = by b.bad
     by (inr (line, more, clean, next, none)) =
         let is : line ≡ g.line = (first_lines line g.line more g.more clean g.clean (sym next ∙ g.next)).0 in
         let (k, x, journal) = c.good in
-        none (k, g.rest ++ x, (journal.0, journal.1.0, whole line x is ∙ journal.1.1))
+        none (k, g.rest ++ x, (journal.0, (journal.1.0, whole line x is ∙ journal.1.1)))
       where
         whole : (l x : List ℕ) → l ≡ g.line → (lines_text b.before ++ ended l) ++ (g.rest ++ x) ≡ lines_text c.before ++ x
         whole l x same =
@@ -103,6 +103,6 @@ has_journal history fits = by (list_any tells_tridem history) refl
     by false e = said_if_none history fits e
 
 pub printed_is_read : (history : List Entry) (answer : Result (List Entry) JournalRefusal) → FitsHistory history → IsAnswer (journal_of history) answer → (answer ≡ Ok history) ⊎ (answer ≡ Err refusal.NoMemory)
-printed_is_read history (Ok h) fits is = inl (ap Ok (one_history h history (journal_of history) is (format_for history, has_journal history fits, refl)))
-printed_is_read history (Err (refusal.BadLine row)) fits is = absurd (none_is_bad history (journal_of history) row (format_for history, has_journal history fits, refl) is)
+printed_is_read history (Ok h) fits is = inl (ap Ok (one_history h history (journal_of history) is (format_for history, (has_journal history fits, refl))))
+printed_is_read history (Err (refusal.BadLine row)) fits is = absurd (none_is_bad history (journal_of history) row (format_for history, (has_journal history fits, refl)) is)
 printed_is_read history (Err refusal.NoMemory) fits is = inr refl

@@ -9,7 +9,7 @@ use Rattle.std.proofs.lemmas.Bool.{cases_eq, eqb-true}
 use Rattle.std.proofs.lemmas.Bool.Decides.{nat_tests}
 use Rattle.office_words.specs.declared.entry.Entry.{Entry}
 use Rattle.journal_text.specs.declared.format.Format.{Format}
-use Rattle.journal_text.specs.declared.format.Format.TheVariants.{One}
+use Rattle.journal_text.specs.declared.format.Format.TheVariants.{One, Two}
 use Rattle.journal_text.specs.Journals.{end_line, ended, first_line, journal_in, line_of}
 use Rattle.journal_reader.specs.Formats.{FitsIn, HasJournalIn, if_said}
 use Rattle.journal_reader.specs.Readers.{entry_in}
@@ -49,19 +49,19 @@ bad_behind f h text rest fits whole bad =
       lines = (header_is_line f, all_lines f h fits);
       whole = whole ∙ ap (λ t. t ++ rest) (sym is);
       counted = omega (arith, long);
-      good = subst BeginsAJournal (sym is) (h, ended (end_line (length h)), (f, fits, sym (journal_front f h)));
+      good = subst BeginsAJournal (sym is) (h, ended (end_line (length h)), (f, (fits, sym (journal_front f h))));
       bad = subst (λ (t : List ℕ). IsBadNext t rest) (sym is) bad;
     }
 
 -- the text ends without an end line, or in a line without its line feed
 pub unended : (f : Format) (h : List Entry) (text rest : List ℕ) → HasJournalIn f h → text ≡ front_of f h ++ rest → IsLine rest → IsBadLine text (length h + 2)
 unended f h text rest fits whole clean =
-    bad_behind f h text rest fits whole (inl (clean, λ k (g, fits', is). never_unended f g h k rest fits fits' clean (sym is)))
+    bad_behind f h text rest fits whole (inl (clean, λ k (g, (fits', is)). never_unended f g h k rest fits fits' clean (sym is)))
 
 -- a line that is neither an entry nor the end line
 pub no_line : (f : Format) (h : List Entry) (text line more : List ℕ) → HasJournalIn f h → text ≡ front_of f h ++ (ended line ++ more) → IsLine line → entry_in f line ≡ None → bytes_eq line (end_line (length h)) ≡ false → IsBadLine text (length h + 2)
 no_line f h text line more fits whole clean other open_ =
-    bad_behind f h text (ended line ++ more) fits whole (inr (line, more, clean, refl, λ (k, rest, g, fits', is). by (next_line f g h k line rest fits fits' clean (sym is ∙ append_assoc (front_of f h) (ended line) rest))))
+    bad_behind f h text (ended line ++ more) fits whole (inr (line, more, clean, refl, λ (k, rest, (g, (fits', is))). by (next_line f g h k line rest fits fits' clean (sym is ∙ append_assoc (front_of f h) (ended line) rest))))
   where
     differ : (e : Entry) → ◌≡◌ {A = Option Entry} None (Some e) → ⊥
     differ e q = cc
@@ -95,7 +95,7 @@ behind_end f h text line more fits whole at open_ =
       lines = (header_is_line f, with_end h fits);
       whole = whole ∙ (apart ∙ ap (λ t. t ++ more) (sym text_is));
       counted = omega (arith, long);
-      good = (h, [], (f, fits, append_nil _ ∙ text_is));
+      good = (h, [], (f, (fits, append_nil _ ∙ text_is)));
       bad = subst (λ (t : List ℕ). IsBadNext t more) (sym text_is) (by (one_line more));
     }
   where
@@ -126,8 +126,8 @@ behind_end f h text line more fits whole at open_ =
     none g k x fits' e l = let z = (nothing_follows f g h k x fits fits' (sym e)).1 in let m : length x ≡ 0 = ap (λ (t : List ℕ). length t) z in omega (arith, l, m)
 
     by : IsLine more ⊎ ((l m : List ℕ) × IsLine l × (more ≡ ended l ++ m)) → IsBadNext (journal_in f h) more
-    by (inl clean) = inl (clean, λ k (g, fits', is). none g k more fits' is some)
-    by (inr (l, m, clean, is)) = inr (l, m, clean, is, λ (k, x, g, fits', j). none g k (ended l ++ x) fits' (sym (append_assoc (journal_in f h) (ended l) x) ∙ j) (feed l x))
+    by (inl clean) = inl (clean, λ k (g, (fits', is)). none g k more fits' is some)
+    by (inr (l, m, clean, is)) = inr (l, m, clean, is, λ (k, x, (g, (fits', j))). none g k (ended l ++ x) fits' (sym (append_assoc (journal_in f h) (ended l) x) ∙ j) (feed l x))
       where
         feed : (a x : List ℕ) → 0 < length (ended a ++ x)
         feed [] x = omega arith
@@ -142,8 +142,8 @@ no_header text line rest whole clean other =
       lines = tt;
       whole = refl;
       counted = refl;
-      good = ([], journal_in One [], (One, tt, refl));
-      bad = inr (line, rest, clean, whole, λ (k, x, g, fits, is). other (g, (first_lines line (first_line g) x _ clean (header_is_line g) is).0));
+      good = ([], journal_in One [], (One, (tt, refl)));
+      bad = inr (line, rest, clean, whole, λ (k, x, (g, (fits, is))). other (g, (first_lines line (first_line g) x _ clean (header_is_line g) is).0));
     }
 
 pub no_lines : (text : List ℕ) → IsLine text → IsBadLine text 1
@@ -154,13 +154,13 @@ no_lines text clean =
       lines = tt;
       whole = refl;
       counted = refl;
-      good = ([], journal_in One [], (One, tt, refl));
-      bad = inl (clean, λ k (g, fits, is). no_feed (first_line g) _ (subst (λ (t : List ℕ). IsLine t) is clean));
+      good = ([], journal_in One [], (One, (tt, refl)));
+      bad = inl (clean, λ k (g, (fits, is)). no_feed (first_line g) _ (subst (λ (t : List ℕ). IsLine t) is clean));
     }
 
 -- the whole text
 pub whole_journal : (f : Format) (h : List Entry) (text line more : List ℕ) → HasJournalIn f h → text ≡ front_of f h ++ (ended line ++ more) → bytes_eq line (end_line (length h)) ≡ true → eqb (length more) 0 ≡ true → IsJournalOf h text
-whole_journal f h text line more fits whole at none = (f, fits, by more whole (eqb-true (length more) 0 none))
+whole_journal f h text line more fits whole at none = (f, (fits, by more whole (eqb-true (length more) 0 none)))
   where
     is : line ≡ end_line (length h)
     is = (bytes_eq-Decides line (end_line (length h))).0 at
@@ -186,6 +186,10 @@ one_more_fits f h e new fits fit last = subst (λ (x : List Entry). HasJournalIn
     by [] fs = (fit, tt)
     by (d ∷ g) (d', fs) = (d', by g fs)
 
+first_long : (f : Format) → length (ended (first_line f)) ≡ 17
+first_long One = refl
+first_long Two = refl
+
 -- there are more bytes than lines
 pub few_lines : (f : Format) (h : List Entry) (text rest : List ℕ) → text ≡ front_of f h ++ rest → length h + length rest + 17 ≤ length text
 few_lines f h text rest whole =
@@ -193,7 +197,7 @@ few_lines f h text rest whole =
     let b = length-append (ended (first_line f)) (lines_of h) in
     let c = ap (λ (t : List ℕ). length t) whole in
     let d = by h in
-    omega (arith, a, b, c, d)
+    omega (arith, a, b, c, d, first_long f)
   where
     by : (g : List Entry) → length g ≤ length (lines_of g)
     by [] = omega arith

@@ -3,7 +3,9 @@ use Rattle.std.proofs.Common.{◌≡◌, ◌≢◌, ◌∙◌, ◌∷◌, ◌++�
 use Rattle.std.specs.Prelude.{codes, ◌&&◌, IfSome}
 use Rattle.std.specs.Fmt.{digits}
 use Rattle.std.specs.List.{join_with_byte, list_all}
+use Rattle.std.proofs.lemmas.Bool.{true≢false}
 use Rattle.std.proofs.lemmas.Bool.Decides.{nat_tests}
+use Rattle.std.proofs.lemmas.Slice.Eq.{bytes_eq-Decides}
 use Rattle.std.proofs.lemmas.List.Splits.{join_with_byte-slice_split}
 use Rattle.office_words.specs.declared.entry.Entry.{Entry}
 use Rattle.journal_text.specs.Words.{Words, index, spaced}
@@ -64,8 +66,8 @@ header_is_line Two = line_from (first_line Two) refl
 -- the first line tells the format
 same_format : (f g : Format) → first_line f ≡ first_line g → f ≡ g
 same_format One One e = refl
-same_format One Two e = absurd (cc e)
-same_format Two One e = absurd (cc e)
+same_format One Two e = absurd (true≢false (sym ((bytes_eq-Decides (first_line One) (first_line Two)).1 e)))
+same_format Two One e = absurd (true≢false (sym ((bytes_eq-Decides (first_line Two) (first_line One)).1 e)))
 same_format Two Two e = refl
 
 -- two texts that are equal have one first line
@@ -203,7 +205,7 @@ nothing_follows f g h k more fits fits' e =
     by (inr (same, is, none)) = (same, none)
 
 pub one_history : (h k : List Entry) (text : List ℕ) → IsJournalOf h text → IsJournalOf k text → h ≡ k
-one_history h k text (f, fits, is) (g, fits', is') =
+one_history h k text (f, (fits, is)) (g, (fits', is')) =
     sym (nothing_follows f g h k [] fits fits' (sym is' ∙ (is ∙ sym (append_nil (journal_in f h))))).0
 
 pub no_proper_prefix : NoProperPrefix
