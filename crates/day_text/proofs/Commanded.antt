@@ -16,11 +16,11 @@ use Rattle.trip_analysis.specs.Applications.{AreAskedThere, AreThere, Sound, app
 use Rattle.trip_analysis.specs.Bases.{BaseLists}
 use Rattle.trip_analysis.proofs.Unbroken.{sound_if}
 use Rattle.day_text.specs.Commands.{all_numbers, applied, apply_fields_of, apply_of, asked_of, order_of, permit_of, post_of, posting_of, resolved_of, set_day_of, unless_refused}
-use Rattle.record_text.specs.Fields.{day_of, field_of, name_of, number_of, posted_of}
+use Rattle.record_text.specs.Fields.{field_of, posted_of}
 use Rattle.day_text.specs.Fleets.{truck_names}
 use Rattle.office_words.specs.Commands.{MayCarryOut}
-use Rattle.record_text.specs.Causes.{demand, or_bad}
-use Rattle.record_text.specs.Records.{Row, is_blank_from}
+use Rattle.record_text.specs.Causes.{or_bad}
+use Rattle.record_text.specs.Records.{Row, day_in, has_only, name_in, number_in}
 use Rattle.office_words.specs.declared.entry.Command.TheVariants as command
 use Rattle.day_text.specs.declared.commands.ApplyFields.{ApplyFields}
 use Rattle.day_text.specs.declared.draft.Draft.{Draft}
@@ -132,11 +132,11 @@ apply_good d fields = then_gives {r = apply_fields_of fields} (λ f _. resolved_
 post_good : (d : Draft) (fields : Row) → Gives (IsGood d) (post_of d fields)
 unfolding post_of
 post_good d fields =
-    then_gives {r = demand (is_blank_from 5 fields) bad.Extra} (λ rest _.
-    then_gives {r = or_bad (bad.Field 2) (name_of (field_of fields 1))} (λ name _.
-    then_gives {r = or_bad (bad.Field 3) (name_of (field_of fields 2))} (λ item _.
+    then_gives {r = has_only 5 fields} (λ rest _.
+    then_gives {r = name_in 2 fields} (λ name _.
+    then_gives {r = name_in 3 fields} (λ item _.
     then_gives {r = or_bad (bad.Field 4) (posted_of (field_of fields 3))} (λ what _.
-    then_gives {r = or_bad (bad.Field 5) (number_of (field_of fields 4))} (λ value _.
+    then_gives {r = number_in 5 fields} (λ value _.
     then_gives {r = or_bad (bad.Unknown 2) (number_named name d.actors)} (λ actor actor_is.
     then_gives {r = posting_of d.network what item value} (λ posting _.
     gives (IsGood d) (record { actor = actor; command = command.Post posting }) (named_within name d.actors actor (found_some (bad.Unknown 2) (number_named name d.actors) actor actor_is), tt))))))))
@@ -144,9 +144,9 @@ post_good d fields =
 set_day_good : (d : Draft) (fields : Row) → Gives (IsGood d) (set_day_of d fields)
 unfolding set_day_of
 set_day_good d fields =
-    then_gives {r = demand (is_blank_from 3 fields) bad.Extra} (λ rest _.
-    then_gives {r = or_bad (bad.Field 2) (name_of (field_of fields 1))} (λ name _.
-    then_gives {r = or_bad (bad.Field 3) (day_of (field_of fields 2))} (λ text _.
+    then_gives {r = has_only 3 fields} (λ rest _.
+    then_gives {r = name_in 2 fields} (λ name _.
+    then_gives {r = day_in 3 fields} (λ text _.
     then_gives {r = or_bad (bad.Unknown 2) (number_named name d.actors)} (λ actor actor_is.
     then_gives {r = or_bad (bad.Range 3) text} (λ day _.
     gives (IsGood d) (record { actor = actor; command = command.Day day }) (named_within name d.actors actor (found_some (bad.Unknown 2) (number_named name d.actors) actor actor_is), tt))))))
@@ -158,9 +158,9 @@ IsFrom d x = x.0 < length d.actors
 permit_good : (d : Draft) (fields : Row) → Gives (IsFrom d) (permit_of d fields)
 unfolding permit_of
 permit_good d fields =
-    then_gives {r = demand (is_blank_from 3 fields) bad.Extra} (λ rest _.
-    then_gives {r = or_bad (bad.Field 2) (name_of (field_of fields 1))} (λ name _.
-    then_gives {r = or_bad (bad.Field 3) (number_of (field_of fields 2))} (λ number _.
+    then_gives {r = has_only 3 fields} (λ rest _.
+    then_gives {r = name_in 2 fields} (λ name _.
+    then_gives {r = number_in 3 fields} (λ number _.
     then_gives {r = or_bad (bad.Unknown 2) (number_named name d.actors)} (λ actor actor_is.
     gives (IsFrom d) (actor, number) (named_within name d.actors actor (found_some (bad.Unknown 2) (number_named name d.actors) actor actor_is))))))
 

@@ -10,12 +10,12 @@ use Rattle.record_text.specs.Causes.{Tells, demand, limit, or_bad}
 use Rattle.day_text.specs.Commands.{order_of, with_order}
 use Rattle.day_text.specs.Days.{DayParts, day_of, ended_day, finished_day, going_on, judge_day, judge_kind, judge_later, judge_opening, opened, opening_of, parts_of, with_actor, with_command, with_road, with_truck}
 use Rattle.day_text.specs.Fleets.{actors_of, fleet_of, most_actors, truck_names}
-use Rattle.record_text.specs.Fields.{field_of, name_of}
+use Rattle.record_text.specs.Fields.{field_of}
 use Rattle.day_text.specs.Kinds.{kind_of}
 use Rattle.day_text.specs.Trucks.{load_of, truck_fields_of}
 use Rattle.office_words.specs.Commands.{MayCarryOut}
 use Rattle.day_text.specs.Laws.{IsDayFile}
-use Rattle.record_text.specs.Records.{Row, is_blank_from, judged, rows_of}
+use Rattle.record_text.specs.Records.{Row, has_only, judged, name_in, rows_of}
 use Rattle.day_text.specs.Roads.{roads_of}
 use Rattle.office_words.specs.declared.entry.Command.{Command}
 use Rattle.office_words.specs.declared.entry.Command.TheVariants as command
@@ -85,8 +85,8 @@ HasFew old new = (length old ≤ length new) × (length new ≤ most_actors)
 more_actors : (actors : List (List ℕ)) (fields : Row) → Gives (HasFew actors) (actors_of actors fields)
 unfolding actors_of
 more_actors actors fields =
-    then_gives {r = demand (is_blank_from 2 fields) bad.Extra} (λ rest _.
-    then_gives {r = or_bad (bad.Field 2) (name_of (field_of fields 1))} (λ name _.
+    then_gives {r = has_only 2 fields} (λ rest _.
+    then_gives {r = name_in 2 fields} (λ name _.
     then_gives {r = demand (not (has_name name actors)) bad.Same} (λ a _.
     then_gives {r = limit (nat_lt (length actors) most_actors) kind.Actors} (λ b b_is.
     let room : length actors < most_actors = ltb-true (length actors) most_actors (was_within (nat_lt (length actors) most_actors) kind.Actors b b_is) in
@@ -152,7 +152,7 @@ later_keeps d (Road kind) fields h = goes_on (with_road d kind fields) (road_kee
 later_keeps d truck_kind fields h = goes_on (with_truck d fields) (truck_keeps d fields h)
 later_keeps d Actor fields h = goes_on (with_actor d fields) (actor_keeps d fields h)
 later_keeps d (command_kind kind) fields h = goes_on (with_command d kind fields) (command_keeps d kind fields h)
-later_keeps d End fields h = then_gives {r = demand (is_blank_from 1 fields) bad.Extra} (λ _ _. gives Holds (so_far.Ended d) h)
+later_keeps d End fields h = then_gives {r = has_only 1 fields} (λ _ _. gives Holds (so_far.Ended d) h)
 
 kind_keeps : (p : DayProgress) (kind : RecordKind) (fields : Row) → Holds p → Gives Holds (judge_kind p kind fields)
 kind_keeps so_far.Start kind fields h = opening_keeps kind fields

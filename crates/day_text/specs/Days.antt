@@ -2,13 +2,12 @@
 use Rattle.std.specs.Prelude.{ℕ, List, [], Result, Ok, Err}
 use Rattle.road_graph.specs.Roads.{no_roads}
 use Rattle.trip_analysis.specs.Bases.{BaseLists}
-use Rattle.record_text.specs.Causes.{◌>>=◌, demand, or_bad}
+use Rattle.record_text.specs.Causes.{◌>>=◌, or_bad}
 use Rattle.day_text.specs.Commands.{order_of, with_order}
 use Rattle.record_text.specs.Fields.{field_of}
-use Rattle.record_text.specs.Fields.{day_of as day_field_of}
 use Rattle.day_text.specs.Fleets.{actors_of, fleet_of}
 use Rattle.day_text.specs.Kinds.{kind_of}
-use Rattle.record_text.specs.Records.{Row, is_blank_from, judged, rows_of}
+use Rattle.record_text.specs.Records.{Row, day_in, has_only, judged, rows_of}
 use Rattle.day_text.specs.Roads.{roads_of}
 use Rattle.day_text.specs.declared.draft.Draft.{Draft}
 use Rattle.day_text.specs.declared.kind.RecordKind.{RecordKind}
@@ -33,8 +32,8 @@ pub record DayParts : Type 0 where
 -- day,DAY
 unfoldable pub opening_of : Row → Result (List ℕ) Cause
 opening_of fields = do
-  rest ← demand (is_blank_from 2 fields) bad.Extra
-  text ← or_bad (bad.Field 2) (day_field_of (field_of fields 1))
+  rest ← has_only 2 fields
+  text ← day_in 2 fields
   or_bad (bad.Range 2) text
 
 -- a day on which nothing else was said
@@ -75,7 +74,7 @@ judge_later d (Road kind) fields = going_on (with_road d kind fields)
 judge_later d Truck fields = going_on (with_truck d fields)
 judge_later d Actor fields = going_on (with_actor d fields)
 judge_later d (Command kind) fields = going_on (with_command d kind fields)
-judge_later d End fields = demand (is_blank_from 1 fields) bad.Extra >>= (λ rest. Ok (so_far.Ended d))
+judge_later d End fields = has_only 1 fields >>= (λ rest. Ok (so_far.Ended d))
 
 -- where a record of a known kind leads; nothing follows the end
 abbrev pub judge_kind : DayProgress → RecordKind → Row → Result DayProgress Cause

@@ -17,7 +17,9 @@ use crate::orders::Orders;
 use crate::roads::add_road;
 use csv::StringRecord;
 use permit_days::Day;
-use record_text::{Progress, RecordCause, RecordRefusal, field, is_blank_from, parse_day};
+use record_text::{
+    Cause, Progress, RecordCause, RecordRefusal, day_in, field, has_only, is_blank_from, or_bad,
+};
 use road_graph::Network;
 use std::alloc::Global;
 
@@ -88,19 +90,12 @@ fn take_opening(
 
 // The opening day of a record.
 #[tactic(auto, unfolding(crate::specs::Days::opening_of))]
-fn parse_opening(row: &StringRecord) -> Result<Day, RecordRefusal>
-    ensures { Judges result (opening_of (fields_of row.now)) }
+fn parse_opening(row: &StringRecord) -> Result<Day, Cause>
+    ensures { result ≡ opening_of (fields_of row.now) }
 {
-    if !is_blank_from(row, 2) {
-        return Err(RecordRefusal::bad(RecordCause::Extra));
-    }
-    let Some(day) = parse_day(field(row, 1)) else {
-        return Err(RecordRefusal::bad(RecordCause::Field(2)));
-    };
-    match day {
-        Some(day) => Ok(day),
-        None => Err(RecordRefusal::bad(RecordCause::Range(2))),
-    }
+    has_only(row, 2)?;
+    let day = day_in(row, 2)?;
+    or_bad(day, RecordCause::Range(2))
 }
 
 // Where a record behind the day leads.
