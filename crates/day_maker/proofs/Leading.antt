@@ -33,7 +33,7 @@ from_append p q r xs ys h i k =
 pub from_one : (p q : DayProgress) (fields : Row) → IsPlainRow fields → judge_day p fields ≡ Ok q → LeadsFrom p (fields ∷ []) q
 from_one p q fields plain h k = (k + 1, rw (plain_record fields plain, h) refl)
 
--- what is made leads from drafts of one kind to drafts of another, and needs no quotes
+-- what is made leads from drafts of one kind to drafts of another, and is of ASCII
 pub record Leads (P : Draft → Type 0) (make : Maker) (Q : Draft → Type 0) : Type 0 where
   pub leads : (x : ℕ) (d : Draft) → P d → (e : Draft) × LeadsFrom (open_day d) (make x).rows (open_day e) × Q e
   pub plain : (x : ℕ) → AllByRecursion IsPlainRow (make x).rows
