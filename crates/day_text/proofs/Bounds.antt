@@ -56,7 +56,7 @@ use Rattle.day_text.specs.Roads.{limit_of, node_of, roads_of, segment_of, span_o
 use Rattle.day_text.specs.Trucks.{load_of, truck_fields_of}
 use Rattle.day_text.specs.Trucks.{unless_refused as unless_train_refused}
 use Rattle.day_text.specs.declared.commands.ApplyFields.{ApplyFields}
-use Rattle.day_text.specs.declared.draft.Draft.{Draft}
+use Rattle.day_text.specs.declared.day_so_far.DaySoFar.{DaySoFar}
 use Rattle.day_text.specs.declared.kind.CommandKind.{CommandKind}
 use Rattle.day_text.specs.declared.kind.CommandKind.TheVariants as ordered
 use Rattle.day_text.specs.declared.kind.RecordKind.{RecordKind}
@@ -265,7 +265,7 @@ taken : (a application : Application) (o : Option ApplicationRefusal) → unless
 taken a application None e = cc
 taken a application (Some refusal) e = cc
 
-resolved_gives : (d : Draft) (f : ApplyFields) → HasDays f → Gives (IsGiven d.network) (resolved_of d f)
+resolved_gives : (d : DaySoFar) (f : ApplyFields) → HasDays f → Gives (IsGiven d.network) (resolved_of d f)
 unfolding resolved_of
 resolved_gives d f h =
     then_gives {r = or_bad (bad.Unknown 2) (number_named f.actor d.actors)} (λ actor _.
@@ -304,7 +304,7 @@ posting_gives roads posted.Rating item value =
     gives (λ change. takes roads change ≡ true) (change.Rating i value)
     (rw (lt-ltb _ _ (span_there roads item i (found_some (bad.Unknown 3) _ i known))) (was_demanded (is_rating value) (bad.Range 5) a within))))
 
-post_gives : (d : Draft) (fields : Row) → Gives (IsGiven d.network) (post_of d fields)
+post_gives : (d : DaySoFar) (fields : Row) → Gives (IsGiven d.network) (post_of d fields)
 unfolding post_of
 post_gives d fields =
     then_gives {r = has_only 5 fields} (λ rest _.
@@ -316,7 +316,7 @@ post_gives d fields =
     then_gives {r = posting_of d.network what item value} (λ posting e.
     gives (IsGiven d.network) (record { actor = actor; command = command.Post posting }) ((posting_gives d.network what item value).ok posting e))))))))
 
-set_day_gives : (d : Draft) (fields : Row) → Gives (IsGiven d.network) (set_day_of d fields)
+set_day_gives : (d : DaySoFar) (fields : Row) → Gives (IsGiven d.network) (set_day_of d fields)
 unfolding set_day_of
 set_day_gives d fields =
     then_gives {r = has_only 3 fields} (λ rest _.
@@ -330,7 +330,7 @@ set_day_gives d fields =
 abbrev IsSmall : ℕ × ℕ → Type 0
 IsSmall x = x.1 ≤ 999999999
 
-permit_gives : (d : Draft) (fields : Row) → Gives IsSmall (permit_of d fields)
+permit_gives : (d : DaySoFar) (fields : Row) → Gives IsSmall (permit_of d fields)
 unfolding permit_of
 permit_gives d fields =
     then_gives {r = has_only 3 fields} (λ rest _.
@@ -339,7 +339,7 @@ permit_gives d fields =
     then_gives {r = or_bad (bad.Unknown 2) (number_named name d.actors)} (λ actor _.
     gives IsSmall (actor, number) (number_fits (field_of fields 2) number (found_some (bad.Field 3) _ number number_is))))))
 
-order_gives : (d : Draft) (kind : CommandKind) (fields : Row) → Gives (IsGiven d.network) (order_of d kind fields)
+order_gives : (d : DaySoFar) (kind : CommandKind) (fields : Row) → Gives (IsGiven d.network) (order_of d kind fields)
 order_gives d ordered.Apply fields = then_gives {r = apply_fields_of fields} (λ f e. resolved_gives d f ((fields_give fields).ok f e))
 order_gives d ordered.Post fields = post_gives d fields
 order_gives d ordered.SetDay fields = set_day_gives d fields
@@ -449,13 +449,13 @@ none_fit = record {
 }
 
 -- what each record keeps
-record IsKept (d : Draft) : Type 0 where
+record IsKept (d : DaySoFar) : Type 0 where
   roads : IsRoads d.network
   fleet : IsFleet d.fleet
   day : is_day_text d.day ≡ true
   commands : All (IsGiven d.network) d.orders
 
-road_keeps : (d : Draft) (kind : RoadKind) (fields : Row) → IsKept d → Gives IsKept (with_road d kind fields)
+road_keeps : (d : DaySoFar) (kind : RoadKind) (fields : Row) → IsKept d → Gives IsKept (with_road d kind fields)
 road_keeps d kind fields h = then_gives {r = roads_of d.network kind fields} (λ roads e. gives IsKept (record d { network = roads }) (record {
   roads = (roads_give d.network kind fields h.roads).ok roads e;
   fleet = h.fleet;
@@ -463,18 +463,18 @@ road_keeps d kind fields h = then_gives {r = roads_of d.network kind fields} (λ
   commands = All-weaker (IsGiven d.network) (IsGiven roads) (λ o w. still_within d.network roads ((roads_more d.network kind fields).ok roads e) o.command w) d.orders h.commands;
 }))
 
-truck_keeps : (d : Draft) (fields : Row) → IsKept d → Gives IsKept (with_truck d fields)
+truck_keeps : (d : DaySoFar) (fields : Row) → IsKept d → Gives IsKept (with_truck d fields)
 truck_keeps d fields h = then_gives {r = fleet_of d.fleet fields} (λ fleet e. gives IsKept (record d { fleet = fleet })
     (record { roads = h.roads; fleet = (fleet_gives d.fleet fields h.fleet).ok fleet e; day = h.day; commands = h.commands }))
 
-actor_keeps : (d : Draft) (fields : Row) → IsKept d → Gives IsKept (with_actor d fields)
+actor_keeps : (d : DaySoFar) (fields : Row) → IsKept d → Gives IsKept (with_actor d fields)
 actor_keeps d fields h = then_gives {r = actors_of d.actors fields} (λ actors _. gives IsKept (record d { actors = actors })
     (record { roads = h.roads; fleet = h.fleet; day = h.day; commands = h.commands }))
 
 one_more : (roads : Roads) (orders : List Order) (order : Order) → All (IsGiven roads) orders → IsGiven roads order → Gives (All (IsGiven roads)) (with_order orders order)
 one_more roads orders order h is = then_gives {r = limit (nat_lt (length orders) 4096) kind.Commands} (λ x _. gives (All (IsGiven roads)) (orders ++ order ∷ []) (All-push (IsGiven roads) orders order h is))
 
-command_keeps : (d : Draft) (kind : CommandKind) (fields : Row) → IsKept d → Gives IsKept (with_command d kind fields)
+command_keeps : (d : DaySoFar) (kind : CommandKind) (fields : Row) → IsKept d → Gives IsKept (with_command d kind fields)
 command_keeps d kind fields h =
     then_gives {r = order_of d kind fields} (λ order e.
     then_gives {r = with_order d.orders order} (λ orders e'. gives IsKept (record d { orders = orders }) (record {
@@ -489,7 +489,7 @@ Holds so_far.Start = Unit {0}
 Holds (so_far.Open d) = IsKept d
 Holds (so_far.Ended d) = IsKept d
 
-goes_on : (r : Result Draft Cause) → Gives IsKept r → Gives Holds (going_on r)
+goes_on : (r : Result DaySoFar Cause) → Gives IsKept r → Gives Holds (going_on r)
 goes_on r h = then_gives {r = r} (λ d e. gives Holds (so_far.Open d) (h.ok d e))
 
 opening_gives : (fields : Row) → Gives (λ day. is_day_text day ≡ true) (opening_of fields)
@@ -514,7 +514,7 @@ opening_keeps record_kind.Actor fields = refuses Holds _
 opening_keeps (record_kind.Command kind) fields = refuses Holds _
 opening_keeps record_kind.End fields = refuses Holds _
 
-later_keeps : (d : Draft) (kind : RecordKind) (fields : Row) → IsKept d → Gives Holds (judge_later d kind fields)
+later_keeps : (d : DaySoFar) (kind : RecordKind) (fields : Row) → IsKept d → Gives Holds (judge_later d kind fields)
 later_keeps d record_kind.Day fields h = refuses Holds _
 later_keeps d (record_kind.Road kind) fields h = goes_on (with_road d kind fields) (road_keeps d kind fields h)
 later_keeps d record_kind.Truck fields h = goes_on (with_truck d fields) (truck_keeps d fields h)
@@ -530,7 +530,7 @@ kind_keeps (so_far.Ended d) kind fields h = refuses Holds _
 step_keeps : (p : DayProgress) (fields : Row) → Holds p → Gives Holds (judge_day p fields)
 step_keeps p fields h = then_gives {r = or_bad bad.Kind (kind_of (field_of fields 0))} (λ kind _. kind_keeps p kind fields h)
 
-bounded : (d : Draft) → IsKept d → IsBounded (parts_of d)
+bounded : (d : DaySoFar) → IsKept d → IsBounded (parts_of d)
 bounded d h = record {
   roads = h.roads;
   base = record { few = h.fleet.few; trains = h.fleet.trains };

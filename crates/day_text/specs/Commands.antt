@@ -18,7 +18,7 @@ use Rattle.day_text.specs.Fleets.{truck_names}
 use Rattle.record_text.specs.Records.{Row, day_in, has_only, name_in, number_in}
 use Rattle.office_words.specs.declared.entry.Command.TheVariants as command
 use Rattle.day_text.specs.declared.commands.ApplyFields.{ApplyFields}
-use Rattle.day_text.specs.declared.draft.Draft.{Draft}
+use Rattle.day_text.specs.declared.day_so_far.DaySoFar.{DaySoFar}
 use Rattle.record_text.specs.declared.posted.Posted.{Posted}
 use Rattle.record_text.specs.declared.posted.Posted.TheVariants as posted
 use Rattle.day_text.specs.declared.kind.CommandKind.{CommandKind}
@@ -67,7 +67,7 @@ applied roads truck from to asked first last =
     unless_refused (application_of truck from to asked first last) (application_refusal roads from to asked first last)
 
 -- the application of some fields: each name is looked up, each day is one of the calendar, and no rule of applications refuses it
-unfoldable pub resolved_of : Draft → ApplyFields → Result Order Cause
+unfoldable pub resolved_of : DaySoFar → ApplyFields → Result Order Cause
 resolved_of d f = do
   actor ← or_bad (bad.Unknown 2) (number_named f.actor d.actors)
   truck ← or_bad (bad.Unknown 3) (number_named f.truck (truck_names d.fleet))
@@ -80,7 +80,7 @@ resolved_of d f = do
   Ok (record { actor = actor; command = command.Apply application })
 
 -- apply,ACTOR,TRUCK,FROM,TO,ROUTE,FIRST,LAST: the fields in their forms first, and then what they refer to
-abbrev pub apply_of : Draft → Row → Result Order Cause
+abbrev pub apply_of : DaySoFar → Row → Result Order Cause
 apply_of d fields = apply_fields_of fields >>= resolved_of d
 
 -- the change that a limit of a segment is to have
@@ -104,7 +104,7 @@ posting_of roads posted.Rating item value = do
   Ok (change.Rating i value)
 
 -- post,ACTOR,ITEM,WHAT,VALUE
-unfoldable pub post_of : Draft → Row → Result Order Cause
+unfoldable pub post_of : DaySoFar → Row → Result Order Cause
 post_of d fields = do
   rest ← has_only 5 fields
   name ← name_in 2 fields
@@ -116,7 +116,7 @@ post_of d fields = do
   Ok (record { actor = actor; command = command.Post posting })
 
 -- setday,ACTOR,DAY
-unfoldable pub set_day_of : Draft → Row → Result Order Cause
+unfoldable pub set_day_of : DaySoFar → Row → Result Order Cause
 set_day_of d fields = do
   rest ← has_only 3 fields
   name ← name_in 2 fields
@@ -126,7 +126,7 @@ set_day_of d fields = do
   Ok (record { actor = actor; command = command.Day day })
 
 -- surrender,ACTOR,NUMBER and show,ACTOR,NUMBER: the actor and the number of a permit
-unfoldable pub permit_of : Draft → Row → Result (ℕ × ℕ) Cause
+unfoldable pub permit_of : DaySoFar → Row → Result (ℕ × ℕ) Cause
 permit_of d fields = do
   rest ← has_only 3 fields
   name ← name_in 2 fields
@@ -134,14 +134,14 @@ permit_of d fields = do
   actor ← or_bad (bad.Unknown 2) (number_named name d.actors)
   Ok (actor, number)
 
-abbrev pub surrender_of : Draft → Row → Result Order Cause
+abbrev pub surrender_of : DaySoFar → Row → Result Order Cause
 surrender_of d fields = permit_of d fields >>= (λ x. Ok (record { actor = x.0; command = command.Surrender x.1 }))
 
-abbrev pub show_of : Draft → Row → Result Order Cause
+abbrev pub show_of : DaySoFar → Row → Result Order Cause
 show_of d fields = permit_of d fields >>= (λ x. Ok (record { actor = x.0; command = command.Show x.1 }))
 
 -- the command of a record
-abbrev pub order_of : Draft → CommandKind → Row → Result Order Cause
+abbrev pub order_of : DaySoFar → CommandKind → Row → Result Order Cause
 order_of d Apply fields = apply_of d fields
 order_of d Post fields = post_of d fields
 order_of d SetDay fields = set_day_of d fields

@@ -7,7 +7,7 @@ ghost use Rattle.trip_analysis.specs.Applications.{AreAskedThere};
 ghost use Rattle.record_text.specs.Causes.{Judges};
 ghost use Rattle.day_text.specs.Commands.{all_numbers, apply_fields_of, apply_of, asked_of, cause_of, change_of, order_of, permit_of, post_of, posting_of, resolved_of, set_day_of, show_of, surrender_of};
 
-use crate::draft::Draft;
+use crate::day_so_far::DaySoFar;
 use crate::kind::CommandKind;
 use crate::orders::Order;
 use csv::StringRecord;
@@ -38,54 +38,54 @@ pub(crate) struct ApplyFields {
 /// The command of a record, for its actor.
 pub(crate) fn parse_order(
     alloc: Global,
-    draft: &Draft,
+    so_far: &DaySoFar,
     kind: CommandKind,
     row: &StringRecord,
 ) -> Result<Order, RecordRefusal>
-    ensures { Judges result (order_of draft.now kind (fields_of row.now)) }
+    ensures { Judges result (order_of so_far.now kind (fields_of row.now)) }
 {
     match kind {
-        CommandKind::Apply => parse_apply(alloc, draft, row),
-        CommandKind::Post => Ok(parse_post(draft, row)?),
-        CommandKind::SetDay => Ok(parse_set_day(draft, row)?),
-        CommandKind::Surrender => Ok(parse_surrender(draft, row)?),
-        CommandKind::Show => Ok(parse_show(draft, row)?),
+        CommandKind::Apply => parse_apply(alloc, so_far, row),
+        CommandKind::Post => Ok(parse_post(so_far, row)?),
+        CommandKind::SetDay => Ok(parse_set_day(so_far, row)?),
+        CommandKind::Surrender => Ok(parse_surrender(so_far, row)?),
+        CommandKind::Show => Ok(parse_show(so_far, row)?),
     }
 }
 
 // The application of a record, for its actor.
-fn parse_apply(alloc: Global, draft: &Draft, row: &StringRecord) -> Result<Order, RecordRefusal>
-    ensures { Judges result (apply_of draft.now (fields_of row.now)) }
+fn parse_apply(alloc: Global, so_far: &DaySoFar, row: &StringRecord) -> Result<Order, RecordRefusal>
+    ensures { Judges result (apply_of so_far.now (fields_of row.now)) }
 {
     let fields = parse_apply_fields(alloc, row)?;
-    let order = resolve(alloc, draft, &fields);
+    let order = resolve(alloc, so_far, &fields);
     drop(fields);
     order
 }
 
 // The application of some fields, each name of which is looked up.
 #[tactic(auto, unfolding(crate::specs::Commands::resolved_of))]
-fn resolve(alloc: Global, draft: &Draft, fields: &ApplyFields) -> Result<Order, RecordRefusal>
-    ensures { Judges result (resolved_of draft.now fields.now) }
+fn resolve(alloc: Global, so_far: &DaySoFar, fields: &ApplyFields) -> Result<Order, RecordRefusal>
+    ensures { Judges result (resolved_of so_far.now fields.now) }
 {
-    let actor = or_bad(draft.actors.number(&fields.actor), RecordCause::Unknown(2))?;
-    let truck = or_bad(draft.fleet.number(&fields.truck), RecordCause::Unknown(3))?;
+    let actor = or_bad(so_far.actors.number(&fields.actor), RecordCause::Unknown(2))?;
+    let truck = or_bad(so_far.fleet.number(&fields.truck), RecordCause::Unknown(3))?;
     let from = or_bad(
-        draft.network.node_named(&fields.from),
+        so_far.network.node_named(&fields.from),
         RecordCause::Unknown(4),
     )?;
     let to = or_bad(
-        draft.network.node_named(&fields.to),
+        so_far.network.node_named(&fields.to),
         RecordCause::Unknown(5),
     )?;
     let route = or_bad(
-        numbers_of(alloc, &draft.network, fields.route.as_slice())?,
+        numbers_of(alloc, &so_far.network, fields.route.as_slice())?,
         RecordCause::Unknown(6),
     )?;
     let first = or_bad(fields.first, RecordCause::Range(7))?;
     let last = or_bad(fields.last, RecordCause::Range(8))?;
-    let asked = asked_of(&draft.network, route);
-    match Application::on(&draft.network, truck, from, to, asked, first, last) {
+    let asked = asked_of(&so_far.network, route);
+    match Application::on(&so_far.network, truck, from, to, asked, first, last) {
         Ok(application) => Ok(Order {
             actor,
             command: Command::Apply(application),
@@ -96,16 +96,16 @@ fn resolve(alloc: Global, draft: &Draft, fields: &ApplyFields) -> Result<Order, 
 
 // The posting of a record, for its actor.
 #[tactic(auto, unfolding(crate::specs::Commands::post_of))]
-fn parse_post(draft: &Draft, row: &StringRecord) -> Result<Order, Cause>
-    ensures { result ≡ post_of draft.now (fields_of row.now) }
+fn parse_post(so_far: &DaySoFar, row: &StringRecord) -> Result<Order, Cause>
+    ensures { result ≡ post_of so_far.now (fields_of row.now) }
 {
     has_only(row, 5)?;
     let actor = name_in(row, 2)?;
     let item = name_in(row, 3)?;
     let what = or_bad(parse_posted(field(row, 3)), RecordCause::Field(4))?;
     let value = number_in(row, 5)?;
-    let actor = or_bad(draft.actors.number(&actor), RecordCause::Unknown(2))?;
-    let change = posting(&draft.network, what, &item, value)?;
+    let actor = or_bad(so_far.actors.number(&actor), RecordCause::Unknown(2))?;
+    let change = posting(&so_far.network, what, &item, value)?;
     Ok(Order {
         actor,
         command: Command::Post(change),
@@ -114,13 +114,13 @@ fn parse_post(draft: &Draft, row: &StringRecord) -> Result<Order, Cause>
 
 // The setting of the day of a record, for its actor.
 #[tactic(auto, unfolding(crate::specs::Commands::set_day_of))]
-fn parse_set_day(draft: &Draft, row: &StringRecord) -> Result<Order, Cause>
-    ensures { result ≡ set_day_of draft.now (fields_of row.now) }
+fn parse_set_day(so_far: &DaySoFar, row: &StringRecord) -> Result<Order, Cause>
+    ensures { result ≡ set_day_of so_far.now (fields_of row.now) }
 {
     has_only(row, 3)?;
     let actor = name_in(row, 2)?;
     let day = day_in(row, 3)?;
-    let actor = or_bad(draft.actors.number(&actor), RecordCause::Unknown(2))?;
+    let actor = or_bad(so_far.actors.number(&actor), RecordCause::Unknown(2))?;
     let day = or_bad(day, RecordCause::Range(3))?;
     Ok(Order {
         actor,
@@ -129,10 +129,10 @@ fn parse_set_day(draft: &Draft, row: &StringRecord) -> Result<Order, Cause>
 }
 
 // The surrender of a record, for its actor.
-fn parse_surrender(draft: &Draft, row: &StringRecord) -> Result<Order, Cause>
-    ensures { result ≡ surrender_of draft.now (fields_of row.now) }
+fn parse_surrender(so_far: &DaySoFar, row: &StringRecord) -> Result<Order, Cause>
+    ensures { result ≡ surrender_of so_far.now (fields_of row.now) }
 {
-    let (actor, number) = parse_permit(draft, row)?;
+    let (actor, number) = parse_permit(so_far, row)?;
     Ok(Order {
         actor,
         command: Command::Surrender(number),
@@ -140,10 +140,10 @@ fn parse_surrender(draft: &Draft, row: &StringRecord) -> Result<Order, Cause>
 }
 
 // The showing of a record, for its actor.
-fn parse_show(draft: &Draft, row: &StringRecord) -> Result<Order, Cause>
-    ensures { result ≡ show_of draft.now (fields_of row.now) }
+fn parse_show(so_far: &DaySoFar, row: &StringRecord) -> Result<Order, Cause>
+    ensures { result ≡ show_of so_far.now (fields_of row.now) }
 {
-    let (actor, number) = parse_permit(draft, row)?;
+    let (actor, number) = parse_permit(so_far, row)?;
     Ok(Order {
         actor,
         command: Command::Show(number),
@@ -272,12 +272,12 @@ fn change_of(what: What, segment: u32, value: u32) -> Change
 
 // The actor and the permit's number of a record.
 #[tactic(auto, unfolding(crate::specs::Commands::permit_of))]
-fn parse_permit(draft: &Draft, row: &StringRecord) -> Result<(u32, u32), Cause>
-    ensures { result ≡ permit_of draft.now (fields_of row.now) }
+fn parse_permit(so_far: &DaySoFar, row: &StringRecord) -> Result<(u32, u32), Cause>
+    ensures { result ≡ permit_of so_far.now (fields_of row.now) }
 {
     has_only(row, 3)?;
     let actor = name_in(row, 2)?;
     let number = number_in(row, 3)?;
-    let actor = or_bad(draft.actors.number(&actor), RecordCause::Unknown(2))?;
+    let actor = or_bad(so_far.actors.number(&actor), RecordCause::Unknown(2))?;
     Ok((actor, number))
 }

@@ -7,7 +7,7 @@ ghost use Rattle.day_text.specs.Laws.{IsDayFile};
 ghost use Rattle.day_text.specs.Refusals.{IsRefusedAs};
 
 use crate::applicants::learn_applicants;
-use crate::draft::Draft;
+use crate::day_so_far::DaySoFar;
 use crate::orders::Order;
 use crate::progress::DayProgress;
 use names::{Name, NoMemory};
@@ -98,7 +98,7 @@ fn finish(alloc: Global, progress: DayProgress, row: u64) -> Result<DayFile, Fil
     ensures { Tells result (ended_day (row, progress)) }
 {
     match progress {
-        DayProgress::Ended(growing) => close(alloc, growing.into_draft()),
+        DayProgress::Ended(growing) => close(alloc, growing.into_inner()),
         unended => {
             drop(unended);
             Err(RecordRefusal::bad(RecordCause::End).at(row))
@@ -106,32 +106,32 @@ fn finish(alloc: Global, progress: DayProgress, row: u64) -> Result<DayFile, Fil
     }
 }
 
-// The file of a draft.
-fn close(alloc: Global, draft: Draft) -> Result<DayFile, FileRefusal>
-    ensures file { IfOk result (λ file. file ≡ parts_of draft) }
+// The file of what the records said.
+fn close(alloc: Global, so_far: DaySoFar) -> Result<DayFile, FileRefusal>
+    ensures file { IfOk result (λ file. file ≡ parts_of so_far) }
     ensures memory { IfErr result (λ refusal. refusal ≡ FileRefusal.NoMemory) }
 {
-    match draft.actors.to_vec(alloc) {
-        Ok(actors) => Ok(closed(draft, actors)),
+    match so_far.actors.to_vec(alloc) {
+        Ok(actors) => Ok(closed(so_far, actors)),
         Err(_) => {
-            drop(draft);
+            drop(so_far);
             Err(FileRefusal::NoMemory)
         }
     }
 }
 
-// The file of a draft, with its actors in a vector.
-fn closed(draft: Draft, actors: Vec<Name>) -> DayFile
-    requires { actors.items ≡ draft.actors }
-    ensures { result ≡ parts_of draft }
+// The file of what the records said, with its actors in a vector.
+fn closed(so_far: DaySoFar, actors: Vec<Name>) -> DayFile
+    requires { actors.items ≡ so_far.actors }
+    ensures { result ≡ parts_of so_far }
 {
-    let Draft {
+    let DaySoFar {
         network,
         day,
         fleet,
         actors: names,
         orders,
-    } = draft;
+    } = so_far;
     drop(names);
     DayFile {
         base: Base::new(network, fleet.into_vec()),

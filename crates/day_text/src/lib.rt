@@ -14,7 +14,7 @@ mod applicants;
 mod check_file;
 mod commands;
 mod day_file;
-mod draft;
+mod day_so_far;
 mod fleet;
 mod kind;
 mod laws;

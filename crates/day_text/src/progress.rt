@@ -1,14 +1,15 @@
 // Where each record of a day file leads.
 //
-// A draft is let go by a call of `drop`: where a scope lets it go, the proof of the whole function goes through its parts.
+// What was said so far is let go by a call of `drop`: where a scope lets it go, the proof of the whole function goes through
+// its parts.
 
-ghost use Rattle.std.specs.Prelude.{◌≡◌};
+ghost use Rattle.std.specs.Prelude.{◌≡◌, Ok, Err, OnOk, IfErr};
 ghost use Rattle.csv.specs.Records.{fields_of};
 ghost use Rattle.record_text.specs.Causes.{Judges};
 ghost use Rattle.day_text.specs.Days.{going_on, judge_day, judge_kind, judge_later, judge_opening, opening_of, with_actor, with_command, with_road, with_truck};
 
 use crate::commands::parse_order;
-use crate::draft::{Draft, Growing};
+use crate::day_so_far::{DaySoFar, Growing};
 use crate::fleet::Fleet;
 use crate::kind::{CommandKind, RecordKind, RoadKind, parse_kind};
 use crate::members::{add_actor, add_truck};
@@ -75,14 +76,14 @@ fn take_opening(
     match kind {
         RecordKind::Day => {
             let day = parse_opening(row)?;
-            let draft = Draft {
+            let so_far = DaySoFar {
                 network: Network::new(alloc),
                 day,
                 fleet: Fleet::new(alloc),
                 actors: Names::new(alloc),
                 orders: Orders::new(alloc),
             };
-            Ok(DayProgress::Open(Growing::new(alloc, draft)?))
+            Ok(DayProgress::Open(Growing::new(alloc, so_far)?))
         }
         _ => Err(RecordRefusal::bad(RecordCause::Order)),
     }
@@ -129,13 +130,8 @@ fn take_road(
     ensures { Judges result (going_on (with_road growing kind (fields_of row.now))) }
 {
     let mut growing = growing;
-    match add_road(&mut growing.draft.network, kind, row) {
-        Ok(()) => Ok(DayProgress::Open(growing)),
-        Err(refusal) => {
-            drop(growing);
-            Err(refusal)
-        }
-    }
+    let taken = add_road(&mut growing.so_far.network, kind, row);
+    go_on(growing, taken)
 }
 
 // Where the record of a truck leads.
@@ -147,13 +143,8 @@ fn take_truck(
     ensures { Judges result (going_on (with_truck growing (fields_of row.now))) }
 {
     let mut growing = growing;
-    match add_truck(alloc, &mut growing.draft.fleet, row) {
-        Ok(()) => Ok(DayProgress::Open(growing)),
-        Err(refusal) => {
-            drop(growing);
-            Err(refusal)
-        }
-    }
+    let taken = add_truck(alloc, &mut growing.so_far.fleet, row);
+    go_on(growing, taken)
 }
 
 // Where the record of an actor leads.
@@ -161,13 +152,8 @@ fn take_actor(growing: Growing, row: &StringRecord) -> Result<DayProgress, Recor
     ensures { Judges result (going_on (with_actor growing (fields_of row.now))) }
 {
     let mut growing = growing;
-    match add_actor(&mut growing.draft.actors, row) {
-        Ok(()) => Ok(DayProgress::Open(growing)),
-        Err(refusal) => {
-            drop(growing);
-            Err(refusal)
-        }
-    }
+    let taken = add_actor(&mut growing.so_far.actors, row);
+    go_on(growing, taken)
 }
 
 // Where the record of a command leads.
@@ -180,11 +166,19 @@ fn take_command(
     ensures { Judges result (going_on (with_command growing kind (fields_of row.now))) }
 {
     let mut growing = growing;
-    let added = match parse_order(alloc, &growing.draft, kind, row) {
-        Ok(order) => growing.draft.orders.push(order),
+    let taken = match parse_order(alloc, &growing.so_far, kind, row) {
+        Ok(order) => growing.so_far.orders.push(order),
         Err(refusal) => Err(refusal),
     };
-    match added {
+    go_on(growing, taken)
+}
+
+// Where a record was taken, the next one follows; else what was said so far is let go.
+fn go_on(growing: Growing, taken: Result<(), RecordRefusal>) -> Result<DayProgress, RecordRefusal>
+    ensures taken { OnOk taken (result ≡ Ok (DayProgress.Open growing)) }
+    ensures refused { IfErr taken (λ why. result ≡ Err why) }
+{
+    match taken {
         Ok(()) => Ok(DayProgress::Open(growing)),
         Err(refusal) => {
             drop(growing);
