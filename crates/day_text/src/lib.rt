@@ -29,5 +29,6 @@ mod truck;
 pub use check_file::{CheckFile, Probe, Probes, read_check};
 pub use day_file::{DayFile, read_day};
 pub use laws::day_files_are_bounded;
+pub use name_set::Names;
 pub use orders::Order;
 pub use record_text::{Cause, FileRefusal, Kind, RecordCause};

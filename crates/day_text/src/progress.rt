@@ -131,7 +131,7 @@ fn take_road(
 {
     let mut growing = growing;
     let taken = add_road(&mut growing.so_far.network, kind, row);
-    go_on(growing, taken)
+    keep_going(growing, taken)
 }
 
 // Where the record of a truck leads.
@@ -144,7 +144,7 @@ fn take_truck(
 {
     let mut growing = growing;
     let taken = add_truck(alloc, &mut growing.so_far.fleet, row);
-    go_on(growing, taken)
+    keep_going(growing, taken)
 }
 
 // Where the record of an actor leads.
@@ -153,7 +153,7 @@ fn take_actor(growing: Growing, row: &StringRecord) -> Result<DayProgress, Recor
 {
     let mut growing = growing;
     let taken = add_actor(&mut growing.so_far.actors, row);
-    go_on(growing, taken)
+    keep_going(growing, taken)
 }
 
 // Where the record of a command leads.
@@ -170,11 +170,14 @@ fn take_command(
         Ok(order) => growing.so_far.orders.push(order),
         Err(refusal) => Err(refusal),
     };
-    go_on(growing, taken)
+    keep_going(growing, taken)
 }
 
 // Where a record was taken, the next one follows; else what was said so far is let go.
-fn go_on(growing: Growing, taken: Result<(), RecordRefusal>) -> Result<DayProgress, RecordRefusal>
+fn keep_going(
+    growing: Growing,
+    taken: Result<(), RecordRefusal>,
+) -> Result<DayProgress, RecordRefusal>
     ensures taken { OnOk taken (result ≡ Ok (DayProgress.Open growing)) }
     ensures refused { IfErr taken (λ why. result ≡ Err why) }
 {
