@@ -3,12 +3,13 @@ use Rattle.std.proofs.Common.{◌≡◌, ◌∙◌, ◌≤◌, ◌+◌, ◌*◌,
 use Rattle.std.specs.Prelude.{codes}
 use Rattle.csv.specs.Records.{field_at}
 use Rattle.csv.specs.Reading.{strip_bom}
+use Rattle.csv.specs.Writing.{fields_text, is_blank}
 use Rattle.record_text.specs.Records.{Row, rows_of}
 use Rattle.day_text.specs.Days.{DayParts, day_of, finished_day, judge_day, opened, opening_of, parts_of}
 use Rattle.record_text.specs.Records.{judged}
 use Rattle.day_maker.specs.Making.{Maker, ◌>>◌}
 use Rattle.day_maker.specs.Made.{actors, commands, ending, made_day, made_rows, nodes, segments, spans, trucks}
-use Rattle.day_maker.specs.Texts.{row}
+use Rattle.day_maker.specs.Texts.{line, row}
 use Rattle.day_maker.proofs.Fleets.{InTraffic, actors_lead, four_actors, four_trucks, traffic_begins, trucks_lead}
 use Rattle.day_maker.proofs.Grids.{grid_none}
 use Rattle.day_maker.proofs.Judge.{DayProgress, open_day}
@@ -57,7 +58,7 @@ whole seed z start rows some small same first =
 
 -- what is written is read
 made_read : (seed z : ℕ) → 1 ≤ z → z ≤ 40 → rows_of (made_day seed z) ≡ made_rows seed z
-unfolding made_day strip_bom
+unfolding made_day strip_bom line fields_text is_blank
 made_read seed z some small = rows_read (made_rows seed z) (opening_plain, (later_ends z some small).plain seed)
 
 pub made_is_accepted : (seed z : ℕ) → 1 ≤ z → z ≤ 40 → (file : DayParts) × (day_of (made_day seed z) ≡ Ok file)

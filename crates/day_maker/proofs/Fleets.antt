@@ -18,7 +18,7 @@ use Rattle.day_maker.specs.Making.{◌>>=◌, ◌>>◌, draw, each, put}
 use Rattle.day_maker.specs.Made.{actor, actor_name, actors, axles, axles_text, carrier_name, truck, truck_name, trucks}
 use Rattle.day_maker.specs.Texts.{row}
 use Rattle.day_maker.proofs.Axles.{axles_read, axles_small, axles_some, is_train}
-use Rattle.day_maker.proofs.Judge.{Draft, open_day}
+use Rattle.day_maker.proofs.Judge.{DaySoFar, open_day}
 use Rattle.day_maker.proofs.Leading.{Leads, leads_draw, leads_drawn, leads_nothing, leads_put, leads_then}
 use Rattle.day_maker.proofs.Leaves.{le_true, lt_true, number_ok, numbered_ok}
 use Rattle.day_maker.proofs.Plain.{IsSmall, axles_plain, number_plain, numbered_plain}
@@ -27,14 +27,14 @@ use Rattle.day_maker.proofs.Spans.{HasEast, InSpans}
 use Rattle.day_maker.proofs.Texts.{IsPlain}
 
 -- the roads are there, and these trucks and actors, and at most so many commands
-pub record InTraffic (z : ℕ) (ts names : List (List ℕ)) (n : ℕ) (d : Draft) : Type 0 where
+pub record InTraffic (z : ℕ) (ts names : List (List ℕ)) (n : ℕ) (d : DaySoFar) : Type 0 where
   pub nodes : HasNodes z d.network.nodes
   pub east : HasEast z (segment_names d.network.segments)
   pub fleet : truck_names d.fleet ≡ ts
   pub actors : d.actors ≡ names
   pub orders : length d.orders ≤ n
 
-pub traffic_begins : (z : ℕ) (d : Draft) → InSpans z (z + 1) 0 d → InTraffic z [] [] 0 d
+pub traffic_begins : (z : ℕ) (d : DaySoFar) → InSpans z (z + 1) 0 d → InTraffic z [] [] 0 d
 traffic_begins z d at = record {
   nodes = at.nodes;
   east = at.east;
@@ -63,13 +63,13 @@ truck_put z t height width train before small few fresh low high narrow wide goo
     (refl, (refl, (numbered_plain 116 t refl small, (numbered_plain 99 (t % 2) refl (omega arith), (number_plain height (omega arith), (number_plain width (omega arith), (number_plain 900 (omega arith), (axles_plain train good.small, (refl, tt)))))))))
     (λ d at. (record d { fleet = d.fleet ++ made_truck t height width train ∷ [] }, judges d at, goes d at))
   where
-    judges : (d : Draft) → InTraffic z before [] 0 d → judge_day (open_day d) (truck_row t height width train) ≡ Ok (open_day (record d { fleet = d.fleet ++ made_truck t height width train ∷ [] }))
+    judges : (d : DaySoFar) → InTraffic z before [] 0 d → judge_day (open_day d) (truck_row t height width train) ≡ Ok (open_day (record d { fleet = d.fleet ++ made_truck t height width train ∷ [] }))
     judges d at =
         let new : has_name (truck_name t) (truck_names d.fleet) ≡ false = rw at.fleet fresh in
         let count : length d.fleet ≡ length before = sym (length-map d.fleet (λ (x : Truck). x.name)) ∙ ap length at.fleet in
         rw (numbered_ok 116 t refl small, numbered_ok 99 (t % 2) refl (omega arith), number_ok height (omega arith), number_ok width (omega arith), number_ok 900 (omega arith), axles_read train good.some good.small, new, le_true 1 height low, le_true height 999 high, le_true 1 width narrow, le_true width 999 wide, good.sound, lt_true (length d.fleet) 64 (omega arith)) refl
 
-    goes : (d : Draft) → InTraffic z before [] 0 d → InTraffic z (before ++ truck_name t ∷ []) [] 0 (record d { fleet = d.fleet ++ made_truck t height width train ∷ [] })
+    goes : (d : DaySoFar) → InTraffic z before [] 0 d → InTraffic z (before ++ truck_name t ∷ []) [] 0 (record d { fleet = d.fleet ++ made_truck t height width train ∷ [] })
     goes d at = record {
       nodes = at.nodes;
       east = at.east;
@@ -88,10 +88,10 @@ truck_leads z t before small few fresh =
     (λ x. record { small = axles_small (4 + m) x (omega arith); some = axles_some (4 + m) x; sound = is_train (4 + m) x (omega arith) (omega arith) })
     (λ train good. truck_put z t (160 + h) (100 + w) train before small few fresh (omega arith) (omega arith) (omega arith) (omega arith) good))))
   where
-    P : Draft → Type 0
+    P : DaySoFar → Type 0
     P = InTraffic z before [] 0
 
-    Q : Draft → Type 0
+    Q : DaySoFar → Type 0
     Q = InTraffic z (before ++ truck_name t ∷ []) [] 0
 
 abbrev pub four_trucks : List (List ℕ)
@@ -119,7 +119,7 @@ actor_leads z ts name before plain good fresh few =
     (refl, (refl, (plain, (refl, (refl, (refl, (refl, (refl, (refl, tt)))))))))
     (λ d at. (record d { actors = d.actors ++ name ∷ [] }, judges d at, record { nodes = at.nodes; east = at.east; fleet = at.fleet; actors = ap (λ (names : List (List ℕ)). names ++ name ∷ []) at.actors; orders = at.orders }))
   where
-    judges : (d : Draft) → InTraffic z ts before 0 d → judge_day (open_day d) (row (codes "actor" ∷ name ∷ [])) ≡ Ok (open_day (record d { actors = d.actors ++ name ∷ [] }))
+    judges : (d : DaySoFar) → InTraffic z ts before 0 d → judge_day (open_day d) (row (codes "actor" ∷ name ∷ [])) ≡ Ok (open_day (record d { actors = d.actors ++ name ∷ [] }))
     judges d at =
         let new : has_name name d.actors ≡ false = rw at.actors fresh in
         let count : length d.actors ≡ length before = ap length at.actors in

@@ -18,13 +18,13 @@ from_ok (Ok x) h = x
 from_ok (Err e) h = absurd h
 
 -- what stands so far
-abbrev pub Draft : Type 0
-Draft = type_of (opened [])
+abbrev pub DaySoFar : Type 0
+DaySoFar = type_of (opened [])
 
 -- how far the records have come
 abbrev pub DayProgress : Type 0
 DayProgress = ok_type (going_on (Ok (opened [])))
 
 -- records that go on
-abbrev pub open_day : Draft → DayProgress
+abbrev pub open_day : DaySoFar → DayProgress
 open_day d = from_ok (going_on (Ok d)) tt

@@ -11,12 +11,12 @@ use Rattle.day_maker.specs.Made.{node, node_name, nodes}
 use Rattle.day_maker.specs.Texts.{row}
 use Rattle.std.specs.Prelude.{codes}
 use Rattle.day_maker.proofs.Grids.{Grid, grid_column, grid_fresh, grid_more, grid_row}
-use Rattle.day_maker.proofs.Judge.{Draft, open_day}
+use Rattle.day_maker.proofs.Judge.{DaySoFar, open_day}
 use Rattle.day_maker.proofs.Leading.{Leads, leads_each, leads_put, leads_weaker}
 use Rattle.day_maker.proofs.Leaves.{cell_ok, lt_true}
 use Rattle.day_maker.proofs.Plain.{cell_plain}
 
-pub record InNodes (z r c : ℕ) (d : Draft) : Type 0 where
+pub record InNodes (z r c : ℕ) (d : DaySoFar) : Type 0 where
   pub nodes : Grid 110 (z + 1) z r c [] d.network.nodes
   pub few : length d.network.nodes ≤ r * (z + 1) + c
   pub segments : d.network.segments ≡ []
@@ -39,12 +39,12 @@ node_leads z r c small hr hc =
     (refl, (refl, (cell_plain 110 r c refl (omega arith) (omega arith), (refl, (refl, (refl, (refl, (refl, (refl, tt)))))))))
     (λ d at. (record d { network = with_node d.network (node_name r c) }, judged d at, goes d at))
   where
-    judged : (d : Draft) → InNodes z r c d → judge_day (open_day d) (row (codes "node" ∷ node_name r c ∷ [])) ≡ Ok (open_day (record d { network = with_node d.network (node_name r c) }))
+    judged : (d : DaySoFar) → InNodes z r c d → judge_day (open_day d) (row (codes "node" ∷ node_name r c ∷ [])) ≡ Ok (open_day (record d { network = with_node d.network (node_name r c) }))
     judged d at =
         let fresh : has_name (node_name r c) d.network.nodes ≡ false = grid_fresh z 110 r c [] d.network.nodes small hr hc (λ k. k) at.nodes in
         rw (cell_ok 110 r c refl (omega arith) (omega arith), fresh, lt_true (length d.network.nodes) 4096 (omega (arith, at.few, few_places z r c small hr hc))) refl
 
-    goes : (d : Draft) → InNodes z r c d → InNodes z r (c + 1) (record d { network = with_node d.network (node_name r c) })
+    goes : (d : DaySoFar) → InNodes z r c d → InNodes z r (c + 1) (record d { network = with_node d.network (node_name r c) })
     goes d at = record {
       nodes = grid_column 110 (z + 1) z r c (110 ∷ []) (d.network.nodes ++ node_name r c ∷ []) (λ k. inl refl) (grid_more 110 (z + 1) z 110 r c [] d.network.nodes hr hc at.nodes);
       few = simp length-append (omega (arith, at.few));
@@ -55,7 +55,7 @@ node_leads z r c small hr hc =
       orders = at.orders;
     }
 
-next_row : (z r : ℕ) (d : Draft) → InNodes z r (z + 1) d → InNodes z (r + 1) 0 d
+next_row : (z r : ℕ) (d : DaySoFar) → InNodes z r (z + 1) d → InNodes z (r + 1) 0 d
 next_row z r d at = record {
   nodes = grid_row 110 (z + 1) z r (z + 1) d.network.nodes (omega arith) at.nodes;
   few = omega (arith, at.few);

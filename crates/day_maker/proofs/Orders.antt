@@ -15,7 +15,7 @@ use Rattle.day_maker.specs.Making.{◌>>=◌, draw, put}
 use Rattle.day_maker.specs.Made.{actor_name, application, command as made_command, commands, east_name, node_name, posting, truck_name}
 use Rattle.day_maker.specs.Texts.{row}
 use Rattle.day_maker.proofs.Fleets.{InTraffic, four_actors, four_trucks}
-use Rattle.day_maker.proofs.Judge.{Draft, open_day}
+use Rattle.day_maker.proofs.Judge.{DaySoFar, open_day}
 use Rattle.day_maker.proofs.Leading.{Leads, leads_draw, leads_each, leads_put}
 use Rattle.day_maker.proofs.Leaves.{cell_injective, cell_ok, eq_false, le_true, lt_true, number_ok, numbered_ok}
 use Rattle.day_maker.proofs.Named.{IsThere, one_name, there_now, there_still}
@@ -38,14 +38,14 @@ truck_there (suc (suc zero)) h = there_still (truck_name 3) (truck_name 1 ∷ tr
 truck_there (suc (suc (suc zero))) h = there_now (truck_name 4) (truck_name 1 ∷ truck_name 2 ∷ truck_name 3 ∷ [])
 truck_there (suc (suc (suc (suc t)))) h = absurd (omega arith)
 
-abbrev Before : ℕ → ℕ → Draft → Type 0
+abbrev Before : ℕ → ℕ → DaySoFar → Type 0
 Before z n = InTraffic z four_trucks four_actors n
 
 -- a command more
-abbrev with_order : Draft → Order → Draft
+abbrev with_order : DaySoFar → Order → DaySoFar
 with_order d order = record d { orders = d.orders ++ order ∷ [] }
 
-one_more : (z n : ℕ) (d : Draft) (order : Order) → Before z n d → Before z (n + 1) (with_order d order)
+one_more : (z n : ℕ) (d : DaySoFar) (order : Order) → Before z n d → Before z (n + 1) (with_order d order)
 one_more z n d order at = record { nodes = at.nodes; east = at.east; fleet = at.fleet; actors = at.actors; orders = simp length-append (omega (arith, at.orders)) }
 
 posting_put : (z n r c inches : ℕ) → z ≤ 40 → n < 4096 → r ≤ z → c < z → 1 ≤ inches → inches ≤ 999
@@ -56,10 +56,10 @@ posting_put z n r c inches small few hr hc low high =
     (refl, (refl, (refl, (cell_plain 101 r c refl (omega arith) (omega arith), (refl, (number_plain inches (omega arith), (refl, (refl, (refl, tt)))))))))
     (λ d at. (with_order d (order d at), judges d at, one_more z n d (order d at) at))
   where
-    order : (d : Draft) → Before z n d → Order
+    order : (d : DaySoFar) → Before z n d → Order
     order d at = record { actor = 3; command = command.Post (change.Height (at.east r c hr hc).place inches) }
 
-    judges : (d : Draft) (at : Before z n d) → judge_day (open_day d) (row (codes "post" ∷ codes "eng" ∷ east_name r c ∷ codes "height" ∷ decimal inches ∷ [])) ≡ Ok (open_day (record d { orders = d.orders ++ record { actor = 3; command = command.Post (change.Height (at.east r c hr hc).place inches) } ∷ [] }))
+    judges : (d : DaySoFar) (at : Before z n d) → judge_day (open_day d) (row (codes "post" ∷ codes "eng" ∷ east_name r c ∷ codes "height" ∷ decimal inches ∷ [])) ≡ Ok (open_day (record d { orders = d.orders ++ record { actor = 3; command = command.Post (change.Height (at.east r c hr hc).place inches) } ∷ [] }))
     judges d at =
         let who : number_named (codes "eng") d.actors ≡ Some 3 = rw at.actors engineer in
         rw (cell_ok 101 r c refl (omega arith) (omega arith), number_ok inches (omega arith), who, (at.east r c hr hc).is, le_true 1 inches low, le_true inches 999 high, lt_true (length d.orders) 4096 (omega (arith, at.orders))) refl
@@ -82,10 +82,10 @@ application_put z n a t some small few ha ht =
     (refl, (refl, (numbered_plain 97 (1 + a) refl (omega arith), (numbered_plain 116 (1 + t) refl (omega arith), (cell_plain 110 0 0 refl (omega arith) (omega arith), (cell_plain 110 z z refl (omega arith) (omega arith), (refl, (refl, (refl, tt)))))))))
     (λ d at. (with_order d (order d at), judges d at, one_more z n d (order d at) at))
   where
-    order : (d : Draft) → Before z n d → Order
+    order : (d : DaySoFar) → Before z n d → Order
     order d at = record { actor = (actor_there a ha).place; command = command.Apply (application_of (truck_there t ht).place (at.nodes 0 0 (omega arith) (omega arith)).place (at.nodes z z (omega arith) (omega arith)).place None (codes "2026-01-01") (codes "2026-12-31")) }
 
-    judges : (d : Draft) (at : Before z n d) → judge_day (open_day d) (apply_row z a t) ≡ Ok (open_day (record d { orders = d.orders ++ record { actor = (actor_there a ha).place; command = command.Apply (application_of (truck_there t ht).place (at.nodes 0 0 (omega arith) (omega arith)).place (at.nodes z z (omega arith) (omega arith)).place None (codes "2026-01-01") (codes "2026-12-31")) } ∷ [] }))
+    judges : (d : DaySoFar) (at : Before z n d) → judge_day (open_day d) (apply_row z a t) ≡ Ok (open_day (record d { orders = d.orders ++ record { actor = (actor_there a ha).place; command = command.Apply (application_of (truck_there t ht).place (at.nodes 0 0 (omega arith) (omega arith)).place (at.nodes z z (omega arith) (omega arith)).place None (codes "2026-01-01") (codes "2026-12-31")) } ∷ [] }))
     judges d at =
         let from : IsThere (node_name 0 0) d.network.nodes = at.nodes 0 0 (omega arith) (omega arith) in
         let to : IsThere (node_name z z) d.network.nodes = at.nodes z z (omega arith) (omega arith) in

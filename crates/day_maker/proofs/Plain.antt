@@ -1,15 +1,15 @@
--- Fields that are made need no quotes.
+-- Fields that are made are of ASCII.
 use Rattle.std.proofs.Common.{◌≡◌, ◌<◌, ◌≤◌, ◌^◌, ◌∷◌, [], ℕ, List, true, refl, arith}
 use Rattle.std.specs.Prelude.{flat_map}
 use Rattle.std.specs.Fmt.{decimal}
 use Rattle.std.specs.List.{AllByRecursion}
 use Rattle.axle_train.specs.declared.axle.Axle.{Axle}
 use Rattle.day_maker.specs.Made.{axle_text, axles_text, cell, numbered}
-use Rattle.day_maker.proofs.Leaves.{all_append, decimal_all, eq_false, lt_true}
+use Rattle.day_maker.proofs.Leaves.{all_append, decimal_all, lt_true}
 use Rattle.day_maker.proofs.Texts.{IsPlain, is_plain}
 
 digit_is_plain : (b : ℕ) → 48 ≤ b → b ≤ 57 → is_plain b ≡ true
-digit_is_plain b h k = rw (lt_true b 128 (omega arith), eq_false b 44 (λ e. absurd (omega arith)), eq_false b 34 (λ e. absurd (omega arith)), eq_false b 13 (λ e. absurd (omega arith)), eq_false b 10 (λ e. absurd (omega arith))) refl
+digit_is_plain b h k = lt_true b 128 (omega arith)
 
 pub number_plain : (n : ℕ) → n < 2 ^ 64 → IsPlain (decimal n)
 number_plain n h = decimal_all is_plain digit_is_plain n h

@@ -14,7 +14,7 @@ use Rattle.day_maker.specs.Making.{◌>>◌, each, when}
 use Rattle.day_maker.specs.Made.{cell, east_name, eastward, joined, node_name, north_name, segment, segments, south_name, southward, west_name}
 use Rattle.day_maker.specs.Texts.{row}
 use Rattle.day_maker.proofs.Grids.{Grid, IsIn, grid_column, grid_fresh, grid_more, grid_none, grid_row, grid_wider}
-use Rattle.day_maker.proofs.Judge.{Draft, open_day}
+use Rattle.day_maker.proofs.Judge.{DaySoFar, open_day}
 use Rattle.day_maker.proofs.Leading.{Leads, leads_draw, leads_each, leads_put, leads_then, leads_weaker, leads_when}
 use Rattle.day_maker.proofs.Leaves.{cell_ok, le_true, lt_from, lt_true, number_ok}
 use Rattle.day_maker.proofs.Named.{IsThere}
@@ -26,7 +26,7 @@ use Rattle.day_maker.proofs.Texts.{is_plain}
 abbrev pub HasNodes : ℕ → List (List ℕ) → Type 0
 HasNodes z names = (i j : ℕ) → i ≤ z → j ≤ z → IsThere (node_name i j) names
 
-pub record InSegments (z r c : ℕ) (done : List ℕ) (d : Draft) : Type 0 where
+pub record InSegments (z r c : ℕ) (done : List ℕ) (d : DaySoFar) : Type 0 where
   pub nodes : HasNodes z d.network.nodes
   pub segments : Grid 101 z z r c done (segment_names d.network.segments)
   pub few : length d.network.segments ≤ 4 * (r * (z + 1) + c) + length done
@@ -36,7 +36,7 @@ pub record InSegments (z r c : ℕ) (done : List ℕ) (d : Draft) : Type 0 where
   pub orders : d.orders ≡ []
 
 -- where the nodes are, no segments are yet
-pub segments_begin : (z : ℕ) (d : Draft) → InNodes z (z + 1) 0 d → InSegments z 0 0 [] d
+pub segments_begin : (z : ℕ) (d : DaySoFar) → InNodes z (z + 1) 0 d → InSegments z 0 0 [] d
 segments_begin z d at = record {
   nodes = λ i j hi hj. at.nodes.known i j (omega arith) (inl (inl (omega arith)));
   segments = rw at.segments (grid_none 101 z z);
@@ -59,12 +59,12 @@ segment_leads z r c l a b a' b' feet done small hr hc good plain free short (ha,
     (refl, (refl, (cell_plain l r c plain (omega arith) (omega arith), (cell_plain 110 a b refl (omega arith) (omega arith), (cell_plain 110 a' b' refl (omega arith) (omega arith), (number_plain feet (omega arith), (refl, (refl, (refl, tt)))))))))
     (λ d at. (record d { network = with_segment d.network (new_segment (cell l r c) (at.nodes a b ha hb).place (at.nodes a' b' ha' hb').place feet) }, judges d at, goes d at))
   where
-    judges : (d : Draft) (at : InSegments z r c done d) → judge_day (open_day d) (row (codes "segment" ∷ cell l r c ∷ node_name a b ∷ node_name a' b' ∷ decimal feet ∷ [])) ≡ Ok (open_day (record d { network = with_segment d.network (new_segment (cell l r c) (at.nodes a b ha hb).place (at.nodes a' b' ha' hb').place feet) }))
+    judges : (d : DaySoFar) (at : InSegments z r c done d) → judge_day (open_day d) (row (codes "segment" ∷ cell l r c ∷ node_name a b ∷ node_name a' b' ∷ decimal feet ∷ [])) ≡ Ok (open_day (record d { network = with_segment d.network (new_segment (cell l r c) (at.nodes a b ha hb).place (at.nodes a' b' ha' hb').place feet) }))
     judges d at =
         let fresh : has_name (cell l r c) (segment_names d.network.segments) ≡ false = grid_fresh z l r c done (segment_names d.network.segments) small hr hc free at.segments in
         rw (cell_ok l r c good (omega arith) (omega arith), cell_ok 110 a b refl (omega arith) (omega arith), cell_ok 110 a' b' refl (omega arith) (omega arith), number_ok feet (omega arith), fresh, (at.nodes a b ha hb).is, (at.nodes a' b' ha' hb').is, le_true 1 feet low, le_true feet 10000000 high, lt_true (length d.network.segments) 16384 (omega (arith, at.few, few_places z r c small hr hc))) refl
 
-    goes : (d : Draft) (at : InSegments z r c done d) → InSegments z r c (l ∷ done) (record d { network = with_segment d.network (new_segment (cell l r c) (at.nodes a b ha hb).place (at.nodes a' b' ha' hb').place feet) })
+    goes : (d : DaySoFar) (at : InSegments z r c done d) → InSegments z r c (l ∷ done) (record d { network = with_segment d.network (new_segment (cell l r c) (at.nodes a b ha hb).place (at.nodes a' b' ha' hb').place feet) })
     goes d at = record {
       nodes = at.nodes;
       segments = rw (map-append (λ (s : Segment). s.name) d.network.segments (new_segment (cell l r c) (at.nodes a b ha hb).place (at.nodes a' b' ha' hb').place feet ∷ [])) (grid_more 101 z z l r c done (segment_names d.network.segments) hr hc at.segments);
@@ -76,7 +76,7 @@ segment_leads z r c l a b a' b' feet done small hr hc good plain free short (ha,
     }
 
 -- letters that are passed over
-passes : (z r c : ℕ) (done more : List ℕ) (d : Draft) → (IsIn 101 more → c < z → IsIn 101 done) → ((l : ℕ) → IsIn l done → IsIn l more) → length done ≤ length more → InSegments z r c done d → InSegments z r c more d
+passes : (z r c : ℕ) (done more : List ℕ) (d : DaySoFar) → (IsIn 101 more → c < z → IsIn 101 done) → ((l : ℕ) → IsIn l done → IsIn l more) → length done ≤ length more → InSegments z r c done d → InSegments z r c more d
 passes z r c done more d back ahead longer at = record {
   nodes = at.nodes;
   segments = grid_wider 101 z z r c done more (segment_names d.network.segments) back ahead at.segments;
@@ -138,7 +138,7 @@ joined_leads z r c small hr hc =
     (leads_then (InSegments z r c []) (InSegments z r c (119 ∷ 101 ∷ [])) (InSegments z r c (117 ∷ 115 ∷ 119 ∷ 101 ∷ [])) (when (nat_lt c z) (eastward r c)) (when (nat_lt r z) (southward r c)) (eastward_leads z r c small hr hc) (southward_leads z r c small hr hc))
     (λ d at. next d at)
   where
-    next : (d : Draft) → InSegments z r c (117 ∷ 115 ∷ 119 ∷ 101 ∷ []) d → InSegments z r (c + 1) [] d
+    next : (d : DaySoFar) → InSegments z r c (117 ∷ 115 ∷ 119 ∷ 101 ∷ []) d → InSegments z r (c + 1) [] d
     next d at = record {
       nodes = at.nodes;
       segments = grid_column 101 z z r c (117 ∷ 115 ∷ 119 ∷ 101 ∷ []) (segment_names d.network.segments) (λ h. inr (inr (inr (inl refl)))) at.segments;
@@ -149,7 +149,7 @@ joined_leads z r c small hr hc =
       orders = at.orders;
     }
 
-next_row : (z r : ℕ) (d : Draft) → InSegments z r (z + 1) [] d → InSegments z (r + 1) 0 [] d
+next_row : (z r : ℕ) (d : DaySoFar) → InSegments z r (z + 1) [] d → InSegments z (r + 1) 0 [] d
 next_row z r d at = record {
   nodes = at.nodes;
   segments = grid_row 101 z z r (z + 1) (segment_names d.network.segments) (omega arith) at.segments;

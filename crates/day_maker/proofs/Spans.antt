@@ -15,7 +15,7 @@ use Rattle.day_maker.specs.Making.{◌>>=◌, draw, each, put}
 use Rattle.day_maker.specs.Made.{east_name, span, span_name, spans}
 use Rattle.day_maker.specs.Texts.{row}
 use Rattle.day_maker.proofs.Grids.{Grid, IsMade, all_last, all_map, grid_column, grid_fresh, grid_more, grid_none, grid_row, place_passed, row_passed}
-use Rattle.day_maker.proofs.Judge.{Draft, open_day}
+use Rattle.day_maker.proofs.Judge.{DaySoFar, open_day}
 use Rattle.day_maker.proofs.Leading.{Leads, leads_draw, leads_each, leads_put, leads_weaker}
 use Rattle.day_maker.proofs.Leaves.{cell_injective, cell_ok, eq_false, le_true, lt_true, number_ok}
 use Rattle.day_maker.proofs.Named.{IsThere, one_name}
@@ -36,7 +36,7 @@ pub record IsElsewhere (z r c : ℕ) (names : List (List ℕ)) (t : Span) : Type
   pub left : column ≤ z
   pub made : IsMade 98 row column r c []
 
-pub record InSpans (z r c : ℕ) (d : Draft) : Type 0 where
+pub record InSpans (z r c : ℕ) (d : DaySoFar) : Type 0 where
   pub nodes : HasNodes z d.network.nodes
   pub east : HasEast z (segment_names d.network.segments)
   pub spans : Grid 98 0 z r c [] (span_names d.network.spans)
@@ -47,7 +47,7 @@ pub record InSpans (z r c : ℕ) (d : Draft) : Type 0 where
   pub orders : d.orders ≡ []
 
 -- where the segments are, no spans are yet
-pub spans_begin : (z : ℕ) (d : Draft) → InSegments z (z + 1) 0 [] d → InSpans z 0 0 d
+pub spans_begin : (z : ℕ) (d : DaySoFar) → InSegments z (z + 1) 0 [] d → InSpans z 0 0 d
 spans_begin z d at = record {
   nodes = at.nodes;
   east = λ i j hi hj. at.segments.known i j hj (inl (inl (omega arith)));
@@ -84,14 +84,14 @@ span_put z r c inches rating small hr hc some long light =
     (refl, (refl, (cell_plain 98 r c refl (omega arith) (omega arith), (cell_plain 101 r c refl (omega arith) (omega arith), (number_plain inches (omega arith), (number_plain rating (omega arith), (refl, (refl, (refl, tt)))))))))
     (λ d at. (record d { network = with_span d.network (record { name = span_name r c; segment = (at.east r c hr hc).place; inches = inches; rating = rating }) }, judges d at, goes d at))
   where
-    judges : (d : Draft) (at : InSpans z r c d) → judge_day (open_day d) (row (codes "span" ∷ span_name r c ∷ east_name r c ∷ decimal inches ∷ decimal rating ∷ [])) ≡ Ok (open_day (record d { network = with_span d.network (record { name = span_name r c; segment = (at.east r c hr hc).place; inches = inches; rating = rating }) }))
+    judges : (d : DaySoFar) (at : InSpans z r c d) → judge_day (open_day d) (row (codes "span" ∷ span_name r c ∷ east_name r c ∷ decimal inches ∷ decimal rating ∷ [])) ≡ Ok (open_day (record d { network = with_span d.network (record { name = span_name r c; segment = (at.east r c hr hc).place; inches = inches; rating = rating }) }))
     judges d at =
         let p : ℕ = (at.east r c hr hc).place in
         let fresh : has_name (span_name r c) (span_names d.network.spans) ≡ false = grid_fresh z 98 r c [] (span_names d.network.spans) small hr (omega arith) (λ k. k) at.spans in
         let alone : filter (λ (x : ℕ × Span). eqb x.1.segment p) (enumerate_from 0 d.network.spans) ≡ [] = none_on p d.network.spans 0 (all_map (IsElsewhere z r c (segment_names d.network.segments)) (λ (t : Span). t.segment ≢ p) (λ t e. apart z r c p (segment_names d.network.segments) t small hr (omega arith) (at.east r c hr hc).is e) d.network.spans at.elsewhere) in
         rw (cell_ok 98 r c refl (omega arith) (omega arith), cell_ok 101 r c refl (omega arith) (omega arith), number_ok inches (omega arith), number_ok rating (omega arith), fresh, (at.east r c hr hc).is, le_true 1 inches some, le_true inches 6000 long, le_true rating 100000 light, lt_true (length d.network.spans) 2048 (omega (arith, at.few, few_places z r c small hr (omega arith))), alone) refl
 
-    goes : (d : Draft) (at : InSpans z r c d) → InSpans z r (c + 1) (record d { network = with_span d.network (record { name = span_name r c; segment = (at.east r c hr hc).place; inches = inches; rating = rating }) })
+    goes : (d : DaySoFar) (at : InSpans z r c d) → InSpans z r (c + 1) (record d { network = with_span d.network (record { name = span_name r c; segment = (at.east r c hr hc).place; inches = inches; rating = rating }) })
     goes d at =
         let new : Span = record { name = span_name r c; segment = (at.east r c hr hc).place; inches = inches; rating = rating } in
         record {
@@ -114,7 +114,7 @@ span_leads z r c small hr hc =
     (λ i hi. leads_draw (InSpans z r c) (InSpans z r (c + 1)) 1500 (λ n. put (row (codes "span" ∷ span_name r c ∷ east_name r c ∷ decimal (240 + 12 * i) ∷ decimal (800 + n) ∷ []))) (omega arith)
     (λ n hn. span_put z r c (240 + 12 * i) (800 + n) small hr hc (omega arith) (omega arith) (omega arith)))
 
-next_row : (z r : ℕ) (d : Draft) → InSpans z r z d → InSpans z (r + 1) 0 d
+next_row : (z r : ℕ) (d : DaySoFar) → InSpans z r z d → InSpans z (r + 1) 0 d
 next_row z r d at = record {
   nodes = at.nodes;
   east = at.east;

@@ -1,37 +1,50 @@
--- The text of a record, piece by piece.
-use Rattle.std.proofs.Common.{◌≡◌, ◌∙◌, ◌<◌, ◌≤◌, ◌+◌, ◌-◌, ◌∷◌, ◌++◌, [], ℕ, zero, suc, List, length, replicate, refl, ap, sym, arith, append_assoc}
-use Rattle.std.specs.Prelude.{flat_map}
-use Rattle.std.proofs.lemmas.Grind.{flat_map-append}
+-- A record, field by field, and the text of axles.
+use Rattle.std.proofs.Common.{◌≡◌, ◌≢◌, ◌∙◌, ◌<◌, ◌≤◌, ◌+◌, ◌-◌, ◌∷◌, ◌++◌, [], ℕ, suc, List, Option, Some, false, length, replicate, ap, subst, sym, arith, append_assoc, refl}
+use Rattle.std.specs.Prelude.{Vec, flat_map}
+use Rattle.std.specs.Global.{Global}
+use Rattle.std.specs.Io.KnownBytes.{Appends}
+use Rattle.csv.specs.Writing.{default_writer, fields_written, has_written, row_text, text_written, writer_setup}
+use Rattle.csv.specs.declared.writer.QuoteStyle.TheVariants as style
+use Rattle.csv.specs.declared.writer.Writer.{Writer}
+use Rattle.csv.specs.declared.writer.WriterBuilder.{WriterBuilder}
 use Rattle.std.proofs.lemmas.List.{append-nil}
 use Rattle.axle_train.specs.declared.axle.Axle.{Axle}
 use Rattle.record_text.specs.Records.{Row}
 use Rattle.day_maker.specs.Made.{axle_text, axles_text}
-use Rattle.day_maker.specs.Texts.{line, row}
+use Rattle.day_maker.specs.Making.{put}
+use Rattle.day_maker.specs.Texts.{PageParts, after, line, row}
+use Rattle.day_maker.specs.Writers.{IsReady, written}
 
--- one comma more
-pub blanks_more : (out new all : List ℕ) (i n : ℕ) → i < n → out ++ replicate (n - i) 44 ≡ all → new ≡ out ++ (44 ∷ []) → new ++ replicate (n - (i + 1)) 44 ≡ all
-blanks_more out new all i n h same is =
+text_grows : (o : Option (Writer (Vec ℕ Global))) (old new : Writer (Vec ℕ Global)) (made fields : Row) → o ≡ Some old → IsReady old → made ≡ fields
+    → Appends (text_written (λ v. Some v.items) old) (text_written (λ v. Some v.items) new) (row_text (writer_setup old) made) → written (Some new) ≡ written o ++ (line fields ++ [])
+unfolding line
+text_grows o old new made fields there ready same wrote =
+    rw (there, append-nil) (wrote ∙ ap (λ (t : List ℕ). written (Some old) ++ t) (ap (λ (s : WriterBuilder). row_text s made) ready.setup ∙ ap (row_text default_writer) same))
+
+-- one field more, of those that are left
+pub blanks_more : (fields new all : Row) (i n : ℕ) → i < n → fields ++ replicate (n - i) [] ≡ all → new ≡ fields ++ ([] ∷ []) → new ++ replicate (n - (i + 1)) [] ≡ all
+blanks_more fields new all i n h same is =
     let e : n - i ≡ suc (n - (i + 1)) = omega arith in
-    rw is (append_assoc out (44 ∷ []) (replicate (n - (i + 1)) 44) ∙ (rw e at same))
+    rw is (append_assoc fields ([] ∷ []) (replicate (n - (i + 1)) []) ∙ (rw e at same))
 
-pub blanks_end : (out all : List ℕ) (i n : ℕ) → n ≤ i → out ++ replicate (n - i) 44 ≡ all → out ≡ all
-blanks_end out all i n h same = let e : n - i ≡ 0 = omega arith in sym (append-nil out) ∙ (rw e at same)
+-- and none is left
+pub blanks_end : (fields all : Row) (i n : ℕ) → n ≤ i → fields ++ replicate (n - i) [] ≡ all → fields ≡ all
+blanks_end fields all i n h same = let e : n - i ≡ 0 = omega arith in sym (append-nil fields) ∙ (rw e at same)
 
--- empty fields are commas
-blanks_are : (n : ℕ) → flat_map (λ (f : List ℕ). 44 ∷ f) (replicate n []) ≡ replicate n 44
-blanks_are zero = refl
-blanks_are (suc n) = ap (λ (t : List ℕ). 44 ∷ t) (blanks_are n)
-
-five : (a b c d e : List ℕ) → (((a ++ b) ++ c) ++ d) ++ e ≡ a ++ (b ++ ((c ++ d) ++ e))
-five a b c d e = simp append_assoc
-
--- a record
-pub record_adds : (old a b c new kind : List ℕ) (fields : Row) (n : ℕ) → n ≡ length fields → n ≤ 7 → a ≡ old ++ kind → b ≡ a ++ flat_map (λ f. 44 ∷ f) fields → c ≡ b ++ replicate (7 - n) 44 → new ≡ c ++ (10 ∷ []) → new ≡ old ++ line (row (kind ∷ fields))
-record_adds old a b c new kind fields n same few h i j k =
+-- behind the kind and its fields
+pub blanks_begin : (kind : List ℕ) (fields new : Row) (n : ℕ) → n ≡ length fields → new ≡ kind ∷ fields → new ++ replicate (7 - n) [] ≡ row (kind ∷ fields)
+blanks_begin kind fields new n same is =
     let count : 8 - suc (length fields) ≡ 7 - n = omega arith in
-    let all : flat_map (λ (f : List ℕ). 44 ∷ f) (fields ++ replicate (7 - n) []) ≡ flat_map (λ f. 44 ∷ f) fields ++ replicate (7 - n) 44 =
-    flat_map-append (λ (f : List ℕ). 44 ∷ f) fields (replicate (7 - n) []) ∙ ap (λ (t : List ℕ). flat_map (λ f. 44 ∷ f) fields ++ t) (blanks_are (7 - n)) in
-    rw (count, all, k, j, i, h) (five old kind (flat_map (λ f. 44 ∷ f) fields) (replicate (7 - n) 44) (10 ∷ []))
+    rw (is, count) refl
+
+-- the page after a record was written
+pub page_grows : (page : PageParts) (o : Option (Writer (Vec ℕ Global))) (old new : Writer (Vec ℕ Global)) (number : ℕ) (made fields : Row) → record { text = written o; number = number } ≡ page → o ≡ Some old → IsReady old → made ≡ fields
+    → (fields_written old ≡ 0 → has_written old ≡ false → ((writer_setup old).style ≢ style.NonNumeric) → Appends (text_written (λ v. Some v.items) old) (text_written (λ v. Some v.items) new) (row_text (writer_setup old) made))
+    → record { text = written (Some new); number = number } ≡ after (put fields) page
+page_grows page o old new number made fields is there ready same wrote =
+    let P : PageParts → Type 0 = λ p. record { text = written (Some new); number = number } ≡ after (put fields) p in
+    let with_text : List ℕ → PageParts = λ t. record { text = t; number = number } in
+    subst P is (ap with_text (text_grows o old new made fields there ready same (wrote ready.fields ready.blank (λ e. absurd (cc (ap (λ (s : WriterBuilder). s.style) ready.setup))))))
 
 -- the axles behind the first
 pub axles_add : (old a new : List ℕ) (axles more : List Axle) (first : Axle) → axles ≡ first ∷ more → a ≡ old ++ axle_text first → new ≡ a ++ flat_map (λ b. 32 ∷ axle_text b) more → new ≡ old ++ axles_text axles

@@ -1,5 +1,6 @@
 -- The text of records, and a page that grows by what is made.
-use Rattle.std.specs.Prelude.{ℕ, ◌-◌, List, [], ◌∷◌, ◌++◌, length, replicate, flat_map}
+use Rattle.std.specs.Prelude.{ℕ, ◌-◌, List, [], ◌++◌, length, replicate, flat_map}
+use Rattle.csv.specs.Writing.{default_writer, row_text}
 use Rattle.record_text.specs.Records.{Row}
 use Rattle.day_maker.specs.Making.{Maker}
 
@@ -7,10 +8,10 @@ use Rattle.day_maker.specs.Making.{Maker}
 abbrev pub row : Row → Row
 row fields = fields ++ replicate (8 - length fields) []
 
--- the text of a record: its fields with a comma between them, and a line feed
-abbrev pub line : Row → List ℕ
-line [] = 10 ∷ []
-line (kind ∷ fields) = kind ++ (flat_map (λ f. 44 ∷ f) fields ++ (10 ∷ []))
+-- the text of a record, as RFC 4180 has it: its fields with a comma between them, in quotes where one calls for them, and a
+-- line feed
+unfoldable pub line : Row → List ℕ
+line fields = row_text default_writer fields
 
 -- a text, and the number from which the next draw is made
 pub record PageParts : Type 0 where

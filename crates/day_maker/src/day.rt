@@ -20,8 +20,8 @@ pub fn make_day(alloc: Global, seed: u32, size: u32) -> Result<Vec<u8>, NoMemory
     ensures { IfOk result (λ text. text.items ≡ made_day seed size) }
 {
     let mut page = Page::new(alloc, seed);
-    match put_day(&mut page, alloc, size) {
-        Ok(()) => Ok(page.into_text()),
+    match put_day(&mut page, size) {
+        Ok(()) => Ok(page.into_text()?),
         Err(_) => {
             drop(page);
             Err(NoMemory)
@@ -30,7 +30,7 @@ pub fn make_day(alloc: Global, seed: u32, size: u32) -> Result<Vec<u8>, NoMemory
 }
 
 // The whole file.
-fn put_day(page: &mut Page, alloc: Global, size: u32) -> Result<(), AllocError>
+fn put_day(page: &mut Page, size: u32) -> Result<(), AllocError>
     requires some { 1 ≤ size }
     requires small { size ≤ 40 }
     ensures { OnOk result (page.new ≡ after (day_maker size) page.old) }
@@ -39,7 +39,7 @@ fn put_day(page: &mut Page, alloc: Global, size: u32) -> Result<(), AllocError>
     put_nodes(page, size)?;
     put_segments(page, size)?;
     put_spans(page, size)?;
-    put_trucks(page, alloc)?;
+    put_trucks(page)?;
     put_actors(page)?;
     put_commands(page, size)?;
     page.put("end", &[])?;

@@ -1,27 +1,35 @@
 // A page to which records are added, and from which numbers are drawn.
 
-ghost use Rattle.std.specs.Prelude.{◌≡◌, ◌<◌, ◌≤◌, ◌%◌, ◌∷◌, ◌++◌, flat_map, length, map, replicate, OnOk};
+ghost use Rattle.std.specs.Prelude.{◌≡◌, ◌<◌, ◌≤◌, ◌%◌, ◌∷◌, length, map, OnOk, IfOk};
+ghost use Rattle.csv.specs.Records.{fields_of};
 ghost use Rattle.day_maker.specs.Fields.{field_text};
 ghost use Rattle.day_maker.specs.Making.{drawn, put};
-ghost use Rattle.day_maker.specs.Texts.{after, line, row};
+ghost use Rattle.day_maker.specs.Texts.{after, row};
 
 use crate::field::{Field, write_field};
+use csv::{ByteRecord, Writer};
 use std::alloc::{AllocError, Global};
 use std::marker::Model;
 
-/// The records so far as text, and the number from which the next draw is made.
+/// The records so far, and the number from which the next draw is made. A writer whose record failed is let go, since how it
+/// stands is not told.
 #[derive(Drop)]
 pub(crate) struct Page {
-    text: Vec<u8>,
+    alloc: Global,
+    writer: Option<Writer<Vec<u8>>>,
     number: u32,
 }
 
 impl Model for Page {
+    ghost use Rattle.std.specs.Option.{ForSome};
     ghost use Rattle.day_maker.specs.Texts.{PageParts};
+    ghost use Rattle.day_maker.specs.Writers.{IsReady, written};
 
     ghost Value = { PageParts };
 
-    ghost view = { λ a. record { text = a.text.items; number = a.number } };
+    ghost view = { λ a. record { text = written a.writer; number = a.number } };
+
+    ghost invariant = { λ a. ForSome a.writer (λ w. IsReady w) };
 }
 
 impl Page {
@@ -32,9 +40,15 @@ impl Page {
         ensures { result ≡ record { text = []; number = seed } }
     {
         Page {
-            text: Vec::new(alloc),
+            alloc,
+            writer: Some(Writer::from_writer(Vec::new(alloc))),
             number: seed,
         }
+    }
+
+    /// Where what is made takes its memory.
+    pub(crate) fn alloc(&self) -> Global {
+        self.alloc
     }
 
     /// A number below `below`.
@@ -53,49 +67,45 @@ impl Page {
         requires { length fields.now ≤ 7 }
         ensures { OnOk result (self.new ≡ after (put (row (kind.now ∷ map field_text fields.now))) self.old) }
     {
-        write_record(&mut self.text, kind, fields)
+        let record = record_of(self.alloc, kind, fields)?;
+        let Some(mut writer) = self.writer.take() else {
+            return Err(AllocError);
+        };
+        match writer.write_byte_record(&record) {
+            Ok(()) => {
+                self.writer = Some(writer);
+                Ok(())
+            }
+            Err(_) => Err(AllocError),
+        }
     }
 
     /// The text.
-    pub(crate) fn into_text(self) -> Vec<u8>
-        ensures { result.items ≡ self.text }
+    pub(crate) fn into_text(self) -> Result<Vec<u8>, AllocError>
+        ensures { IfOk result (λ text. text.items ≡ self.text) }
     {
-        self.text
+        match self.writer {
+            Some(writer) => writer.into_inner().map_err(|_| AllocError),
+            None => Err(AllocError),
+        }
     }
 }
 
-// One record.
-#[tactic(auto, using(crate::proofs::Writing::record_adds))]
-fn write_record(out: &mut Vec<u8>, kind: &str, fields: &[Field]) -> Result<(), AllocError>
+// The record of these fields, with empty ones behind them to make eight.
+fn record_of(alloc: Global, kind: &str, fields: &[Field]) -> Result<ByteRecord, AllocError>
     requires { length fields.now ≤ 7 }
-    ensures { OnOk result
-        (out.new.items ≡ out.old.items ++ line (row (kind.now ∷ map field_text fields.now))) }
+    ensures { IfOk result (λ made. fields_of made ≡ row (kind.now ∷ map field_text fields.now)) }
 {
-    out.extend_from_slice(kind.as_bytes())?;
-    write_fields(out, fields)?;
-    write_blanks(out, 7 - fields.len())?;
-    out.push(b'\n')?;
-    Ok(())
-}
-
-// Fields, each behind a comma.
-fn write_fields(out: &mut Vec<u8>, fields: &[Field]) -> Result<(), AllocError>
-    ensures { OnOk result
-        (out.new.items ≡ out.old.items ++ flat_map (λ f. 44 ∷ f) (map field_text fields.now)) }
-{
+    let mut made = ByteRecord::new(alloc);
+    made.push_field(kind.as_bytes())?;
+    let mut text = Vec::new(alloc);
     'fields: for field in fields {
-        out.push(b',')?;
-        write_field(out, field)?;
+        text.clear();
+        write_field(&mut text, field)?;
+        made.push_field(text.as_slice())?;
     }
-    Ok(())
-}
-
-// So many empty fields, each behind a comma.
-fn write_blanks(out: &mut Vec<u8>, count: usize) -> Result<(), AllocError>
-    ensures { OnOk result (out.new.items ≡ out.old.items ++ replicate count 44) }
-{
-    'blanks: for _ in 0..count {
-        out.push(b',')?;
+    'blanks: for _ in fields.len()..7 {
+        made.push_field(b"")?;
     }
-    Ok(())
+    Ok(made)
 }

@@ -7,14 +7,14 @@ ghost use Rattle.day_maker.specs.Texts.{after};
 use crate::field::Field;
 use crate::page::Page;
 use axle_train::Axle;
-use std::alloc::{AllocError, Global};
+use std::alloc::AllocError;
 
 /// The four trucks.
-pub(crate) fn put_trucks(page: &mut Page, alloc: Global) -> Result<(), AllocError>
+pub(crate) fn put_trucks(page: &mut Page) -> Result<(), AllocError>
     ensures { OnOk result (page.new ≡ after trucks page.old) }
 {
     'trucks: for t in 1..5 {
-        put_truck(page, alloc, t)?;
+        put_truck(page, t)?;
     }
     Ok(())
 }
@@ -45,13 +45,13 @@ pub(crate) fn put_commands(page: &mut Page, size: u32) -> Result<(), AllocError>
 
 // A truck.
 #[tactic(auto, unfolding(crate::specs::Made::truck))]
-fn put_truck(page: &mut Page, alloc: Global, t: u32) -> Result<(), AllocError>
+fn put_truck(page: &mut Page, t: u32) -> Result<(), AllocError>
     ensures { OnOk result (page.new ≡ after (truck t) page.old) }
 {
     let height = 160 + page.draw(20);
     let width = 100 + page.draw(60);
     let more = 4 + page.draw(4);
-    let train = draw_axles(page, alloc, more)?;
+    let train = draw_axles(page, more)?;
     page.put(
         "truck",
         &[
@@ -67,12 +67,12 @@ fn put_truck(page: &mut Page, alloc: Global, t: u32) -> Result<(), AllocError>
 
 // The first axle, and so many behind it, each of a drawn weight.
 #[tactic(auto, unfolding(crate::specs::Made::axles))]
-fn draw_axles(page: &mut Page, alloc: Global, more: u32) -> Result<Vec<Axle>, AllocError>
+fn draw_axles(page: &mut Page, more: u32) -> Result<Vec<Axle>, AllocError>
     requires { more ≤ 7 }
     ensures train { IfOk result (λ train. train.items ≡ (axles more page.old.number).0) }
     ensures next { OnOk result (page.new ≡ record page.old { number = (axles more page.old.number).1 }) }
 {
-    let mut train = Vec::with_capacity(alloc, 8)?;
+    let mut train = Vec::with_capacity(page.alloc(), 8)?;
     train.push(Axle {
         place: 0,
         weight: 12000,
@@ -136,5 +136,6 @@ fn put_application(page: &mut Page, size: u32) -> Result<(), AllocError>
             Field::Word("2026-01-01"),
             Field::Word("2026-12-31"),
         ],
-    )
+    )?;
+    Ok(())
 }

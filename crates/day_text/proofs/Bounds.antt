@@ -39,8 +39,8 @@ use Rattle.restriction_log.specs.Changes.{takes}
 use Rattle.office_words.specs.declared.entry.Command.{Command}
 use Rattle.office_words.specs.declared.entry.Command.TheVariants as command
 use Rattle.record_text.specs.Causes.{demand, limit, or_bad}
-use Rattle.record_text.specs.Fields.{day_of as day_field_of, day_or_none, field_of, name_of, number_of, posted_of, route_of, what_of}
-use Rattle.record_text.specs.Records.{Row, is_blank_from, judged, rows_of}
+use Rattle.record_text.specs.Fields.{day_of as day_field_of, day_or_none, field_of, number_of, posted_of, route_of, what_of}
+use Rattle.record_text.specs.Records.{Row, day_in, has_only, judged, name_in, number_in, rows_of}
 use Rattle.record_text.specs.declared.posted.Posted.{Posted}
 use Rattle.record_text.specs.declared.posted.Posted.TheVariants as posted
 use Rattle.record_text.specs.declared.refusal.Cause.{Cause}
@@ -56,7 +56,7 @@ use Rattle.day_text.specs.Roads.{limit_of, node_of, roads_of, segment_of, span_o
 use Rattle.day_text.specs.Trucks.{load_of, truck_fields_of}
 use Rattle.day_text.specs.Trucks.{unless_refused as unless_train_refused}
 use Rattle.day_text.specs.declared.commands.ApplyFields.{ApplyFields}
-use Rattle.day_text.specs.declared.draft.Draft.{Draft}
+use Rattle.day_text.specs.declared.day_so_far.DaySoFar.{DaySoFar}
 use Rattle.day_text.specs.declared.kind.CommandKind.{CommandKind}
 use Rattle.day_text.specs.declared.kind.CommandKind.TheVariants as ordered
 use Rattle.day_text.specs.declared.kind.RecordKind.{RecordKind}
@@ -105,8 +105,8 @@ named_within name names i e = (position-Some (bytes_eq name) names i name e).0
 node_gives : (roads : Roads) (fields : Row) → IsRoads roads → Gives IsRoads (node_of roads fields)
 unfolding node_of
 node_gives roads fields h =
-    then_gives {r = demand (is_blank_from 2 fields) bad.Extra} (λ rest _.
-    then_gives {r = or_bad (bad.Field 2) (name_of (field_of fields 1))} (λ name _.
+    then_gives {r = has_only 2 fields} (λ rest _.
+    then_gives {r = name_in 2 fields} (λ name _.
     then_gives {r = demand (not (has_name name roads.nodes)) bad.Same} (λ a new.
     then_gives {r = limit (nat_lt (length roads.nodes) 4096) kind.Nodes} (λ b few.
     gives IsRoads (with_node roads name) (roads-node roads name h (ltb-true _ _ (was_within _ kind.Nodes b few)) (not-true _ (was_demanded _ bad.Same a new)))))))
@@ -117,11 +117,11 @@ defaults = record { height = refl; width = refl; length = refl; gross = refl; al
 segment_gives : (roads : Roads) (fields : Row) → IsRoads roads → Gives IsRoads (segment_of roads fields)
 unfolding segment_of
 segment_gives roads fields h =
-    then_gives {r = demand (is_blank_from 5 fields) bad.Extra} (λ rest _.
-    then_gives {r = or_bad (bad.Field 2) (name_of (field_of fields 1))} (λ name _.
-    then_gives {r = or_bad (bad.Field 3) (name_of (field_of fields 2))} (λ from _.
-    then_gives {r = or_bad (bad.Field 4) (name_of (field_of fields 3))} (λ to _.
-    then_gives {r = or_bad (bad.Field 5) (number_of (field_of fields 4))} (λ feet _.
+    then_gives {r = has_only 5 fields} (λ rest _.
+    then_gives {r = name_in 2 fields} (λ name _.
+    then_gives {r = name_in 3 fields} (λ from _.
+    then_gives {r = name_in 4 fields} (λ to _.
+    then_gives {r = number_in 5 fields} (λ feet _.
     then_gives {r = demand (not (has_name name (segment_names roads.segments))) bad.Same} (λ a new.
     then_gives {r = or_bad (bad.Unknown 3) (number_named from roads.nodes)} (λ i begins.
     then_gives {r = or_bad (bad.Unknown 4) (number_named to roads.nodes)} (λ j ends.
@@ -149,10 +149,10 @@ span_there roads name i e =
 limit_gives : (roads : Roads) (fields : Row) → IsRoads roads → Gives IsRoads (limit_of roads fields)
 unfolding limit_of
 limit_gives roads fields h =
-    then_gives {r = demand (is_blank_from 4 fields) bad.Extra} (λ rest _.
-    then_gives {r = or_bad (bad.Field 2) (name_of (field_of fields 1))} (λ name _.
+    then_gives {r = has_only 4 fields} (λ rest _.
+    then_gives {r = name_in 2 fields} (λ name _.
     then_gives {r = or_bad (bad.Field 3) (what_of (field_of fields 2))} (λ what _.
-    then_gives {r = or_bad (bad.Field 4) (number_of (field_of fields 3))} (λ value _.
+    then_gives {r = number_in 4 fields} (λ value _.
     then_gives {r = or_bad (bad.Unknown 2) (number_named name (segment_names roads.segments))} (λ i known.
     then_gives {r = demand (is_limit what value) (bad.Range 4)} (λ a within.
     let there = segment_there roads name i (found_some (bad.Unknown 2) (number_named name (segment_names roads.segments)) i known) in
@@ -161,11 +161,11 @@ limit_gives roads fields h =
 span_gives : (roads : Roads) (fields : Row) → IsRoads roads → Gives IsRoads (span_of roads fields)
 unfolding span_of
 span_gives roads fields h =
-    then_gives {r = demand (is_blank_from 5 fields) bad.Extra} (λ rest _.
-    then_gives {r = or_bad (bad.Field 2) (name_of (field_of fields 1))} (λ name _.
-    then_gives {r = or_bad (bad.Field 3) (name_of (field_of fields 2))} (λ segment _.
-    then_gives {r = or_bad (bad.Field 4) (number_of (field_of fields 3))} (λ inches _.
-    then_gives {r = or_bad (bad.Field 5) (number_of (field_of fields 4))} (λ rating _.
+    then_gives {r = has_only 5 fields} (λ rest _.
+    then_gives {r = name_in 2 fields} (λ name _.
+    then_gives {r = name_in 3 fields} (λ segment _.
+    then_gives {r = number_in 4 fields} (λ inches _.
+    then_gives {r = number_in 5 fields} (λ rating _.
     then_gives {r = demand (not (has_name name (span_names roads.spans))) bad.Same} (λ a new.
     then_gives {r = or_bad (bad.Unknown 3) (number_named segment (segment_names roads.segments))} (λ i known.
     then_gives {r = demand (is_inches inches) (bad.Range 4)} (λ b long.
@@ -248,13 +248,13 @@ HasDays f = IsMaybeDay f.first × IsMaybeDay f.last
 fields_give : (fields : Row) → Gives HasDays (apply_fields_of fields)
 unfolding apply_fields_of
 fields_give fields =
-    then_gives {r = or_bad (bad.Field 2) (name_of (field_of fields 1))} (λ actor _.
-    then_gives {r = or_bad (bad.Field 3) (name_of (field_of fields 2))} (λ truck _.
-    then_gives {r = or_bad (bad.Field 4) (name_of (field_of fields 3))} (λ from _.
-    then_gives {r = or_bad (bad.Field 5) (name_of (field_of fields 4))} (λ to _.
+    then_gives {r = name_in 2 fields} (λ actor _.
+    then_gives {r = name_in 3 fields} (λ truck _.
+    then_gives {r = name_in 4 fields} (λ from _.
+    then_gives {r = name_in 5 fields} (λ to _.
     then_gives {r = or_bad (bad.Field 6) (route_of (field_of fields 5))} (λ route _.
-    then_gives {r = or_bad (bad.Field 7) (day_field_of (field_of fields 6))} (λ first a.
-    then_gives {r = or_bad (bad.Field 8) (day_field_of (field_of fields 7))} (λ last b.
+    then_gives {r = day_in 7 fields} (λ first a.
+    then_gives {r = day_in 8 fields} (λ last b.
     gives HasDays (record { actor = actor; truck = truck; from = from; to = to; route = route; first = first; last = last })
     (maybe_day (field_of fields 6) first (found_some (bad.Field 7) _ first a), maybe_day (field_of fields 7) last (found_some (bad.Field 8) _ last b)))))))))
 
@@ -265,7 +265,7 @@ taken : (a application : Application) (o : Option ApplicationRefusal) → unless
 taken a application None e = cc
 taken a application (Some refusal) e = cc
 
-resolved_gives : (d : Draft) (f : ApplyFields) → HasDays f → Gives (IsGiven d.network) (resolved_of d f)
+resolved_gives : (d : DaySoFar) (f : ApplyFields) → HasDays f → Gives (IsGiven d.network) (resolved_of d f)
 unfolding resolved_of
 resolved_gives d f h =
     then_gives {r = or_bad (bad.Unknown 2) (number_named f.actor d.actors)} (λ actor _.
@@ -304,24 +304,24 @@ posting_gives roads posted.Rating item value =
     gives (λ change. takes roads change ≡ true) (change.Rating i value)
     (rw (lt-ltb _ _ (span_there roads item i (found_some (bad.Unknown 3) _ i known))) (was_demanded (is_rating value) (bad.Range 5) a within))))
 
-post_gives : (d : Draft) (fields : Row) → Gives (IsGiven d.network) (post_of d fields)
+post_gives : (d : DaySoFar) (fields : Row) → Gives (IsGiven d.network) (post_of d fields)
 unfolding post_of
 post_gives d fields =
-    then_gives {r = demand (is_blank_from 5 fields) bad.Extra} (λ rest _.
-    then_gives {r = or_bad (bad.Field 2) (name_of (field_of fields 1))} (λ name _.
-    then_gives {r = or_bad (bad.Field 3) (name_of (field_of fields 2))} (λ item _.
+    then_gives {r = has_only 5 fields} (λ rest _.
+    then_gives {r = name_in 2 fields} (λ name _.
+    then_gives {r = name_in 3 fields} (λ item _.
     then_gives {r = or_bad (bad.Field 4) (posted_of (field_of fields 3))} (λ what _.
-    then_gives {r = or_bad (bad.Field 5) (number_of (field_of fields 4))} (λ value _.
+    then_gives {r = number_in 5 fields} (λ value _.
     then_gives {r = or_bad (bad.Unknown 2) (number_named name d.actors)} (λ actor _.
     then_gives {r = posting_of d.network what item value} (λ posting e.
     gives (IsGiven d.network) (record { actor = actor; command = command.Post posting }) ((posting_gives d.network what item value).ok posting e))))))))
 
-set_day_gives : (d : Draft) (fields : Row) → Gives (IsGiven d.network) (set_day_of d fields)
+set_day_gives : (d : DaySoFar) (fields : Row) → Gives (IsGiven d.network) (set_day_of d fields)
 unfolding set_day_of
 set_day_gives d fields =
-    then_gives {r = demand (is_blank_from 3 fields) bad.Extra} (λ rest _.
-    then_gives {r = or_bad (bad.Field 2) (name_of (field_of fields 1))} (λ name _.
-    then_gives {r = or_bad (bad.Field 3) (day_field_of (field_of fields 2))} (λ text text_is.
+    then_gives {r = has_only 3 fields} (λ rest _.
+    then_gives {r = name_in 2 fields} (λ name _.
+    then_gives {r = day_in 3 fields} (λ text text_is.
     then_gives {r = or_bad (bad.Unknown 2) (number_named name d.actors)} (λ actor _.
     then_gives {r = or_bad (bad.Range 3) text} (λ day day_is.
     gives (IsGiven d.network) (record { actor = actor; command = command.Day day })
@@ -330,16 +330,16 @@ set_day_gives d fields =
 abbrev IsSmall : ℕ × ℕ → Type 0
 IsSmall x = x.1 ≤ 999999999
 
-permit_gives : (d : Draft) (fields : Row) → Gives IsSmall (permit_of d fields)
+permit_gives : (d : DaySoFar) (fields : Row) → Gives IsSmall (permit_of d fields)
 unfolding permit_of
 permit_gives d fields =
-    then_gives {r = demand (is_blank_from 3 fields) bad.Extra} (λ rest _.
-    then_gives {r = or_bad (bad.Field 2) (name_of (field_of fields 1))} (λ name _.
-    then_gives {r = or_bad (bad.Field 3) (number_of (field_of fields 2))} (λ number number_is.
+    then_gives {r = has_only 3 fields} (λ rest _.
+    then_gives {r = name_in 2 fields} (λ name _.
+    then_gives {r = number_in 3 fields} (λ number number_is.
     then_gives {r = or_bad (bad.Unknown 2) (number_named name d.actors)} (λ actor _.
     gives IsSmall (actor, number) (number_fits (field_of fields 2) number (found_some (bad.Field 3) _ number number_is))))))
 
-order_gives : (d : Draft) (kind : CommandKind) (fields : Row) → Gives (IsGiven d.network) (order_of d kind fields)
+order_gives : (d : DaySoFar) (kind : CommandKind) (fields : Row) → Gives (IsGiven d.network) (order_of d kind fields)
 order_gives d ordered.Apply fields = then_gives {r = apply_fields_of fields} (λ f e. resolved_gives d f ((fields_give fields).ok f e))
 order_gives d ordered.Post fields = post_gives d fields
 order_gives d ordered.SetDay fields = set_day_gives d fields
@@ -376,8 +376,8 @@ still_within old new more (command.Show number) h = h
 node_more : (roads : Roads) (fields : Row) → Gives (HasMore roads) (node_of roads fields)
 unfolding node_of
 node_more roads fields =
-    then_gives {r = demand (is_blank_from 2 fields) bad.Extra} (λ rest _.
-    then_gives {r = or_bad (bad.Field 2) (name_of (field_of fields 1))} (λ name _.
+    then_gives {r = has_only 2 fields} (λ rest _.
+    then_gives {r = name_in 2 fields} (λ name _.
     then_gives {r = demand (not (has_name name roads.nodes)) bad.Same} (λ a _.
     then_gives {r = limit (nat_lt (length roads.nodes) 4096) kind.Nodes} (λ b _.
     gives (HasMore roads) (with_node roads name) (record { segments = omega arith; spans = omega arith })))))
@@ -385,11 +385,11 @@ node_more roads fields =
 segment_more : (roads : Roads) (fields : Row) → Gives (HasMore roads) (segment_of roads fields)
 unfolding segment_of
 segment_more roads fields =
-    then_gives {r = demand (is_blank_from 5 fields) bad.Extra} (λ rest _.
-    then_gives {r = or_bad (bad.Field 2) (name_of (field_of fields 1))} (λ name _.
-    then_gives {r = or_bad (bad.Field 3) (name_of (field_of fields 2))} (λ from _.
-    then_gives {r = or_bad (bad.Field 4) (name_of (field_of fields 3))} (λ to _.
-    then_gives {r = or_bad (bad.Field 5) (number_of (field_of fields 4))} (λ feet _.
+    then_gives {r = has_only 5 fields} (λ rest _.
+    then_gives {r = name_in 2 fields} (λ name _.
+    then_gives {r = name_in 3 fields} (λ from _.
+    then_gives {r = name_in 4 fields} (λ to _.
+    then_gives {r = number_in 5 fields} (λ feet _.
     then_gives {r = demand (not (has_name name (segment_names roads.segments))) bad.Same} (λ a _.
     then_gives {r = or_bad (bad.Unknown 3) (number_named from roads.nodes)} (λ i _.
     then_gives {r = or_bad (bad.Unknown 4) (number_named to roads.nodes)} (λ j _.
@@ -401,10 +401,10 @@ segment_more roads fields =
 limit_more : (roads : Roads) (fields : Row) → Gives (HasMore roads) (limit_of roads fields)
 unfolding limit_of
 limit_more roads fields =
-    then_gives {r = demand (is_blank_from 4 fields) bad.Extra} (λ rest _.
-    then_gives {r = or_bad (bad.Field 2) (name_of (field_of fields 1))} (λ name _.
+    then_gives {r = has_only 4 fields} (λ rest _.
+    then_gives {r = name_in 2 fields} (λ name _.
     then_gives {r = or_bad (bad.Field 3) (what_of (field_of fields 2))} (λ what _.
-    then_gives {r = or_bad (bad.Field 4) (number_of (field_of fields 3))} (λ value _.
+    then_gives {r = number_in 4 fields} (λ value _.
     then_gives {r = or_bad (bad.Unknown 2) (number_named name (segment_names roads.segments))} (λ i _.
     then_gives {r = demand (is_limit what value) (bad.Range 4)} (λ a _.
     gives (HasMore roads) (with_limit roads i what value) (record {
@@ -415,11 +415,11 @@ limit_more roads fields =
 span_more : (roads : Roads) (fields : Row) → Gives (HasMore roads) (span_of roads fields)
 unfolding span_of
 span_more roads fields =
-    then_gives {r = demand (is_blank_from 5 fields) bad.Extra} (λ rest _.
-    then_gives {r = or_bad (bad.Field 2) (name_of (field_of fields 1))} (λ name _.
-    then_gives {r = or_bad (bad.Field 3) (name_of (field_of fields 2))} (λ segment _.
-    then_gives {r = or_bad (bad.Field 4) (number_of (field_of fields 3))} (λ inches _.
-    then_gives {r = or_bad (bad.Field 5) (number_of (field_of fields 4))} (λ rating _.
+    then_gives {r = has_only 5 fields} (λ rest _.
+    then_gives {r = name_in 2 fields} (λ name _.
+    then_gives {r = name_in 3 fields} (λ segment _.
+    then_gives {r = number_in 4 fields} (λ inches _.
+    then_gives {r = number_in 5 fields} (λ rating _.
     then_gives {r = demand (not (has_name name (span_names roads.spans))) bad.Same} (λ a _.
     then_gives {r = or_bad (bad.Unknown 3) (number_named segment (segment_names roads.segments))} (λ i _.
     then_gives {r = demand (is_inches inches) (bad.Range 4)} (λ b _.
@@ -449,13 +449,13 @@ none_fit = record {
 }
 
 -- what each record keeps
-record IsKept (d : Draft) : Type 0 where
+record IsKept (d : DaySoFar) : Type 0 where
   roads : IsRoads d.network
   fleet : IsFleet d.fleet
   day : is_day_text d.day ≡ true
   commands : All (IsGiven d.network) d.orders
 
-road_keeps : (d : Draft) (kind : RoadKind) (fields : Row) → IsKept d → Gives IsKept (with_road d kind fields)
+road_keeps : (d : DaySoFar) (kind : RoadKind) (fields : Row) → IsKept d → Gives IsKept (with_road d kind fields)
 road_keeps d kind fields h = then_gives {r = roads_of d.network kind fields} (λ roads e. gives IsKept (record d { network = roads }) (record {
   roads = (roads_give d.network kind fields h.roads).ok roads e;
   fleet = h.fleet;
@@ -463,18 +463,18 @@ road_keeps d kind fields h = then_gives {r = roads_of d.network kind fields} (λ
   commands = All-weaker (IsGiven d.network) (IsGiven roads) (λ o w. still_within d.network roads ((roads_more d.network kind fields).ok roads e) o.command w) d.orders h.commands;
 }))
 
-truck_keeps : (d : Draft) (fields : Row) → IsKept d → Gives IsKept (with_truck d fields)
+truck_keeps : (d : DaySoFar) (fields : Row) → IsKept d → Gives IsKept (with_truck d fields)
 truck_keeps d fields h = then_gives {r = fleet_of d.fleet fields} (λ fleet e. gives IsKept (record d { fleet = fleet })
     (record { roads = h.roads; fleet = (fleet_gives d.fleet fields h.fleet).ok fleet e; day = h.day; commands = h.commands }))
 
-actor_keeps : (d : Draft) (fields : Row) → IsKept d → Gives IsKept (with_actor d fields)
+actor_keeps : (d : DaySoFar) (fields : Row) → IsKept d → Gives IsKept (with_actor d fields)
 actor_keeps d fields h = then_gives {r = actors_of d.actors fields} (λ actors _. gives IsKept (record d { actors = actors })
     (record { roads = h.roads; fleet = h.fleet; day = h.day; commands = h.commands }))
 
 one_more : (roads : Roads) (orders : List Order) (order : Order) → All (IsGiven roads) orders → IsGiven roads order → Gives (All (IsGiven roads)) (with_order orders order)
 one_more roads orders order h is = then_gives {r = limit (nat_lt (length orders) 4096) kind.Commands} (λ x _. gives (All (IsGiven roads)) (orders ++ order ∷ []) (All-push (IsGiven roads) orders order h is))
 
-command_keeps : (d : Draft) (kind : CommandKind) (fields : Row) → IsKept d → Gives IsKept (with_command d kind fields)
+command_keeps : (d : DaySoFar) (kind : CommandKind) (fields : Row) → IsKept d → Gives IsKept (with_command d kind fields)
 command_keeps d kind fields h =
     then_gives {r = order_of d kind fields} (λ order e.
     then_gives {r = with_order d.orders order} (λ orders e'. gives IsKept (record d { orders = orders }) (record {
@@ -489,14 +489,14 @@ Holds so_far.Start = Unit {0}
 Holds (so_far.Open d) = IsKept d
 Holds (so_far.Ended d) = IsKept d
 
-goes_on : (r : Result Draft Cause) → Gives IsKept r → Gives Holds (going_on r)
+goes_on : (r : Result DaySoFar Cause) → Gives IsKept r → Gives Holds (going_on r)
 goes_on r h = then_gives {r = r} (λ d e. gives Holds (so_far.Open d) (h.ok d e))
 
 opening_gives : (fields : Row) → Gives (λ day. is_day_text day ≡ true) (opening_of fields)
 unfolding opening_of
 opening_gives fields =
-    then_gives {r = demand (is_blank_from 2 fields) bad.Extra} (λ rest _.
-    then_gives {r = or_bad (bad.Field 2) (day_field_of (field_of fields 1))} (λ text a. record {
+    then_gives {r = has_only 2 fields} (λ rest _.
+    then_gives {r = day_in 2 fields} (λ text a. record {
       ok = λ day b.
           there_day text day (maybe_day (field_of fields 1) text (found_some (bad.Field 2) _ text a)) (found_some (bad.Range 2) text day b);
     }))
@@ -514,13 +514,13 @@ opening_keeps record_kind.Actor fields = refuses Holds _
 opening_keeps (record_kind.Command kind) fields = refuses Holds _
 opening_keeps record_kind.End fields = refuses Holds _
 
-later_keeps : (d : Draft) (kind : RecordKind) (fields : Row) → IsKept d → Gives Holds (judge_later d kind fields)
+later_keeps : (d : DaySoFar) (kind : RecordKind) (fields : Row) → IsKept d → Gives Holds (judge_later d kind fields)
 later_keeps d record_kind.Day fields h = refuses Holds _
 later_keeps d (record_kind.Road kind) fields h = goes_on (with_road d kind fields) (road_keeps d kind fields h)
 later_keeps d record_kind.Truck fields h = goes_on (with_truck d fields) (truck_keeps d fields h)
 later_keeps d record_kind.Actor fields h = goes_on (with_actor d fields) (actor_keeps d fields h)
 later_keeps d (record_kind.Command kind) fields h = goes_on (with_command d kind fields) (command_keeps d kind fields h)
-later_keeps d record_kind.End fields h = then_gives {r = demand (is_blank_from 1 fields) bad.Extra} (λ _ _. gives Holds (so_far.Ended d) h)
+later_keeps d record_kind.End fields h = then_gives {r = has_only 1 fields} (λ _ _. gives Holds (so_far.Ended d) h)
 
 kind_keeps : (p : DayProgress) (kind : RecordKind) (fields : Row) → Holds p → Gives Holds (judge_kind p kind fields)
 kind_keeps so_far.Start kind fields h = opening_keeps kind fields
@@ -530,7 +530,7 @@ kind_keeps (so_far.Ended d) kind fields h = refuses Holds _
 step_keeps : (p : DayProgress) (fields : Row) → Holds p → Gives Holds (judge_day p fields)
 step_keeps p fields h = then_gives {r = or_bad bad.Kind (kind_of (field_of fields 0))} (λ kind _. kind_keeps p kind fields h)
 
-bounded : (d : Draft) → IsKept d → IsBounded (parts_of d)
+bounded : (d : DaySoFar) → IsKept d → IsBounded (parts_of d)
 bounded d h = record {
   roads = h.roads;
   base = record { few = h.fleet.few; trains = h.fleet.trains };

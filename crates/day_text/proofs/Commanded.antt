@@ -16,14 +16,14 @@ use Rattle.trip_analysis.specs.Applications.{AreAskedThere, AreThere, Sound, app
 use Rattle.trip_analysis.specs.Bases.{BaseLists}
 use Rattle.trip_analysis.proofs.Unbroken.{sound_if}
 use Rattle.day_text.specs.Commands.{all_numbers, applied, apply_fields_of, apply_of, asked_of, order_of, permit_of, post_of, posting_of, resolved_of, set_day_of, unless_refused}
-use Rattle.record_text.specs.Fields.{day_of, field_of, name_of, number_of, posted_of}
+use Rattle.record_text.specs.Fields.{field_of, posted_of}
 use Rattle.day_text.specs.Fleets.{truck_names}
 use Rattle.office_words.specs.Commands.{MayCarryOut}
-use Rattle.record_text.specs.Causes.{demand, or_bad}
-use Rattle.record_text.specs.Records.{Row, is_blank_from}
+use Rattle.record_text.specs.Causes.{or_bad}
+use Rattle.record_text.specs.Records.{Row, day_in, has_only, name_in, number_in}
 use Rattle.office_words.specs.declared.entry.Command.TheVariants as command
 use Rattle.day_text.specs.declared.commands.ApplyFields.{ApplyFields}
-use Rattle.day_text.specs.declared.draft.Draft.{Draft}
+use Rattle.day_text.specs.declared.day_so_far.DaySoFar.{DaySoFar}
 use Rattle.day_text.specs.declared.kind.CommandKind.{CommandKind}
 use Rattle.day_text.specs.declared.kind.CommandKind.TheVariants.{Apply, Post, SetDay, Show, Surrender}
 use Rattle.day_text.specs.declared.orders.Order.{Order}
@@ -86,11 +86,11 @@ taken a application None e = (cc, refl)
 taken a application (Some refusal) e = absurd (cc e)
 
 -- the roads and the trucks so far
-abbrev pub base_of : Draft → BaseLists
+abbrev pub base_of : DaySoFar → BaseLists
 base_of d = record { roads = d.network; fleet = d.fleet }
 
 -- an application that was taken is sound
-applied_sound : (d : Draft) (truck from to : ℕ) (asked : Option (List ℕ)) (first last : List ℕ) (application : Application)
+applied_sound : (d : DaySoFar) (truck from to : ℕ) (asked : Option (List ℕ)) (first last : List ℕ) (application : Application)
     → AreThere d.network from to asked → truck < length d.fleet → applied d.network truck from to asked first last ≡ Ok application → Sound (base_of d) application
 applied_sound d truck from to asked first last application there known e =
     let (is, none) = taken (application_of truck from to asked first last) application (application_refusal d.network from to asked first last) e in
@@ -99,10 +99,10 @@ applied_sound d truck from to asked first last application there known e =
     subst (Sound (base_of d)) (sym is) (sound_if d.network truck from to asked first last there away unbroken days (base_of d) refl known)
 
 -- the command is from an actor who is there, and may be given to an office of these roads and trucks
-abbrev pub IsGood : Draft → Order → Type 0
+abbrev pub IsGood : DaySoFar → Order → Type 0
 IsGood d o = (o.actor < length d.actors) × MayCarryOut (base_of d) o.command
 
-resolved_good : (d : Draft) (f : ApplyFields) → Gives (IsGood d) (resolved_of d f)
+resolved_good : (d : DaySoFar) (f : ApplyFields) → Gives (IsGood d) (resolved_of d f)
 unfolding resolved_of
 resolved_good d f =
     then_gives {r = or_bad (bad.Unknown 2) (number_named f.actor d.actors)} (λ actor actor_is.
@@ -126,45 +126,45 @@ resolved_good d f =
     gives (IsGood d) (record { actor = actor; command = command.Apply application })
     (who, applied_sound d truck from to (asked_of route) first last application there known application_is)))))))))
 
-apply_good : (d : Draft) (fields : Row) → Gives (IsGood d) (apply_of d fields)
+apply_good : (d : DaySoFar) (fields : Row) → Gives (IsGood d) (apply_of d fields)
 apply_good d fields = then_gives {r = apply_fields_of fields} (λ f _. resolved_good d f)
 
-post_good : (d : Draft) (fields : Row) → Gives (IsGood d) (post_of d fields)
+post_good : (d : DaySoFar) (fields : Row) → Gives (IsGood d) (post_of d fields)
 unfolding post_of
 post_good d fields =
-    then_gives {r = demand (is_blank_from 5 fields) bad.Extra} (λ rest _.
-    then_gives {r = or_bad (bad.Field 2) (name_of (field_of fields 1))} (λ name _.
-    then_gives {r = or_bad (bad.Field 3) (name_of (field_of fields 2))} (λ item _.
+    then_gives {r = has_only 5 fields} (λ rest _.
+    then_gives {r = name_in 2 fields} (λ name _.
+    then_gives {r = name_in 3 fields} (λ item _.
     then_gives {r = or_bad (bad.Field 4) (posted_of (field_of fields 3))} (λ what _.
-    then_gives {r = or_bad (bad.Field 5) (number_of (field_of fields 4))} (λ value _.
+    then_gives {r = number_in 5 fields} (λ value _.
     then_gives {r = or_bad (bad.Unknown 2) (number_named name d.actors)} (λ actor actor_is.
     then_gives {r = posting_of d.network what item value} (λ posting _.
     gives (IsGood d) (record { actor = actor; command = command.Post posting }) (named_within name d.actors actor (found_some (bad.Unknown 2) (number_named name d.actors) actor actor_is), tt))))))))
 
-set_day_good : (d : Draft) (fields : Row) → Gives (IsGood d) (set_day_of d fields)
+set_day_good : (d : DaySoFar) (fields : Row) → Gives (IsGood d) (set_day_of d fields)
 unfolding set_day_of
 set_day_good d fields =
-    then_gives {r = demand (is_blank_from 3 fields) bad.Extra} (λ rest _.
-    then_gives {r = or_bad (bad.Field 2) (name_of (field_of fields 1))} (λ name _.
-    then_gives {r = or_bad (bad.Field 3) (day_of (field_of fields 2))} (λ text _.
+    then_gives {r = has_only 3 fields} (λ rest _.
+    then_gives {r = name_in 2 fields} (λ name _.
+    then_gives {r = day_in 3 fields} (λ text _.
     then_gives {r = or_bad (bad.Unknown 2) (number_named name d.actors)} (λ actor actor_is.
     then_gives {r = or_bad (bad.Range 3) text} (λ day _.
     gives (IsGood d) (record { actor = actor; command = command.Day day }) (named_within name d.actors actor (found_some (bad.Unknown 2) (number_named name d.actors) actor actor_is), tt))))))
 
 -- the actor is there
-abbrev IsFrom : Draft → ℕ × ℕ → Type 0
+abbrev IsFrom : DaySoFar → ℕ × ℕ → Type 0
 IsFrom d x = x.0 < length d.actors
 
-permit_good : (d : Draft) (fields : Row) → Gives (IsFrom d) (permit_of d fields)
+permit_good : (d : DaySoFar) (fields : Row) → Gives (IsFrom d) (permit_of d fields)
 unfolding permit_of
 permit_good d fields =
-    then_gives {r = demand (is_blank_from 3 fields) bad.Extra} (λ rest _.
-    then_gives {r = or_bad (bad.Field 2) (name_of (field_of fields 1))} (λ name _.
-    then_gives {r = or_bad (bad.Field 3) (number_of (field_of fields 2))} (λ number _.
+    then_gives {r = has_only 3 fields} (λ rest _.
+    then_gives {r = name_in 2 fields} (λ name _.
+    then_gives {r = number_in 3 fields} (λ number _.
     then_gives {r = or_bad (bad.Unknown 2) (number_named name d.actors)} (λ actor actor_is.
     gives (IsFrom d) (actor, number) (named_within name d.actors actor (found_some (bad.Unknown 2) (number_named name d.actors) actor actor_is))))))
 
-pub order_good : (d : Draft) (kind : CommandKind) (fields : Row) → Gives (IsGood d) (order_of d kind fields)
+pub order_good : (d : DaySoFar) (kind : CommandKind) (fields : Row) → Gives (IsGood d) (order_of d kind fields)
 order_good d Apply fields = apply_good d fields
 order_good d Post fields = post_good d fields
 order_good d SetDay fields = set_day_good d fields

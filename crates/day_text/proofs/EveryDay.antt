@@ -10,16 +10,16 @@ use Rattle.record_text.specs.Causes.{Tells, demand, limit, or_bad}
 use Rattle.day_text.specs.Commands.{order_of, with_order}
 use Rattle.day_text.specs.Days.{DayParts, day_of, ended_day, finished_day, going_on, judge_day, judge_kind, judge_later, judge_opening, opened, opening_of, parts_of, with_actor, with_command, with_road, with_truck}
 use Rattle.day_text.specs.Fleets.{actors_of, fleet_of, most_actors, truck_names}
-use Rattle.record_text.specs.Fields.{field_of, name_of}
+use Rattle.record_text.specs.Fields.{field_of}
 use Rattle.day_text.specs.Kinds.{kind_of}
 use Rattle.day_text.specs.Trucks.{load_of, truck_fields_of}
 use Rattle.office_words.specs.Commands.{MayCarryOut}
 use Rattle.day_text.specs.Laws.{IsDayFile}
-use Rattle.record_text.specs.Records.{Row, is_blank_from, judged, rows_of}
+use Rattle.record_text.specs.Records.{Row, has_only, judged, name_in, rows_of}
 use Rattle.day_text.specs.Roads.{roads_of}
 use Rattle.office_words.specs.declared.entry.Command.{Command}
 use Rattle.office_words.specs.declared.entry.Command.TheVariants as command
-use Rattle.day_text.specs.declared.draft.Draft.{Draft}
+use Rattle.day_text.specs.declared.day_so_far.DaySoFar.{DaySoFar}
 use Rattle.day_text.specs.declared.kind.CommandKind.{CommandKind}
 use Rattle.day_text.specs.declared.kind.RecordKind.{RecordKind}
 use Rattle.day_text.specs.declared.kind.RecordKind.TheVariants.{Actor, Command as command_kind, Day, End, Road, Truck as truck_kind}
@@ -43,13 +43,13 @@ sound_more old new kept fleet (command.Day day) s = tt
 sound_more old new kept fleet (command.Surrender number) s = tt
 sound_more old new kept fleet (command.Show number) s = tt
 
-abbrev Keeps : Draft → Type 0
+abbrev Keeps : DaySoFar → Type 0
 Keeps d = IsDayFile (parts_of d)
 
 all_sound : (old new : BaseLists) → IsKept old.roads new.roads → length old.fleet ≤ length new.fleet → (orders : List Order) → All (λ (o : Order). MayCarryOut old o.command) orders → All (λ (o : Order). MayCarryOut new o.command) orders
 all_sound old new kept fleet orders h = All-weaker (λ (o : Order). MayCarryOut old o.command) (λ (o : Order). MayCarryOut new o.command) (λ o s. sound_more old new kept fleet o.command s) orders h
 
-road_keeps : (d : Draft) (kind : RoadKind) (fields : Row) → Keeps d → Gives Keeps (with_road d kind fields)
+road_keeps : (d : DaySoFar) (kind : RoadKind) (fields : Row) → Keeps d → Gives Keeps (with_road d kind fields)
 road_keeps d kind fields h = then_gives {r = roads_of d.network kind fields} (λ roads e. gives Keeps (record d { network = roads }) (record {
   few_actors = h.few_actors;
   few_commands = h.few_commands;
@@ -70,7 +70,7 @@ more_trucks trucks fields =
     then_gives {r = limit (nat_lt (length trucks) 64) kind.Trucks} (λ b _.
     gives (HasMore trucks) (trucks ++ record { name = t.name; carrier = t.carrier; load = load } ∷ []) (omega (arith, length-append trucks (record { name = t.name; carrier = t.carrier; load = load } ∷ [])))))))
 
-truck_keeps : (d : Draft) (fields : Row) → Keeps d → Gives Keeps (with_truck d fields)
+truck_keeps : (d : DaySoFar) (fields : Row) → Keeps d → Gives Keeps (with_truck d fields)
 truck_keeps d fields h = then_gives {r = fleet_of d.fleet fields} (λ fleet e. gives Keeps (record d { fleet = fleet }) (record {
   few_actors = h.few_actors;
   few_commands = h.few_commands;
@@ -85,14 +85,14 @@ HasFew old new = (length old ≤ length new) × (length new ≤ most_actors)
 more_actors : (actors : List (List ℕ)) (fields : Row) → Gives (HasFew actors) (actors_of actors fields)
 unfolding actors_of
 more_actors actors fields =
-    then_gives {r = demand (is_blank_from 2 fields) bad.Extra} (λ rest _.
-    then_gives {r = or_bad (bad.Field 2) (name_of (field_of fields 1))} (λ name _.
+    then_gives {r = has_only 2 fields} (λ rest _.
+    then_gives {r = name_in 2 fields} (λ name _.
     then_gives {r = demand (not (has_name name actors)) bad.Same} (λ a _.
     then_gives {r = limit (nat_lt (length actors) most_actors) kind.Actors} (λ b b_is.
     let room : length actors < most_actors = ltb-true (length actors) most_actors (was_within (nat_lt (length actors) most_actors) kind.Actors b b_is) in
     gives (HasFew actors) (actors ++ name ∷ []) (omega (arith, length-append actors (name ∷ [])), omega (arith, length-append actors (name ∷ [])))))))
 
-actor_keeps : (d : Draft) (fields : Row) → Keeps d → Gives Keeps (with_actor d fields)
+actor_keeps : (d : DaySoFar) (fields : Row) → Keeps d → Gives Keeps (with_actor d fields)
 actor_keeps d fields h = then_gives {r = actors_of d.actors fields} (λ actors e. gives Keeps (record d { actors = actors }) (
     let more : HasFew d.actors actors = (more_actors d.actors fields).ok actors e in
     record {
@@ -110,7 +110,7 @@ one_more : (orders : List Order) (order : Order) → Gives (IsOneMore orders ord
 one_more orders order = then_gives {r = limit (nat_lt (length orders) 4096) kind.Commands} (λ x e. gives (IsOneMore orders order) (orders ++ order ∷ [])
     (refl, ltb-true (length orders) 4096 (was_within (nat_lt (length orders) 4096) kind.Commands x e)))
 
-order_keeps : (d : Draft) (order : Order) (orders : List Order) → Keeps d → IsGood d order → IsOneMore d.orders order orders → Keeps (record d { orders = orders })
+order_keeps : (d : DaySoFar) (order : Order) (orders : List Order) → Keeps d → IsGood d order → IsOneMore d.orders order orders → Keeps (record d { orders = orders })
 order_keeps d order orders h good more = subst (λ (os : List Order). Keeps (record d { orders = os })) more.0 (record {
   few_actors = h.few_actors;
   few_commands = omega (arith, length-append d.orders (order ∷ []), more.1);
@@ -118,7 +118,7 @@ order_keeps d order orders h good more = subst (λ (os : List Order). Keeps (rec
   sound = All-push (λ (o : Order). MayCarryOut (base_of d) o.command) d.orders order h.sound good.1;
 })
 
-command_keeps : (d : Draft) (kind : CommandKind) (fields : Row) → Keeps d → Gives Keeps (with_command d kind fields)
+command_keeps : (d : DaySoFar) (kind : CommandKind) (fields : Row) → Keeps d → Gives Keeps (with_command d kind fields)
 command_keeps d kind fields h = then_gives {r = order_of d kind fields} (λ order e. then_gives {r = with_order d.orders order} (λ orders e'. gives Keeps (record d { orders = orders })
     (order_keeps d order orders h ((order_good d kind fields).ok order e) ((one_more d.orders order).ok orders e'))))
 
@@ -127,7 +127,7 @@ Holds so_far.Start = Unit {0}
 Holds (so_far.Open d) = Keeps d
 Holds (so_far.Ended d) = Keeps d
 
-goes_on : (r : Result Draft Cause) → Gives Keeps r → Gives Holds (going_on r)
+goes_on : (r : Result DaySoFar Cause) → Gives Keeps r → Gives Holds (going_on r)
 goes_on r h = then_gives {r = r} (λ d e. gives Holds (so_far.Open d) (h.ok d e))
 
 opens : (day : List ℕ) → Keeps (opened day)
@@ -146,13 +146,13 @@ opening_keeps Actor fields = refuses Holds _
 opening_keeps (command_kind kind) fields = refuses Holds _
 opening_keeps End fields = refuses Holds _
 
-later_keeps : (d : Draft) (kind : RecordKind) (fields : Row) → Keeps d → Gives Holds (judge_later d kind fields)
+later_keeps : (d : DaySoFar) (kind : RecordKind) (fields : Row) → Keeps d → Gives Holds (judge_later d kind fields)
 later_keeps d Day fields h = refuses Holds _
 later_keeps d (Road kind) fields h = goes_on (with_road d kind fields) (road_keeps d kind fields h)
 later_keeps d truck_kind fields h = goes_on (with_truck d fields) (truck_keeps d fields h)
 later_keeps d Actor fields h = goes_on (with_actor d fields) (actor_keeps d fields h)
 later_keeps d (command_kind kind) fields h = goes_on (with_command d kind fields) (command_keeps d kind fields h)
-later_keeps d End fields h = then_gives {r = demand (is_blank_from 1 fields) bad.Extra} (λ _ _. gives Holds (so_far.Ended d) h)
+later_keeps d End fields h = then_gives {r = has_only 1 fields} (λ _ _. gives Holds (so_far.Ended d) h)
 
 kind_keeps : (p : DayProgress) (kind : RecordKind) (fields : Row) → Holds p → Gives Holds (judge_kind p kind fields)
 kind_keeps so_far.Start kind fields h = opening_keeps kind fields

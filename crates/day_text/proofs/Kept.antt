@@ -13,10 +13,10 @@ use Rattle.trip_analysis.specs.Applications.{IsAskedWalk, Sound}
 use Rattle.trip_analysis.specs.Bases.{BaseLists}
 use Rattle.trip_analysis.specs.declared.application.Application.{Application}
 use Rattle.record_text.specs.Causes.{demand, limit, or_bad}
-use Rattle.record_text.specs.Fields.{field_of, name_of, number_of, what_of}
+use Rattle.record_text.specs.Fields.{field_of, what_of}
 use Rattle.road_graph.specs.Ranges.{is_feet, is_inches, is_limit, is_rating}
 use Rattle.record_text.specs.declared.refusal.Kind.TheVariants as kind
-use Rattle.record_text.specs.Records.{Row, is_blank_from}
+use Rattle.record_text.specs.Records.{Row, has_only, name_in, number_in}
 use Rattle.record_text.specs.declared.refusal.RecordCause.TheVariants as bad
 use Rattle.day_text.specs.Roads.{limit_of, node_of, roads_of, segment_of, span_of}
 use Rattle.day_text.specs.declared.kind.RoadKind.{RoadKind}
@@ -67,8 +67,8 @@ limit_alike xs i what value = set_alike xs i (limited (segment_at xs i) what val
 node_kept : (roads : Roads) (fields : Row) → Gives (IsKept roads) (node_of roads fields)
 unfolding node_of
 node_kept roads fields =
-    then_gives {r = demand (is_blank_from 2 fields) bad.Extra} (λ rest _.
-    then_gives {r = or_bad (bad.Field 2) (name_of (field_of fields 1))} (λ name _.
+    then_gives {r = has_only 2 fields} (λ rest _.
+    then_gives {r = name_in 2 fields} (λ name _.
     then_gives {r = demand (not (has_name name roads.nodes)) bad.Same} (λ a _.
     then_gives {r = limit (nat_lt (length roads.nodes) 4096) kind.Nodes} (λ b _.
     gives (IsKept roads) _ (record { nodes = omega (arith, length-append roads.nodes (name ∷ [])); segments = λ i s h. (s, h, refl, refl) })))))
@@ -76,11 +76,11 @@ node_kept roads fields =
 segment_kept : (roads : Roads) (fields : Row) → Gives (IsKept roads) (segment_of roads fields)
 unfolding segment_of
 segment_kept roads fields =
-    then_gives {r = demand (is_blank_from 5 fields) bad.Extra} (λ rest _.
-    then_gives {r = or_bad (bad.Field 2) (name_of (field_of fields 1))} (λ name _.
-    then_gives {r = or_bad (bad.Field 3) (name_of (field_of fields 2))} (λ from _.
-    then_gives {r = or_bad (bad.Field 4) (name_of (field_of fields 3))} (λ to _.
-    then_gives {r = or_bad (bad.Field 5) (number_of (field_of fields 4))} (λ feet _.
+    then_gives {r = has_only 5 fields} (λ rest _.
+    then_gives {r = name_in 2 fields} (λ name _.
+    then_gives {r = name_in 3 fields} (λ from _.
+    then_gives {r = name_in 4 fields} (λ to _.
+    then_gives {r = number_in 5 fields} (λ feet _.
     then_gives {r = demand (not (has_name name (segment_names roads.segments))) bad.Same} (λ a _.
     then_gives {r = or_bad (bad.Unknown 3) (number_named from roads.nodes)} (λ i _.
     then_gives {r = or_bad (bad.Unknown 4) (number_named to roads.nodes)} (λ j _.
@@ -91,10 +91,10 @@ segment_kept roads fields =
 limit_kept : (roads : Roads) (fields : Row) → Gives (IsKept roads) (limit_of roads fields)
 unfolding limit_of
 limit_kept roads fields =
-    then_gives {r = demand (is_blank_from 4 fields) bad.Extra} (λ rest _.
-    then_gives {r = or_bad (bad.Field 2) (name_of (field_of fields 1))} (λ name _.
+    then_gives {r = has_only 4 fields} (λ rest _.
+    then_gives {r = name_in 2 fields} (λ name _.
     then_gives {r = or_bad (bad.Field 3) (what_of (field_of fields 2))} (λ what _.
-    then_gives {r = or_bad (bad.Field 4) (number_of (field_of fields 3))} (λ value _.
+    then_gives {r = number_in 4 fields} (λ value _.
     then_gives {r = or_bad (bad.Unknown 2) (number_named name (segment_names roads.segments))} (λ i _.
     then_gives {r = demand (is_limit what value) (bad.Range 4)} (λ a _.
     gives (IsKept roads) _ (record { nodes = omega arith; segments = limit_alike roads.segments i what value })))))))
@@ -102,11 +102,11 @@ limit_kept roads fields =
 span_kept : (roads : Roads) (fields : Row) → Gives (IsKept roads) (span_of roads fields)
 unfolding span_of
 span_kept roads fields =
-    then_gives {r = demand (is_blank_from 5 fields) bad.Extra} (λ rest _.
-    then_gives {r = or_bad (bad.Field 2) (name_of (field_of fields 1))} (λ name _.
-    then_gives {r = or_bad (bad.Field 3) (name_of (field_of fields 2))} (λ segment _.
-    then_gives {r = or_bad (bad.Field 4) (number_of (field_of fields 3))} (λ inches _.
-    then_gives {r = or_bad (bad.Field 5) (number_of (field_of fields 4))} (λ rating _.
+    then_gives {r = has_only 5 fields} (λ rest _.
+    then_gives {r = name_in 2 fields} (λ name _.
+    then_gives {r = name_in 3 fields} (λ segment _.
+    then_gives {r = number_in 4 fields} (λ inches _.
+    then_gives {r = number_in 5 fields} (λ rating _.
     then_gives {r = demand (not (has_name name (span_names roads.spans))) bad.Same} (λ a _.
     then_gives {r = or_bad (bad.Unknown 3) (number_named segment (segment_names roads.segments))} (λ i _.
     then_gives {r = demand (is_inches inches) (bad.Range 4)} (λ b _.

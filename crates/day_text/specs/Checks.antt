@@ -1,8 +1,7 @@
 -- What a check file says, judged over the whole list of its records.
 use Rattle.std.specs.Prelude.{ℕ, ◌+◌, Bool, ◌&&◌, ◌||◌, nat_le, if◌then◌else◌, List, [], ◌∷◌, ◌++◌, length, codes, Result, Ok, Err}
-use Rattle.record_text.specs.Causes.{◌>>=◌, demand, limit, or_bad}
-use Rattle.record_text.specs.Fields.{field_of, number_of}
-use Rattle.record_text.specs.Records.{Row, has_kind, is_blank_from, judged, rows_of}
+use Rattle.record_text.specs.Causes.{◌>>=◌, demand, limit}
+use Rattle.record_text.specs.Records.{Row, has_kind, has_only, judged, number_in, rows_of}
 use Rattle.day_text.specs.Trucks.{load_of, truck_fields_of}
 use Rattle.trip_analysis.specs.declared.base.Truck.{Truck}
 use Rattle.day_text.specs.declared.check_file.Probe.{Probe}
@@ -27,9 +26,9 @@ truck_of fields = do
 -- probe,INCHES,RATING: the span has 1 to 6,000 in, the rating is at most 100,000 per mille, and there are at most 64
 unfoldable pub probe_of : List Probe → Row → Result Probe Cause
 probe_of probes fields = do
-  rest ← demand (is_blank_from 3 fields) bad.Extra
-  inches ← or_bad (bad.Field 2) (number_of (field_of fields 1))
-  rating ← or_bad (bad.Field 3) (number_of (field_of fields 2))
+  rest ← has_only 3 fields
+  inches ← number_in 2 fields
+  rating ← number_in 3 fields
   a ← demand (nat_le 1 inches && nat_le inches 6000) (bad.Range 2)
   b ← demand (nat_le rating 100000) (bad.Range 3)
   c ← limit (nat_le (length probes + 1) 64) kind.Probes
@@ -46,7 +45,7 @@ unfoldable pub judge_probe : CheckFile → Row → Result CheckProgress Cause
 judge_probe file fields =
     if has_kind (codes "truck") fields then Err (why.Bad bad.Order)
     else (if has_kind (codes "probe") fields then probe_of file.probes fields >>= (λ probe. Ok (so_far.Open (record file { probes = file.probes ++ probe ∷ [] })))
-    else demand (is_blank_from 1 fields) bad.Extra >>= (λ rest. Ok (so_far.Ended file)))
+    else has_only 1 fields >>= (λ rest. Ok (so_far.Ended file)))
 
 -- where a record of a known kind leads; nothing follows the end
 abbrev pub judge_check_kind : CheckProgress → Row → Result CheckProgress Cause

@@ -13,12 +13,12 @@ use Rattle.trip_analysis.specs.declared.refusal.ApplicationRefusal.{ApplicationR
 use Rattle.trip_analysis.specs.declared.refusal.ApplicationRefusal.TheVariants.{BrokenRoute, DayOrder, SamePlace}
 use Rattle.trip_analysis.specs.Applications.{application_of, application_refusal}
 use Rattle.record_text.specs.Causes.{◌>>=◌, demand, limit, or_bad}
-use Rattle.record_text.specs.Fields.{day_of, field_of, name_of, number_of, posted_of, route_of}
+use Rattle.record_text.specs.Fields.{field_of, posted_of, route_of}
 use Rattle.day_text.specs.Fleets.{truck_names}
-use Rattle.record_text.specs.Records.{Row, is_blank_from}
+use Rattle.record_text.specs.Records.{Row, day_in, has_only, name_in, number_in}
 use Rattle.office_words.specs.declared.entry.Command.TheVariants as command
 use Rattle.day_text.specs.declared.commands.ApplyFields.{ApplyFields}
-use Rattle.day_text.specs.declared.draft.Draft.{Draft}
+use Rattle.day_text.specs.declared.day_so_far.DaySoFar.{DaySoFar}
 use Rattle.record_text.specs.declared.posted.Posted.{Posted}
 use Rattle.record_text.specs.declared.posted.Posted.TheVariants as posted
 use Rattle.day_text.specs.declared.kind.CommandKind.{CommandKind}
@@ -33,13 +33,13 @@ use Rattle.record_text.specs.declared.refusal.Kind.TheVariants as kind
 -- the fields of an application's record, each in its form
 unfoldable pub apply_fields_of : Row → Result ApplyFields Cause
 apply_fields_of fields = do
-  actor ← or_bad (bad.Field 2) (name_of (field_of fields 1))
-  truck ← or_bad (bad.Field 3) (name_of (field_of fields 2))
-  from ← or_bad (bad.Field 4) (name_of (field_of fields 3))
-  to ← or_bad (bad.Field 5) (name_of (field_of fields 4))
+  actor ← name_in 2 fields
+  truck ← name_in 3 fields
+  from ← name_in 4 fields
+  to ← name_in 5 fields
   route ← or_bad (bad.Field 6) (route_of (field_of fields 5))
-  first ← or_bad (bad.Field 7) (day_of (field_of fields 6))
-  last ← or_bad (bad.Field 8) (day_of (field_of fields 7))
+  first ← day_in 7 fields
+  last ← day_in 8 fields
   Ok (record { actor = actor; truck = truck; from = from; to = to; route = route; first = first; last = last })
 
 -- the numbers of some names
@@ -67,7 +67,7 @@ applied roads truck from to asked first last =
     unless_refused (application_of truck from to asked first last) (application_refusal roads from to asked first last)
 
 -- the application of some fields: each name is looked up, each day is one of the calendar, and no rule of applications refuses it
-unfoldable pub resolved_of : Draft → ApplyFields → Result Order Cause
+unfoldable pub resolved_of : DaySoFar → ApplyFields → Result Order Cause
 resolved_of d f = do
   actor ← or_bad (bad.Unknown 2) (number_named f.actor d.actors)
   truck ← or_bad (bad.Unknown 3) (number_named f.truck (truck_names d.fleet))
@@ -80,7 +80,7 @@ resolved_of d f = do
   Ok (record { actor = actor; command = command.Apply application })
 
 -- apply,ACTOR,TRUCK,FROM,TO,ROUTE,FIRST,LAST: the fields in their forms first, and then what they refer to
-abbrev pub apply_of : Draft → Row → Result Order Cause
+abbrev pub apply_of : DaySoFar → Row → Result Order Cause
 apply_of d fields = apply_fields_of fields >>= resolved_of d
 
 -- the change that a limit of a segment is to have
@@ -104,44 +104,44 @@ posting_of roads posted.Rating item value = do
   Ok (change.Rating i value)
 
 -- post,ACTOR,ITEM,WHAT,VALUE
-unfoldable pub post_of : Draft → Row → Result Order Cause
+unfoldable pub post_of : DaySoFar → Row → Result Order Cause
 post_of d fields = do
-  rest ← demand (is_blank_from 5 fields) bad.Extra
-  name ← or_bad (bad.Field 2) (name_of (field_of fields 1))
-  item ← or_bad (bad.Field 3) (name_of (field_of fields 2))
+  rest ← has_only 5 fields
+  name ← name_in 2 fields
+  item ← name_in 3 fields
   what ← or_bad (bad.Field 4) (posted_of (field_of fields 3))
-  value ← or_bad (bad.Field 5) (number_of (field_of fields 4))
+  value ← number_in 5 fields
   actor ← or_bad (bad.Unknown 2) (number_named name d.actors)
   posting ← posting_of d.network what item value
   Ok (record { actor = actor; command = command.Post posting })
 
 -- setday,ACTOR,DAY
-unfoldable pub set_day_of : Draft → Row → Result Order Cause
+unfoldable pub set_day_of : DaySoFar → Row → Result Order Cause
 set_day_of d fields = do
-  rest ← demand (is_blank_from 3 fields) bad.Extra
-  name ← or_bad (bad.Field 2) (name_of (field_of fields 1))
-  text ← or_bad (bad.Field 3) (day_of (field_of fields 2))
+  rest ← has_only 3 fields
+  name ← name_in 2 fields
+  text ← day_in 3 fields
   actor ← or_bad (bad.Unknown 2) (number_named name d.actors)
   day ← or_bad (bad.Range 3) text
   Ok (record { actor = actor; command = command.Day day })
 
 -- surrender,ACTOR,NUMBER and show,ACTOR,NUMBER: the actor and the number of a permit
-unfoldable pub permit_of : Draft → Row → Result (ℕ × ℕ) Cause
+unfoldable pub permit_of : DaySoFar → Row → Result (ℕ × ℕ) Cause
 permit_of d fields = do
-  rest ← demand (is_blank_from 3 fields) bad.Extra
-  name ← or_bad (bad.Field 2) (name_of (field_of fields 1))
-  number ← or_bad (bad.Field 3) (number_of (field_of fields 2))
+  rest ← has_only 3 fields
+  name ← name_in 2 fields
+  number ← number_in 3 fields
   actor ← or_bad (bad.Unknown 2) (number_named name d.actors)
   Ok (actor, number)
 
-abbrev pub surrender_of : Draft → Row → Result Order Cause
+abbrev pub surrender_of : DaySoFar → Row → Result Order Cause
 surrender_of d fields = permit_of d fields >>= (λ x. Ok (record { actor = x.0; command = command.Surrender x.1 }))
 
-abbrev pub show_of : Draft → Row → Result Order Cause
+abbrev pub show_of : DaySoFar → Row → Result Order Cause
 show_of d fields = permit_of d fields >>= (λ x. Ok (record { actor = x.0; command = command.Show x.1 }))
 
 -- the command of a record
-abbrev pub order_of : Draft → CommandKind → Row → Result Order Cause
+abbrev pub order_of : DaySoFar → CommandKind → Row → Result Order Cause
 order_of d Apply fields = apply_of d fields
 order_of d Post fields = post_of d fields
 order_of d SetDay fields = set_day_of d fields

@@ -2,15 +2,14 @@
 use Rattle.std.specs.Prelude.{ℕ, List, [], Result, Ok, Err}
 use Rattle.road_graph.specs.Roads.{no_roads}
 use Rattle.trip_analysis.specs.Bases.{BaseLists}
-use Rattle.record_text.specs.Causes.{◌>>=◌, demand, or_bad}
+use Rattle.record_text.specs.Causes.{◌>>=◌, or_bad}
 use Rattle.day_text.specs.Commands.{order_of, with_order}
 use Rattle.record_text.specs.Fields.{field_of}
-use Rattle.record_text.specs.Fields.{day_of as day_field_of}
 use Rattle.day_text.specs.Fleets.{actors_of, fleet_of}
 use Rattle.day_text.specs.Kinds.{kind_of}
-use Rattle.record_text.specs.Records.{Row, is_blank_from, judged, rows_of}
+use Rattle.record_text.specs.Records.{Row, day_in, has_only, judged, rows_of}
 use Rattle.day_text.specs.Roads.{roads_of}
-use Rattle.day_text.specs.declared.draft.Draft.{Draft}
+use Rattle.day_text.specs.declared.day_so_far.DaySoFar.{DaySoFar}
 use Rattle.day_text.specs.declared.kind.RecordKind.{RecordKind}
 use Rattle.day_text.specs.declared.kind.CommandKind.{CommandKind}
 use Rattle.day_text.specs.declared.kind.RecordKind.TheVariants.{Actor, Command, Day, End, Road, Truck}
@@ -33,12 +32,12 @@ pub record DayParts : Type 0 where
 -- day,DAY
 unfoldable pub opening_of : Row → Result (List ℕ) Cause
 opening_of fields = do
-  rest ← demand (is_blank_from 2 fields) bad.Extra
-  text ← or_bad (bad.Field 2) (day_field_of (field_of fields 1))
+  rest ← has_only 2 fields
+  text ← day_in 2 fields
   or_bad (bad.Range 2) text
 
 -- a day on which nothing else was said
-abbrev pub opened : List ℕ → Draft
+abbrev pub opened : List ℕ → DaySoFar
 opened day = record { network = no_roads; day = day; fleet = []; actors = []; orders = [] }
 
 -- the first record: it is a day
@@ -51,31 +50,31 @@ judge_opening (Command kind) fields = Err (why.Bad bad.Order)
 judge_opening End fields = Err (why.Bad bad.Order)
 
 -- what a record between the day and the end adds
-abbrev pub with_road : Draft → RoadKind → Row → Result Draft Cause
+abbrev pub with_road : DaySoFar → RoadKind → Row → Result DaySoFar Cause
 with_road d kind fields = roads_of d.network kind fields >>= (λ roads. Ok (record d { network = roads }))
 
-abbrev pub with_truck : Draft → Row → Result Draft Cause
+abbrev pub with_truck : DaySoFar → Row → Result DaySoFar Cause
 with_truck d fields = fleet_of d.fleet fields >>= (λ fleet. Ok (record d { fleet = fleet }))
 
-abbrev pub with_actor : Draft → Row → Result Draft Cause
+abbrev pub with_actor : DaySoFar → Row → Result DaySoFar Cause
 with_actor d fields = actors_of d.actors fields >>= (λ actors. Ok (record d { actors = actors }))
 
-abbrev pub with_command : Draft → CommandKind → Row → Result Draft Cause
+abbrev pub with_command : DaySoFar → CommandKind → Row → Result DaySoFar Cause
 with_command d kind fields =
     order_of d kind fields >>= (λ order. with_order d.orders order >>= (λ orders. Ok (record d { orders = orders })))
 
--- a draft that goes on
-abbrev pub going_on : Result Draft Cause → Result DayProgress Cause
+-- what was said so far, and more records follow
+abbrev pub going_on : Result DaySoFar Cause → Result DayProgress Cause
 going_on next = next >>= (λ d. Ok (so_far.Open d))
 
 -- a record behind the day: it adds something, or it is the end
-abbrev pub judge_later : Draft → RecordKind → Row → Result DayProgress Cause
+abbrev pub judge_later : DaySoFar → RecordKind → Row → Result DayProgress Cause
 judge_later d Day fields = Err (why.Bad bad.Order)
 judge_later d (Road kind) fields = going_on (with_road d kind fields)
 judge_later d Truck fields = going_on (with_truck d fields)
 judge_later d Actor fields = going_on (with_actor d fields)
 judge_later d (Command kind) fields = going_on (with_command d kind fields)
-judge_later d End fields = demand (is_blank_from 1 fields) bad.Extra >>= (λ rest. Ok (so_far.Ended d))
+judge_later d End fields = has_only 1 fields >>= (λ rest. Ok (so_far.Ended d))
 
 -- where a record of a known kind leads; nothing follows the end
 abbrev pub judge_kind : DayProgress → RecordKind → Row → Result DayProgress Cause
@@ -88,7 +87,7 @@ abbrev pub judge_day : DayProgress → Row → Result DayProgress Cause
 judge_day progress fields = or_bad bad.Kind (kind_of (field_of fields 0)) >>= (λ kind. judge_kind progress kind fields)
 
 -- the parts of a day file whose records said so much
-abbrev pub parts_of : Draft → DayParts
+abbrev pub parts_of : DaySoFar → DayParts
 parts_of d = record { base = record { roads = d.network; fleet = d.fleet }; day = d.day; actors = d.actors; commands = d.orders }
 
 -- the file, where its end was told; else the row after the last one is refused

@@ -1,9 +1,8 @@
 -- The trucks and the actors of a day file: what their records add, or the first cause for which they are refused.
 use Rattle.std.specs.Prelude.{ℕ, not, nat_lt, List, [], ◌∷◌, ◌++◌, length, map, Result, Ok}
 use Rattle.road_graph.specs.Roads.{has_name}
-use Rattle.record_text.specs.Causes.{◌>>=◌, demand, limit, or_bad}
-use Rattle.record_text.specs.Fields.{field_of, name_of}
-use Rattle.record_text.specs.Records.{Row, is_blank_from}
+use Rattle.record_text.specs.Causes.{◌>>=◌, demand, limit}
+use Rattle.record_text.specs.Records.{Row, has_only, name_in}
 use Rattle.day_text.specs.Trucks.{load_of, truck_fields_of}
 use Rattle.trip_analysis.specs.declared.base.Truck.{Truck}
 use Rattle.record_text.specs.declared.refusal.Cause.{Cause}
@@ -29,8 +28,8 @@ fleet_of trucks fields = do
 -- actor,NAME
 unfoldable pub actors_of : List (List ℕ) → Row → Result (List (List ℕ)) Cause
 actors_of actors fields = do
-  rest ← demand (is_blank_from 2 fields) bad.Extra
-  name ← or_bad (bad.Field 2) (name_of (field_of fields 1))
+  rest ← has_only 2 fields
+  name ← name_in 2 fields
   a ← demand (not (has_name name actors)) bad.Same
   b ← limit (nat_lt (length actors) most_actors) kind.Actors
   Ok (actors ++ name ∷ [])

@@ -5,8 +5,8 @@ use Rattle.road_graph.specs.Ranges.{is_feet, is_inches, is_limit, is_rating}
 use Rattle.road_graph.specs.Roads.{Roads, has_name, segment_names, span_names, spans_of}
 use Rattle.road_graph.specs.Roads.{number_of as number_named}
 use Rattle.record_text.specs.Causes.{◌>>=◌, demand, limit, or_bad}
-use Rattle.record_text.specs.Fields.{field_of, name_of, number_of, what_of}
-use Rattle.record_text.specs.Records.{Row, is_blank_from}
+use Rattle.record_text.specs.Fields.{field_of, what_of}
+use Rattle.record_text.specs.Records.{Row, has_only, name_in, number_in}
 use Rattle.day_text.specs.declared.kind.RoadKind.{RoadKind}
 use Rattle.day_text.specs.declared.kind.RoadKind.TheVariants.{Limit, Node, Segment, Span}
 use Rattle.record_text.specs.declared.refusal.Cause.{Cause}
@@ -16,8 +16,8 @@ use Rattle.record_text.specs.declared.refusal.Kind.TheVariants as kind
 -- node,NAME
 unfoldable pub node_of : Roads → Row → Result Roads Cause
 node_of roads fields = do
-  rest ← demand (is_blank_from 2 fields) bad.Extra
-  name ← or_bad (bad.Field 2) (name_of (field_of fields 1))
+  rest ← has_only 2 fields
+  name ← name_in 2 fields
   a ← demand (not (has_name name roads.nodes)) bad.Same
   b ← limit (nat_lt (length roads.nodes) 4096) kind.Nodes
   Ok (with_node roads name)
@@ -25,11 +25,11 @@ node_of roads fields = do
 -- segment,NAME,FROM,TO,FEET
 unfoldable pub segment_of : Roads → Row → Result Roads Cause
 segment_of roads fields = do
-  rest ← demand (is_blank_from 5 fields) bad.Extra
-  name ← or_bad (bad.Field 2) (name_of (field_of fields 1))
-  from ← or_bad (bad.Field 3) (name_of (field_of fields 2))
-  to ← or_bad (bad.Field 4) (name_of (field_of fields 3))
-  feet ← or_bad (bad.Field 5) (number_of (field_of fields 4))
+  rest ← has_only 5 fields
+  name ← name_in 2 fields
+  from ← name_in 3 fields
+  to ← name_in 4 fields
+  feet ← number_in 5 fields
   a ← demand (not (has_name name (segment_names roads.segments))) bad.Same
   i ← or_bad (bad.Unknown 3) (number_named from roads.nodes)
   j ← or_bad (bad.Unknown 4) (number_named to roads.nodes)
@@ -40,10 +40,10 @@ segment_of roads fields = do
 -- limit,SEGMENT,WHAT,VALUE: the last record for a limit of a segment holds
 unfoldable pub limit_of : Roads → Row → Result Roads Cause
 limit_of roads fields = do
-  rest ← demand (is_blank_from 4 fields) bad.Extra
-  name ← or_bad (bad.Field 2) (name_of (field_of fields 1))
+  rest ← has_only 4 fields
+  name ← name_in 2 fields
   what ← or_bad (bad.Field 3) (what_of (field_of fields 2))
-  value ← or_bad (bad.Field 4) (number_of (field_of fields 3))
+  value ← number_in 4 fields
   i ← or_bad (bad.Unknown 2) (number_named name (segment_names roads.segments))
   a ← demand (is_limit what value) (bad.Range 4)
   Ok (with_limit roads i what value)
@@ -51,11 +51,11 @@ limit_of roads fields = do
 -- span,NAME,SEGMENT,INCHES,RATING
 unfoldable pub span_of : Roads → Row → Result Roads Cause
 span_of roads fields = do
-  rest ← demand (is_blank_from 5 fields) bad.Extra
-  name ← or_bad (bad.Field 2) (name_of (field_of fields 1))
-  segment ← or_bad (bad.Field 3) (name_of (field_of fields 2))
-  inches ← or_bad (bad.Field 4) (number_of (field_of fields 3))
-  rating ← or_bad (bad.Field 5) (number_of (field_of fields 4))
+  rest ← has_only 5 fields
+  name ← name_in 2 fields
+  segment ← name_in 3 fields
+  inches ← number_in 4 fields
+  rating ← number_in 5 fields
   a ← demand (not (has_name name (span_names roads.spans))) bad.Same
   i ← or_bad (bad.Unknown 3) (number_named segment (segment_names roads.segments))
   b ← demand (is_inches inches) (bad.Range 4)

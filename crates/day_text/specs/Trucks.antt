@@ -5,8 +5,8 @@ use Rattle.axle_train.specs.declared.refusal.TrainRefusal.{TrainRefusal}
 use Rattle.axle_train.specs.declared.refusal.TrainRefusal.TheVariants.{TooFew, TooMany, PlaceOrder, Weight, Gross, TooLong}
 use Rattle.axle_train.specs.Refusals.{refusal_of}
 use Rattle.record_text.specs.Causes.{◌>>=◌, demand, or_bad}
-use Rattle.record_text.specs.Fields.{axles_of, field_of, name_of, number_of}
-use Rattle.record_text.specs.Records.{Row, is_blank_from}
+use Rattle.record_text.specs.Fields.{axles_of, field_of}
+use Rattle.record_text.specs.Records.{Row, has_only, name_in, number_in}
 use Rattle.clearance_rules.specs.Loads.{LoadParts, is_cross_section, is_length}
 use Rattle.day_text.specs.declared.truck.TruckFields.{TruckFields}
 use Rattle.record_text.specs.declared.refusal.Cause.{Cause}
@@ -16,12 +16,12 @@ use Rattle.record_text.specs.declared.refusal.RecordCause.TheVariants as bad
 -- the fields of the record, each in its form
 unfoldable pub truck_fields_of : Row → Result TruckFields Cause
 truck_fields_of fields = do
-  rest ← demand (is_blank_from 7 fields) bad.Extra
-  name ← or_bad (bad.Field 2) (name_of (field_of fields 1))
-  carrier ← or_bad (bad.Field 3) (name_of (field_of fields 2))
-  height ← or_bad (bad.Field 4) (number_of (field_of fields 3))
-  width ← or_bad (bad.Field 5) (number_of (field_of fields 4))
-  long ← or_bad (bad.Field 6) (number_of (field_of fields 5))
+  rest ← has_only 7 fields
+  name ← name_in 2 fields
+  carrier ← name_in 3 fields
+  height ← number_in 4 fields
+  width ← number_in 5 fields
+  long ← number_in 6 fields
   axles ← or_bad (bad.Field 7) (axles_of (field_of fields 6))
   Ok (record { name = name; carrier = carrier; height = height; width = width; length = long; axles = axles })
 

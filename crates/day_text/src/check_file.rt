@@ -10,8 +10,8 @@ ghost use Rattle.day_text.specs.Checks.{check_of, ended_check, is_check_kind, ju
 use crate::truck::{load_of, parse_truck};
 use csv::StringRecord;
 use record_text::{
-    Cause, FileRefusal, Kind, Progress, RecordCause, RecordRefusal, field, is_blank_from,
-    parse_number, read_records,
+    Cause, FileRefusal, Kind, Progress, RecordCause, RecordRefusal, demand, field, has_only, limit,
+    number_in, read_records,
 };
 use std::alloc::Global;
 use std::marker::Model;
@@ -159,12 +159,7 @@ fn take_truck(alloc: Global, row: &StringRecord) -> Result<CheckProgress, Record
         return Err(RecordRefusal::bad(RecordCause::Order));
     }
     let truck = parse_truck(alloc, row)?;
-    let load = load_of(
-        truck.height,
-        truck.width,
-        truck.length,
-        truck.axles.as_slice(),
-    )?;
+    let load = load_of(&truck)?;
     Ok(CheckProgress::Open(CheckFile {
         truck: Truck {
             name: truck.name,
@@ -190,35 +185,21 @@ fn take_probe(file: CheckFile, row: &StringRecord) -> Result<CheckProgress, Reco
         probes.push(probe)?;
         return Ok(CheckProgress::Open(CheckFile { truck, probes }));
     }
-    if !is_blank_from(row, 1) {
-        return Err(RecordRefusal::bad(RecordCause::Extra));
-    }
+    has_only(row, 1)?;
     Ok(CheckProgress::Ended(CheckFile { truck, probes }))
 }
 
 // The probe of a record, behind those that are there.
 #[tactic(auto, unfolding(crate::specs::Checks::probe_of))]
-fn parse_probe(probes: &Probes, row: &StringRecord) -> Result<Probe, RecordRefusal>
-    ensures judged { Judges result (probe_of probes.now (fields_of row.now)) }
+fn parse_probe(probes: &Probes, row: &StringRecord) -> Result<Probe, Cause>
+    ensures probe { result ≡ probe_of probes.now (fields_of row.now) }
     ensures span { IfOk result (λ probe. IsSpan probe) }
 {
-    if !is_blank_from(row, 3) {
-        return Err(RecordRefusal::bad(RecordCause::Extra));
-    }
-    let Some(inches) = parse_number(field(row, 1)) else {
-        return Err(RecordRefusal::bad(RecordCause::Field(2)));
-    };
-    let Some(rating) = parse_number(field(row, 2)) else {
-        return Err(RecordRefusal::bad(RecordCause::Field(3)));
-    };
-    if inches < 1 || inches > 6000 {
-        return Err(RecordRefusal::bad(RecordCause::Range(2)));
-    }
-    if rating > 100_000 {
-        return Err(RecordRefusal::bad(RecordCause::Range(3)));
-    }
-    if probes.as_slice().len() >= 64 {
-        return Err(RecordRefusal::too_many(Kind::Probes));
-    }
+    has_only(row, 3)?;
+    let inches = number_in(row, 2)?;
+    let rating = number_in(row, 3)?;
+    demand(1 <= inches && inches <= 6000, RecordCause::Range(2))?;
+    demand(rating <= 100_000, RecordCause::Range(3))?;
+    limit(probes.as_slice().len() < 64, Kind::Probes)?;
     Ok(Probe { inches, rating })
 }

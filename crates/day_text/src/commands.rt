@@ -7,7 +7,7 @@ ghost use Rattle.trip_analysis.specs.Applications.{AreAskedThere};
 ghost use Rattle.record_text.specs.Causes.{Judges};
 ghost use Rattle.day_text.specs.Commands.{all_numbers, apply_fields_of, apply_of, asked_of, cause_of, change_of, order_of, permit_of, post_of, posting_of, resolved_of, set_day_of, show_of, surrender_of};
 
-use crate::draft::Draft;
+use crate::day_so_far::DaySoFar;
 use crate::kind::CommandKind;
 use crate::orders::Order;
 use csv::StringRecord;
@@ -15,8 +15,8 @@ use names::Name;
 use office_words::Command;
 use permit_days::Day;
 use record_text::{
-    Posted, RecordCause, RecordRefusal, Route, field, is_blank_from, parse_day, parse_name,
-    parse_number, parse_posted, parse_route,
+    Cause, Posted, RecordCause, RecordRefusal, Route, day_in, demand, field, has_only, name_in,
+    number_in, or_bad, parse_posted, parse_route,
 };
 use restriction_log::Change;
 use road_graph::{Network, Numbers, Span, What};
@@ -38,92 +38,74 @@ pub(crate) struct ApplyFields {
 /// The command of a record, for its actor.
 pub(crate) fn parse_order(
     alloc: Global,
-    draft: &Draft,
+    so_far: &DaySoFar,
     kind: CommandKind,
     row: &StringRecord,
 ) -> Result<Order, RecordRefusal>
-    ensures { Judges result (order_of draft.now kind (fields_of row.now)) }
+    ensures { Judges result (order_of so_far.now kind (fields_of row.now)) }
 {
     match kind {
-        CommandKind::Apply => parse_apply(alloc, draft, row),
-        CommandKind::Post => parse_post(draft, row),
-        CommandKind::SetDay => parse_set_day(draft, row),
-        CommandKind::Surrender => parse_surrender(draft, row),
-        CommandKind::Show => parse_show(draft, row),
+        CommandKind::Apply => parse_apply(alloc, so_far, row),
+        CommandKind::Post => Ok(parse_post(so_far, row)?),
+        CommandKind::SetDay => Ok(parse_set_day(so_far, row)?),
+        CommandKind::Surrender => Ok(parse_surrender(so_far, row)?),
+        CommandKind::Show => Ok(parse_show(so_far, row)?),
     }
 }
 
 // The application of a record, for its actor.
-fn parse_apply(alloc: Global, draft: &Draft, row: &StringRecord) -> Result<Order, RecordRefusal>
-    ensures { Judges result (apply_of draft.now (fields_of row.now)) }
+fn parse_apply(alloc: Global, so_far: &DaySoFar, row: &StringRecord) -> Result<Order, RecordRefusal>
+    ensures { Judges result (apply_of so_far.now (fields_of row.now)) }
 {
     let fields = parse_apply_fields(alloc, row)?;
-    let order = resolve(alloc, draft, &fields);
+    let order = resolve(alloc, so_far, &fields);
     drop(fields);
     order
 }
 
 // The application of some fields, each name of which is looked up.
 #[tactic(auto, unfolding(crate::specs::Commands::resolved_of))]
-fn resolve(alloc: Global, draft: &Draft, fields: &ApplyFields) -> Result<Order, RecordRefusal>
-    ensures { Judges result (resolved_of draft.now fields.now) }
+fn resolve(alloc: Global, so_far: &DaySoFar, fields: &ApplyFields) -> Result<Order, RecordRefusal>
+    ensures { Judges result (resolved_of so_far.now fields.now) }
 {
-    let Some(actor) = draft.actors.number(&fields.actor) else {
-        return Err(RecordRefusal::bad(RecordCause::Unknown(2)));
-    };
-    let Some(truck) = draft.fleet.number(&fields.truck) else {
-        return Err(RecordRefusal::bad(RecordCause::Unknown(3)));
-    };
-    let Some(from) = draft.network.node_named(&fields.from) else {
-        return Err(RecordRefusal::bad(RecordCause::Unknown(4)));
-    };
-    let Some(to) = draft.network.node_named(&fields.to) else {
-        return Err(RecordRefusal::bad(RecordCause::Unknown(5)));
-    };
-    let Some(route) = numbers_of(alloc, &draft.network, fields.route.as_slice())? else {
-        return Err(RecordRefusal::bad(RecordCause::Unknown(6)));
-    };
-    let Some(first) = fields.first else {
-        return Err(RecordRefusal::bad(RecordCause::Range(7)));
-    };
-    let Some(last) = fields.last else {
-        return Err(RecordRefusal::bad(RecordCause::Range(8)));
-    };
-    let asked = asked_of(&draft.network, route);
-    let application = match Application::on(&draft.network, truck, from, to, asked, first, last) {
-        Ok(application) => application,
-        Err(refusal) => return Err(RecordRefusal::bad(cause_of(refusal))),
-    };
-    Ok(Order {
-        actor,
-        command: Command::Apply(application),
-    })
+    let actor = or_bad(so_far.actors.number(&fields.actor), RecordCause::Unknown(2))?;
+    let truck = or_bad(so_far.fleet.number(&fields.truck), RecordCause::Unknown(3))?;
+    let from = or_bad(
+        so_far.network.node_named(&fields.from),
+        RecordCause::Unknown(4),
+    )?;
+    let to = or_bad(
+        so_far.network.node_named(&fields.to),
+        RecordCause::Unknown(5),
+    )?;
+    let route = or_bad(
+        numbers_of(alloc, &so_far.network, fields.route.as_slice())?,
+        RecordCause::Unknown(6),
+    )?;
+    let first = or_bad(fields.first, RecordCause::Range(7))?;
+    let last = or_bad(fields.last, RecordCause::Range(8))?;
+    let asked = asked_of(&so_far.network, route);
+    match Application::on(&so_far.network, truck, from, to, asked, first, last) {
+        Ok(application) => Ok(Order {
+            actor,
+            command: Command::Apply(application),
+        }),
+        Err(refusal) => Err(RecordRefusal::bad(cause_of(refusal))),
+    }
 }
 
 // The posting of a record, for its actor.
 #[tactic(auto, unfolding(crate::specs::Commands::post_of))]
-fn parse_post(draft: &Draft, row: &StringRecord) -> Result<Order, RecordRefusal>
-    ensures { Judges result (post_of draft.now (fields_of row.now)) }
+fn parse_post(so_far: &DaySoFar, row: &StringRecord) -> Result<Order, Cause>
+    ensures { result ≡ post_of so_far.now (fields_of row.now) }
 {
-    if !is_blank_from(row, 5) {
-        return Err(RecordRefusal::bad(RecordCause::Extra));
-    }
-    let Some(actor) = parse_name(field(row, 1)) else {
-        return Err(RecordRefusal::bad(RecordCause::Field(2)));
-    };
-    let Some(item) = parse_name(field(row, 2)) else {
-        return Err(RecordRefusal::bad(RecordCause::Field(3)));
-    };
-    let Some(what) = parse_posted(field(row, 3)) else {
-        return Err(RecordRefusal::bad(RecordCause::Field(4)));
-    };
-    let Some(value) = parse_number(field(row, 4)) else {
-        return Err(RecordRefusal::bad(RecordCause::Field(5)));
-    };
-    let Some(actor) = draft.actors.number(&actor) else {
-        return Err(RecordRefusal::bad(RecordCause::Unknown(2)));
-    };
-    let change = posting(&draft.network, what, &item, value)?;
+    has_only(row, 5)?;
+    let actor = name_in(row, 2)?;
+    let item = name_in(row, 3)?;
+    let what = or_bad(parse_posted(field(row, 3)), RecordCause::Field(4))?;
+    let value = number_in(row, 5)?;
+    let actor = or_bad(so_far.actors.number(&actor), RecordCause::Unknown(2))?;
+    let change = posting(&so_far.network, what, &item, value)?;
     Ok(Order {
         actor,
         command: Command::Post(change),
@@ -132,24 +114,14 @@ fn parse_post(draft: &Draft, row: &StringRecord) -> Result<Order, RecordRefusal>
 
 // The setting of the day of a record, for its actor.
 #[tactic(auto, unfolding(crate::specs::Commands::set_day_of))]
-fn parse_set_day(draft: &Draft, row: &StringRecord) -> Result<Order, RecordRefusal>
-    ensures { Judges result (set_day_of draft.now (fields_of row.now)) }
+fn parse_set_day(so_far: &DaySoFar, row: &StringRecord) -> Result<Order, Cause>
+    ensures { result ≡ set_day_of so_far.now (fields_of row.now) }
 {
-    if !is_blank_from(row, 3) {
-        return Err(RecordRefusal::bad(RecordCause::Extra));
-    }
-    let Some(actor) = parse_name(field(row, 1)) else {
-        return Err(RecordRefusal::bad(RecordCause::Field(2)));
-    };
-    let Some(day) = parse_day(field(row, 2)) else {
-        return Err(RecordRefusal::bad(RecordCause::Field(3)));
-    };
-    let Some(actor) = draft.actors.number(&actor) else {
-        return Err(RecordRefusal::bad(RecordCause::Unknown(2)));
-    };
-    let Some(day) = day else {
-        return Err(RecordRefusal::bad(RecordCause::Range(3)));
-    };
+    has_only(row, 3)?;
+    let actor = name_in(row, 2)?;
+    let day = day_in(row, 3)?;
+    let actor = or_bad(so_far.actors.number(&actor), RecordCause::Unknown(2))?;
+    let day = or_bad(day, RecordCause::Range(3))?;
     Ok(Order {
         actor,
         command: Command::Day(day),
@@ -157,10 +129,10 @@ fn parse_set_day(draft: &Draft, row: &StringRecord) -> Result<Order, RecordRefus
 }
 
 // The surrender of a record, for its actor.
-fn parse_surrender(draft: &Draft, row: &StringRecord) -> Result<Order, RecordRefusal>
-    ensures { Judges result (surrender_of draft.now (fields_of row.now)) }
+fn parse_surrender(so_far: &DaySoFar, row: &StringRecord) -> Result<Order, Cause>
+    ensures { result ≡ surrender_of so_far.now (fields_of row.now) }
 {
-    let (actor, number) = parse_permit(draft, row)?;
+    let (actor, number) = parse_permit(so_far, row)?;
     Ok(Order {
         actor,
         command: Command::Surrender(number),
@@ -168,10 +140,10 @@ fn parse_surrender(draft: &Draft, row: &StringRecord) -> Result<Order, RecordRef
 }
 
 // The showing of a record, for its actor.
-fn parse_show(draft: &Draft, row: &StringRecord) -> Result<Order, RecordRefusal>
-    ensures { Judges result (show_of draft.now (fields_of row.now)) }
+fn parse_show(so_far: &DaySoFar, row: &StringRecord) -> Result<Order, Cause>
+    ensures { result ≡ show_of so_far.now (fields_of row.now) }
 {
-    let (actor, number) = parse_permit(draft, row)?;
+    let (actor, number) = parse_permit(so_far, row)?;
     Ok(Order {
         actor,
         command: Command::Show(number),
@@ -183,27 +155,13 @@ fn parse_show(draft: &Draft, row: &StringRecord) -> Result<Order, RecordRefusal>
 fn parse_apply_fields(alloc: Global, row: &StringRecord) -> Result<ApplyFields, RecordRefusal>
     ensures { Judges result (apply_fields_of (fields_of row.now)) }
 {
-    let Some(actor) = parse_name(field(row, 1)) else {
-        return Err(RecordRefusal::bad(RecordCause::Field(2)));
-    };
-    let Some(truck) = parse_name(field(row, 2)) else {
-        return Err(RecordRefusal::bad(RecordCause::Field(3)));
-    };
-    let Some(from) = parse_name(field(row, 3)) else {
-        return Err(RecordRefusal::bad(RecordCause::Field(4)));
-    };
-    let Some(to) = parse_name(field(row, 4)) else {
-        return Err(RecordRefusal::bad(RecordCause::Field(5)));
-    };
-    let Some(route) = parse_route(alloc, field(row, 5))? else {
-        return Err(RecordRefusal::bad(RecordCause::Field(6)));
-    };
-    let Some(first) = parse_day(field(row, 6)) else {
-        return Err(RecordRefusal::bad(RecordCause::Field(7)));
-    };
-    let Some(last) = parse_day(field(row, 7)) else {
-        return Err(RecordRefusal::bad(RecordCause::Field(8)));
-    };
+    let actor = name_in(row, 2)?;
+    let truck = name_in(row, 3)?;
+    let from = name_in(row, 4)?;
+    let to = name_in(row, 5)?;
+    let route = or_bad(parse_route(alloc, field(row, 5))?, RecordCause::Field(6))?;
+    let first = day_in(row, 7)?;
+    let last = day_in(row, 8)?;
     Ok(ApplyFields {
         actor,
         truck,
@@ -260,31 +218,18 @@ fn cause_of(refusal: ApplicationRefusal) -> RecordCause
 
 // The change that a posting makes.
 #[tactic(auto, unfolding(crate::specs::Commands::posting_of))]
-fn posting(
-    network: &Network,
-    what: Posted,
-    item: &Name,
-    value: u32,
-) -> Result<Change, RecordRefusal>
-    ensures { Judges result (posting_of network.now what item.now value) }
+fn posting(network: &Network, what: Posted, item: &Name, value: u32) -> Result<Change, Cause>
+    ensures { result ≡ posting_of network.now what item.now value }
 {
     match what {
         Posted::Limit(what) => {
-            let Some(segment) = network.segment_named(item) else {
-                return Err(RecordRefusal::bad(RecordCause::Unknown(3)));
-            };
-            if !what.takes(value) {
-                return Err(RecordRefusal::bad(RecordCause::Range(5)));
-            }
+            let segment = or_bad(network.segment_named(item), RecordCause::Unknown(3))?;
+            demand(what.takes(value), RecordCause::Range(5))?;
             Ok(change_of(what, segment, value))
         }
         Posted::Rating => {
-            let Some(span) = network.span_named(item) else {
-                return Err(RecordRefusal::bad(RecordCause::Unknown(3)));
-            };
-            if !Span::takes_rating(value) {
-                return Err(RecordRefusal::bad(RecordCause::Range(5)));
-            }
+            let span = or_bad(network.span_named(item), RecordCause::Unknown(3))?;
+            demand(Span::takes_rating(value), RecordCause::Range(5))?;
             Ok(Change::Rating {
                 span,
                 permille: value,
@@ -327,20 +272,12 @@ fn change_of(what: What, segment: u32, value: u32) -> Change
 
 // The actor and the permit's number of a record.
 #[tactic(auto, unfolding(crate::specs::Commands::permit_of))]
-fn parse_permit(draft: &Draft, row: &StringRecord) -> Result<(u32, u32), RecordRefusal>
-    ensures { Judges result (permit_of draft.now (fields_of row.now)) }
+fn parse_permit(so_far: &DaySoFar, row: &StringRecord) -> Result<(u32, u32), Cause>
+    ensures { result ≡ permit_of so_far.now (fields_of row.now) }
 {
-    if !is_blank_from(row, 3) {
-        return Err(RecordRefusal::bad(RecordCause::Extra));
-    }
-    let Some(actor) = parse_name(field(row, 1)) else {
-        return Err(RecordRefusal::bad(RecordCause::Field(2)));
-    };
-    let Some(number) = parse_number(field(row, 2)) else {
-        return Err(RecordRefusal::bad(RecordCause::Field(3)));
-    };
-    let Some(actor) = draft.actors.number(&actor) else {
-        return Err(RecordRefusal::bad(RecordCause::Unknown(2)));
-    };
+    has_only(row, 3)?;
+    let actor = name_in(row, 2)?;
+    let number = number_in(row, 3)?;
+    let actor = or_bad(so_far.actors.number(&actor), RecordCause::Unknown(2))?;
     Ok((actor, number))
 }

@@ -7,7 +7,8 @@ ghost use Rattle.day_text.specs.Laws.{IsDayFile};
 ghost use Rattle.day_text.specs.Refusals.{IsRefusedAs};
 
 use crate::applicants::learn_applicants;
-use crate::draft::Draft;
+use crate::day_so_far::DaySoFar;
+use crate::name_set::Names;
 use crate::orders::Order;
 use crate::progress::DayProgress;
 use names::{Name, NoMemory};
@@ -22,7 +23,7 @@ use trip_analysis::Base;
 pub struct DayFile {
     base: Base,
     day: Day,
-    actors: Vec<Name>,
+    actors: Names,
     commands: Vec<Order>,
 }
 
@@ -31,7 +32,7 @@ impl Model for DayFile {
 
     ghost Value = { DayParts };
 
-    ghost view = { λ a. record { base = a.base; day = a.day; actors = a.actors.items; commands = a.commands.items } };
+    ghost view = { λ a. record { base = a.base; day = a.day; actors = a.actors; commands = a.commands.items } };
 }
 
 impl DayFile {
@@ -72,10 +73,10 @@ impl DayFile {
     }
 
     /// The roads and the trucks, the opening day, the actors and the commands. Takes no memory.
-    pub fn into_parts(self) -> (Base, Day, Vec<Name>, Vec<Order>)
+    pub fn into_parts(self) -> (Base, Day, Names, Vec<Order>)
         ensures base { result.0 ≡ self.base }
         ensures day { result.1 ≡ self.day }
-        ensures actors { result.2.items ≡ self.actors }
+        ensures actors { result.2 ≡ self.actors }
         ensures commands { result.3.items ≡ self.commands }
     {
         (self.base, self.day, self.actors, self.commands)
@@ -90,15 +91,15 @@ pub fn read_day(alloc: Global, bytes: &[u8]) -> Result<DayFile, FileRefusal>
     ensures refused { IfErr result (λ refusal. IsRefusedAs (day_of bytes.now) refusal) }
 {
     let (row, progress) = read_records(alloc, DayProgress::Start, bytes)?;
-    finish(alloc, progress, row)
+    finish(progress, row)
 }
 
 // The file, where its end was told. The row is that after the last.
-fn finish(alloc: Global, progress: DayProgress, row: u64) -> Result<DayFile, FileRefusal>
+fn finish(progress: DayProgress, row: u64) -> Result<DayFile, FileRefusal>
     ensures { Tells result (ended_day (row, progress)) }
 {
     match progress {
-        DayProgress::Ended(growing) => close(alloc, growing.into_draft()),
+        DayProgress::Ended(growing) => Ok(closed(growing.into_inner())),
         unended => {
             drop(unended);
             Err(RecordRefusal::bad(RecordCause::End).at(row))
@@ -106,33 +107,17 @@ fn finish(alloc: Global, progress: DayProgress, row: u64) -> Result<DayFile, Fil
     }
 }
 
-// The file of a draft.
-fn close(alloc: Global, draft: Draft) -> Result<DayFile, FileRefusal>
-    ensures file { IfOk result (λ file. file ≡ parts_of draft) }
-    ensures memory { IfErr result (λ refusal. refusal ≡ FileRefusal.NoMemory) }
+// The file of what the records said.
+fn closed(so_far: DaySoFar) -> DayFile
+    ensures { result ≡ parts_of so_far }
 {
-    match draft.actors.to_vec(alloc) {
-        Ok(actors) => Ok(closed(draft, actors)),
-        Err(_) => {
-            drop(draft);
-            Err(FileRefusal::NoMemory)
-        }
-    }
-}
-
-// The file of a draft, with its actors in a vector.
-fn closed(draft: Draft, actors: Vec<Name>) -> DayFile
-    requires { actors.items ≡ draft.actors }
-    ensures { result ≡ parts_of draft }
-{
-    let Draft {
+    let DaySoFar {
         network,
         day,
         fleet,
-        actors: names,
+        actors,
         orders,
-    } = draft;
-    drop(names);
+    } = so_far;
     DayFile {
         base: Base::new(network, fleet.into_vec()),
         day,

@@ -5,7 +5,7 @@ ghost use Rattle.road_graph.specs.Roads.{has_name, number_of};
 ghost use Rattle.day_text.specs.Fleets.{truck_names};
 ghost use Rattle.record_text.specs.declared.refusal.RecordRefusal.TheVariants as refusal;
 
-use indexmap::IndexSet;
+use crate::name_set::Names;
 use names::Name;
 use record_text::RecordRefusal;
 use std::alloc::Global;
@@ -15,7 +15,7 @@ use trip_analysis::Truck;
 /// Trucks, numbered from 0 in the order in which they came, each with a name of its own.
 #[derive(Drop)]
 pub(crate) struct Fleet {
-    names: IndexSet<Name>,
+    names: Names,
     trucks: Vec<Truck>,
 }
 
@@ -28,7 +28,7 @@ impl Model for Fleet {
 
     ghost view = { λ a. a.trucks.items };
 
-    ghost invariant = { λ a. (a.names.keys ≡ truck_names a.trucks.items) × (length a.trucks.items ≤ 64) };
+    ghost invariant = { λ a. (a.names ≡ truck_names a.trucks.items) × (length a.trucks.items ≤ 64) };
 }
 
 impl Fleet {
@@ -37,7 +37,7 @@ impl Fleet {
         ensures { result ≡ [] }
     {
         Fleet {
-            names: IndexSet::new(alloc),
+            names: Names::new(alloc),
             trucks: Vec::new(alloc),
         }
     }
@@ -53,7 +53,7 @@ impl Fleet {
     pub(crate) fn has(&self, name: &Name) -> bool
         ensures { result ≡ has_name name.now (truck_names self.now) }
     {
-        self.names.contains(name)
+        self.names.has(name)
     }
 
     /// The number of the truck of this name, where there is one.
@@ -61,10 +61,7 @@ impl Fleet {
         ensures number { result ≡ number_of name.now (truck_names self.now) }
         ensures within { IfSome result (λ i. i < length self.now) }
     {
-        match self.names.get_index_of(name) {
-            Some(i) => Some(i as u32),
-            None => None,
-        }
+        self.names.number(name)
     }
 
     /// Adds a truck whose name is not there.
@@ -75,11 +72,8 @@ impl Fleet {
         ensures added { OnOk result (self.new ≡ self.old ++ truck ∷ []) }
         ensures memory { IfErr result (λ why. why ≡ refusal.NoMemory) }
     {
-        if self.names.contains(&truck.name) {
-            unreachable!();
-        }
         self.trucks.reserve(1)?;
-        self.names.insert(truck.name)?;
+        self.names.push(truck.name)?;
         self.trucks.push_reserved(truck);
         Ok(())
     }

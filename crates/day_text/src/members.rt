@@ -9,7 +9,7 @@ use crate::fleet::Fleet;
 use crate::name_set::Names;
 use crate::truck::{load_of, parse_truck};
 use csv::StringRecord;
-use record_text::{Kind, RecordCause, RecordRefusal, field, is_blank_from, parse_name};
+use record_text::{Kind, RecordCause, RecordRefusal, demand, has_only, limit, name_in};
 use std::alloc::Global;
 use trip_analysis::Truck;
 
@@ -29,18 +29,9 @@ pub(crate) fn add_truck(
     ensures { Grows result fleet.new (fleet_of fleet.old (fields_of row.now)) }
 {
     let truck = parse_truck(alloc, row)?;
-    if fleet.has(&truck.name) {
-        return Err(RecordRefusal::bad(RecordCause::Same));
-    }
-    let load = load_of(
-        truck.height,
-        truck.width,
-        truck.length,
-        truck.axles.as_slice(),
-    )?;
-    if fleet.len() >= MOST_TRUCKS {
-        return Err(RecordRefusal::too_many(Kind::Trucks));
-    }
+    demand(!fleet.has(&truck.name), RecordCause::Same)?;
+    let load = load_of(&truck)?;
+    limit(fleet.len() < MOST_TRUCKS, Kind::Trucks)?;
     fleet.push(Truck {
         name: truck.name,
         carrier: truck.carrier,
@@ -53,17 +44,9 @@ pub(crate) fn add_truck(
 pub(crate) fn add_actor(actors: &mut Names, row: &StringRecord) -> Result<(), RecordRefusal>
     ensures { Grows result actors.new (actors_of actors.old (fields_of row.now)) }
 {
-    if !is_blank_from(row, 2) {
-        return Err(RecordRefusal::bad(RecordCause::Extra));
-    }
-    let Some(name) = parse_name(field(row, 1)) else {
-        return Err(RecordRefusal::bad(RecordCause::Field(2)));
-    };
-    if actors.has(&name) {
-        return Err(RecordRefusal::bad(RecordCause::Same));
-    }
-    if actors.len() >= MOST_ACTORS {
-        return Err(RecordRefusal::too_many(Kind::Actors));
-    }
+    has_only(row, 2)?;
+    let name = name_in(row, 2)?;
+    demand(!actors.has(&name), RecordCause::Same)?;
+    limit(actors.len() < MOST_ACTORS, Kind::Actors)?;
     actors.push(name)
 }

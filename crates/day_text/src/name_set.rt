@@ -1,6 +1,6 @@
 // Names, numbered from 0 in the order in which they came.
 
-ghost use Rattle.std.specs.Prelude.{◌≡◌, ◌++◌, ◌∷◌, ◌<◌, [], length, false, IfOk, OnOk, IfErr};
+ghost use Rattle.std.specs.Prelude.{◌≡◌, ◌++◌, ◌∷◌, ◌<◌, [], length, false, OnOk, OnErr, IfErr, IfSome};
 ghost use Rattle.road_graph.specs.Roads.{has_name, number_of};
 ghost use Rattle.record_text.specs.declared.refusal.RecordRefusal.TheVariants as refusal;
 
@@ -10,9 +10,9 @@ use record_text::RecordRefusal;
 use std::alloc::Global;
 use std::marker::Model;
 
-/// Names that are one of a kind.
+/// Names of one kind, each there once.
 #[derive(Drop)]
-pub(crate) struct Names {
+pub struct Names {
     set: IndexSet<Name>,
 }
 
@@ -52,7 +52,8 @@ impl Names {
 
     /// The number of a name, where it is there.
     pub(crate) fn number(&self, name: &Name) -> Option<u32>
-        ensures { result ≡ number_of name.now self.now }
+        ensures number { result ≡ number_of name.now self.now }
+        ensures within { IfSome result (λ i. i < length self.now) }
     {
         match self.set.get_index_of(name) {
             Some(i) => Some(i as u32),
@@ -66,6 +67,7 @@ impl Names {
         requires few { length self.old < 65536 }
         ensures added { OnOk result (self.new ≡ self.old ++ name ∷ []) }
         ensures memory { IfErr result (λ why. why ≡ refusal.NoMemory) }
+        ensures kept { OnErr result (self.new ≡ self.old) }
     {
         if self.set.contains(&name) {
             unreachable!();
@@ -74,13 +76,10 @@ impl Names {
         Ok(())
     }
 
-    /// The names in a vector.
-    pub(crate) fn to_vec(&self, alloc: Global) -> Result<Vec<Name>, RecordRefusal>
-        ensures named { IfOk result (λ names. names.items ≡ self.now) }
-        ensures memory { IfErr result (λ why. why ≡ refusal.NoMemory) }
+    /// The names as a slice.
+    pub fn as_slice(&self) -> &[Name]
+        ensures { result.now ≡ self.now }
     {
-        let mut names = Vec::new(alloc);
-        names.extend_from_slice(self.set.as_slice())?;
-        Ok(names)
+        self.set.as_slice()
     }
 }

@@ -5,7 +5,7 @@ ghost use Rattle.record_text.specs.Causes.{Grows};
 ghost use Rattle.day_text.specs.Commands.{with_order};
 
 use office_words::Command;
-use record_text::{Kind, RecordRefusal};
+use record_text::{Kind, RecordRefusal, limit};
 use std::alloc::Global;
 use std::marker::Model;
 
@@ -48,9 +48,7 @@ impl Orders {
     pub(crate) fn push(&mut self, order: Order) -> Result<(), RecordRefusal>
         ensures { Grows result self.new (with_order self.old order) }
     {
-        if self.list.len() >= MOST_COMMANDS {
-            return Err(RecordRefusal::too_many(Kind::Commands));
-        }
+        limit(self.list.len() < MOST_COMMANDS, Kind::Commands)?;
         self.list.push(order)?;
         Ok(())
     }

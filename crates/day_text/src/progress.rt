@@ -1,14 +1,15 @@
 // Where each record of a day file leads.
 //
-// A draft is let go by a call of `drop`: where a scope lets it go, the proof of the whole function goes through its parts.
+// What was said so far is let go by a call of `drop`: where a scope lets it go, the proof of the whole function goes through
+// its parts.
 
-ghost use Rattle.std.specs.Prelude.{◌≡◌};
+ghost use Rattle.std.specs.Prelude.{◌≡◌, Ok, Err, OnOk, IfErr};
 ghost use Rattle.csv.specs.Records.{fields_of};
 ghost use Rattle.record_text.specs.Causes.{Judges};
 ghost use Rattle.day_text.specs.Days.{going_on, judge_day, judge_kind, judge_later, judge_opening, opening_of, with_actor, with_command, with_road, with_truck};
 
 use crate::commands::parse_order;
-use crate::draft::{Draft, Growing};
+use crate::day_so_far::{DaySoFar, Growing};
 use crate::fleet::Fleet;
 use crate::kind::{CommandKind, RecordKind, RoadKind, parse_kind};
 use crate::members::{add_actor, add_truck};
@@ -17,7 +18,9 @@ use crate::orders::Orders;
 use crate::roads::add_road;
 use csv::StringRecord;
 use permit_days::Day;
-use record_text::{Progress, RecordCause, RecordRefusal, field, is_blank_from, parse_day};
+use record_text::{
+    Cause, Progress, RecordCause, RecordRefusal, day_in, field, has_only, is_blank_from, or_bad,
+};
 use road_graph::Network;
 use std::alloc::Global;
 
@@ -73,14 +76,14 @@ fn take_opening(
     match kind {
         RecordKind::Day => {
             let day = parse_opening(row)?;
-            let draft = Draft {
+            let so_far = DaySoFar {
                 network: Network::new(alloc),
                 day,
                 fleet: Fleet::new(alloc),
                 actors: Names::new(alloc),
                 orders: Orders::new(alloc),
             };
-            Ok(DayProgress::Open(Growing::new(alloc, draft)?))
+            Ok(DayProgress::Open(Growing::new(alloc, so_far)?))
         }
         _ => Err(RecordRefusal::bad(RecordCause::Order)),
     }
@@ -88,19 +91,12 @@ fn take_opening(
 
 // The opening day of a record.
 #[tactic(auto, unfolding(crate::specs::Days::opening_of))]
-fn parse_opening(row: &StringRecord) -> Result<Day, RecordRefusal>
-    ensures { Judges result (opening_of (fields_of row.now)) }
+fn parse_opening(row: &StringRecord) -> Result<Day, Cause>
+    ensures { result ≡ opening_of (fields_of row.now) }
 {
-    if !is_blank_from(row, 2) {
-        return Err(RecordRefusal::bad(RecordCause::Extra));
-    }
-    let Some(day) = parse_day(field(row, 1)) else {
-        return Err(RecordRefusal::bad(RecordCause::Field(2)));
-    };
-    match day {
-        Some(day) => Ok(day),
-        None => Err(RecordRefusal::bad(RecordCause::Range(2))),
-    }
+    has_only(row, 2)?;
+    let day = day_in(row, 2)?;
+    or_bad(day, RecordCause::Range(2))
 }
 
 // Where a record behind the day leads.
@@ -134,13 +130,8 @@ fn take_road(
     ensures { Judges result (going_on (with_road growing kind (fields_of row.now))) }
 {
     let mut growing = growing;
-    match add_road(&mut growing.draft.network, kind, row) {
-        Ok(()) => Ok(DayProgress::Open(growing)),
-        Err(refusal) => {
-            drop(growing);
-            Err(refusal)
-        }
-    }
+    let taken = add_road(&mut growing.so_far.network, kind, row);
+    keep_going(growing, taken)
 }
 
 // Where the record of a truck leads.
@@ -152,13 +143,8 @@ fn take_truck(
     ensures { Judges result (going_on (with_truck growing (fields_of row.now))) }
 {
     let mut growing = growing;
-    match add_truck(alloc, &mut growing.draft.fleet, row) {
-        Ok(()) => Ok(DayProgress::Open(growing)),
-        Err(refusal) => {
-            drop(growing);
-            Err(refusal)
-        }
-    }
+    let taken = add_truck(alloc, &mut growing.so_far.fleet, row);
+    keep_going(growing, taken)
 }
 
 // Where the record of an actor leads.
@@ -166,13 +152,8 @@ fn take_actor(growing: Growing, row: &StringRecord) -> Result<DayProgress, Recor
     ensures { Judges result (going_on (with_actor growing (fields_of row.now))) }
 {
     let mut growing = growing;
-    match add_actor(&mut growing.draft.actors, row) {
-        Ok(()) => Ok(DayProgress::Open(growing)),
-        Err(refusal) => {
-            drop(growing);
-            Err(refusal)
-        }
-    }
+    let taken = add_actor(&mut growing.so_far.actors, row);
+    keep_going(growing, taken)
 }
 
 // Where the record of a command leads.
@@ -185,11 +166,22 @@ fn take_command(
     ensures { Judges result (going_on (with_command growing kind (fields_of row.now))) }
 {
     let mut growing = growing;
-    let added = match parse_order(alloc, &growing.draft, kind, row) {
-        Ok(order) => growing.draft.orders.push(order),
+    let taken = match parse_order(alloc, &growing.so_far, kind, row) {
+        Ok(order) => growing.so_far.orders.push(order),
         Err(refusal) => Err(refusal),
     };
-    match added {
+    keep_going(growing, taken)
+}
+
+// Where a record was taken, the next one follows; else what was said so far is let go.
+fn keep_going(
+    growing: Growing,
+    taken: Result<(), RecordRefusal>,
+) -> Result<DayProgress, RecordRefusal>
+    ensures taken { OnOk taken (result ≡ Ok (DayProgress.Open growing)) }
+    ensures refused { IfErr taken (λ why. result ≡ Err why) }
+{
+    match taken {
         Ok(()) => Ok(DayProgress::Open(growing)),
         Err(refusal) => {
             drop(growing);

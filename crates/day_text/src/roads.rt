@@ -8,7 +8,8 @@ ghost use Rattle.day_text.specs.Roads.{limit_of, node_of, roads_of, segment_of, 
 use crate::kind::RoadKind;
 use csv::StringRecord;
 use record_text::{
-    Kind, RecordCause, RecordRefusal, field, is_blank_from, parse_name, parse_number, parse_what,
+    Kind, RecordCause, RecordRefusal, demand, field, has_only, limit, name_in, number_in, or_bad,
+    parse_what,
 };
 use road_graph::{AddRefusal, Network, Span};
 
@@ -33,12 +34,8 @@ pub(crate) fn add_road(
 fn add_node(network: &mut Network, row: &StringRecord) -> Result<(), RecordRefusal>
     ensures { Grows result network.new (node_of network.old (fields_of row.now)) }
 {
-    if !is_blank_from(row, 2) {
-        return Err(RecordRefusal::bad(RecordCause::Extra));
-    }
-    let Some(name) = parse_name(field(row, 1)) else {
-        return Err(RecordRefusal::bad(RecordCause::Field(2)));
-    };
+    has_only(row, 2)?;
+    let name = name_in(row, 2)?;
     match network.add_node(name) {
         Ok(_) => Ok(()),
         Err(AddRefusal::SameName) => Err(RecordRefusal::bad(RecordCause::Same)),
@@ -49,34 +46,18 @@ fn add_node(network: &mut Network, row: &StringRecord) -> Result<(), RecordRefus
 }
 
 // Adds the segment of a record.
-#[tactic(auto, unfolding(crate::specs::Roads::segment_of))]
+#[tactic(auto, using(crate::proofs::Naming::numbered_is_there), unfolding(crate::specs::Roads::segment_of))]
 fn add_segment(network: &mut Network, row: &StringRecord) -> Result<(), RecordRefusal>
     ensures { Grows result network.new (segment_of network.old (fields_of row.now)) }
 {
-    if !is_blank_from(row, 5) {
-        return Err(RecordRefusal::bad(RecordCause::Extra));
-    }
-    let Some(name) = parse_name(field(row, 1)) else {
-        return Err(RecordRefusal::bad(RecordCause::Field(2)));
-    };
-    let Some(from) = parse_name(field(row, 2)) else {
-        return Err(RecordRefusal::bad(RecordCause::Field(3)));
-    };
-    let Some(to) = parse_name(field(row, 3)) else {
-        return Err(RecordRefusal::bad(RecordCause::Field(4)));
-    };
-    let Some(feet) = parse_number(field(row, 4)) else {
-        return Err(RecordRefusal::bad(RecordCause::Field(5)));
-    };
-    if network.segment_named(&name).is_some() {
-        return Err(RecordRefusal::bad(RecordCause::Same));
-    }
-    let Some(from) = network.node_named(&from) else {
-        return Err(RecordRefusal::bad(RecordCause::Unknown(3)));
-    };
-    let Some(to) = network.node_named(&to) else {
-        return Err(RecordRefusal::bad(RecordCause::Unknown(4)));
-    };
+    has_only(row, 5)?;
+    let name = name_in(row, 2)?;
+    let from = name_in(row, 3)?;
+    let to = name_in(row, 4)?;
+    let feet = number_in(row, 5)?;
+    demand(network.segment_named(&name).is_none(), RecordCause::Same)?;
+    let from = or_bad(network.node_named(&from), RecordCause::Unknown(3))?;
+    let to = or_bad(network.node_named(&to), RecordCause::Unknown(4))?;
     match network.add_segment(name, from, to, feet) {
         Ok(_) => Ok(()),
         Err(AddRefusal::Range) => Err(RecordRefusal::bad(RecordCause::Range(5))),
@@ -91,21 +72,11 @@ fn add_segment(network: &mut Network, row: &StringRecord) -> Result<(), RecordRe
 fn set_limit(network: &mut Network, row: &StringRecord) -> Result<(), RecordRefusal>
     ensures { Grows result network.new (limit_of network.old (fields_of row.now)) }
 {
-    if !is_blank_from(row, 4) {
-        return Err(RecordRefusal::bad(RecordCause::Extra));
-    }
-    let Some(segment) = parse_name(field(row, 1)) else {
-        return Err(RecordRefusal::bad(RecordCause::Field(2)));
-    };
-    let Some(what) = parse_what(field(row, 2)) else {
-        return Err(RecordRefusal::bad(RecordCause::Field(3)));
-    };
-    let Some(value) = parse_number(field(row, 3)) else {
-        return Err(RecordRefusal::bad(RecordCause::Field(4)));
-    };
-    let Some(segment) = network.segment_named(&segment) else {
-        return Err(RecordRefusal::bad(RecordCause::Unknown(2)));
-    };
+    has_only(row, 4)?;
+    let segment = name_in(row, 2)?;
+    let what = or_bad(parse_what(field(row, 2)), RecordCause::Field(3))?;
+    let value = number_in(row, 4)?;
+    let segment = or_bad(network.segment_named(&segment), RecordCause::Unknown(2))?;
     match network.set_limit(segment, what, value) {
         Ok(()) => Ok(()),
         Err(AddRefusal::Range) => Err(RecordRefusal::bad(RecordCause::Range(4))),
@@ -114,40 +85,20 @@ fn set_limit(network: &mut Network, row: &StringRecord) -> Result<(), RecordRefu
 }
 
 // Adds the span of a record.
-#[tactic(auto, unfolding(crate::specs::Roads::span_of))]
+#[tactic(auto, using(crate::proofs::Naming::numbered_is_there), unfolding(crate::specs::Roads::span_of))]
 fn add_span(network: &mut Network, row: &StringRecord) -> Result<(), RecordRefusal>
     ensures { Grows result network.new (span_of network.old (fields_of row.now)) }
 {
-    if !is_blank_from(row, 5) {
-        return Err(RecordRefusal::bad(RecordCause::Extra));
-    }
-    let Some(name) = parse_name(field(row, 1)) else {
-        return Err(RecordRefusal::bad(RecordCause::Field(2)));
-    };
-    let Some(segment) = parse_name(field(row, 2)) else {
-        return Err(RecordRefusal::bad(RecordCause::Field(3)));
-    };
-    let Some(inches) = parse_number(field(row, 3)) else {
-        return Err(RecordRefusal::bad(RecordCause::Field(4)));
-    };
-    let Some(rating) = parse_number(field(row, 4)) else {
-        return Err(RecordRefusal::bad(RecordCause::Field(5)));
-    };
-    if network.span_named(&name).is_some() {
-        return Err(RecordRefusal::bad(RecordCause::Same));
-    }
-    let Some(segment) = network.segment_named(&segment) else {
-        return Err(RecordRefusal::bad(RecordCause::Unknown(3)));
-    };
-    if inches < 1 || inches > 6000 {
-        return Err(RecordRefusal::bad(RecordCause::Range(4)));
-    }
-    if !Span::takes_rating(rating) {
-        return Err(RecordRefusal::bad(RecordCause::Range(5)));
-    }
-    if network.spans() >= 2048 {
-        return Err(RecordRefusal::too_many(Kind::Spans));
-    }
+    has_only(row, 5)?;
+    let name = name_in(row, 2)?;
+    let segment = name_in(row, 3)?;
+    let inches = number_in(row, 4)?;
+    let rating = number_in(row, 5)?;
+    demand(network.span_named(&name).is_none(), RecordCause::Same)?;
+    let segment = or_bad(network.segment_named(&segment), RecordCause::Unknown(3))?;
+    demand(1 <= inches && inches <= 6000, RecordCause::Range(4))?;
+    demand(Span::takes_rating(rating), RecordCause::Range(5))?;
+    limit(network.spans() < 2048, Kind::Spans)?;
     match network.add_span(name, segment, inches, rating) {
         Ok(_) => Ok(()),
         Err(AddRefusal::TooMany) => Err(RecordRefusal::too_many(Kind::SpansOfSegment)),

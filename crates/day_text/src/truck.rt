@@ -5,12 +5,13 @@ ghost use Rattle.csv.specs.Records.{fields_of};
 ghost use Rattle.record_text.specs.Causes.{Judges};
 ghost use Rattle.day_text.specs.Trucks.{load_of, train_number, truck_fields_of};
 
-use axle_train::{Axle, Train, TrainRefusal};
+use axle_train::{Train, TrainRefusal};
 use clearance_rules::{Load, is_cross_section, is_length};
 use csv::StringRecord;
 use names::Name;
 use record_text::{
-    Axles, RecordCause, RecordRefusal, field, is_blank_from, parse_axles, parse_name, parse_number,
+    Axles, Cause, RecordCause, RecordRefusal, demand, field, has_only, name_in, number_in, or_bad,
+    parse_axles,
 };
 use std::alloc::Global;
 
@@ -30,27 +31,13 @@ pub(crate) struct TruckFields {
 pub(crate) fn parse_truck(alloc: Global, row: &StringRecord) -> Result<TruckFields, RecordRefusal>
     ensures { Judges result (truck_fields_of (fields_of row.now)) }
 {
-    if !is_blank_from(row, 7) {
-        return Err(RecordRefusal::bad(RecordCause::Extra));
-    }
-    let Some(name) = parse_name(field(row, 1)) else {
-        return Err(RecordRefusal::bad(RecordCause::Field(2)));
-    };
-    let Some(carrier) = parse_name(field(row, 2)) else {
-        return Err(RecordRefusal::bad(RecordCause::Field(3)));
-    };
-    let Some(height) = parse_number(field(row, 3)) else {
-        return Err(RecordRefusal::bad(RecordCause::Field(4)));
-    };
-    let Some(width) = parse_number(field(row, 4)) else {
-        return Err(RecordRefusal::bad(RecordCause::Field(5)));
-    };
-    let Some(length) = parse_number(field(row, 5)) else {
-        return Err(RecordRefusal::bad(RecordCause::Field(6)));
-    };
-    let Some(axles) = parse_axles(alloc, field(row, 6))? else {
-        return Err(RecordRefusal::bad(RecordCause::Field(7)));
-    };
+    has_only(row, 7)?;
+    let name = name_in(row, 2)?;
+    let carrier = name_in(row, 3)?;
+    let height = number_in(row, 4)?;
+    let width = number_in(row, 5)?;
+    let length = number_in(row, 6)?;
+    let axles = or_bad(parse_axles(alloc, field(row, 6))?, RecordCause::Field(7))?;
     Ok(TruckFields {
         name,
         carrier,
@@ -61,32 +48,19 @@ pub(crate) fn parse_truck(alloc: Global, row: &StringRecord) -> Result<TruckFiel
     })
 }
 
-/// The load of three numbers and some axles.
+/// The load that the fields of a truck say.
 #[tactic(auto, unfolding(crate::specs::Trucks::load_of))]
-pub(crate) fn load_of(
-    height: u32,
-    width: u32,
-    length: u32,
-    axles: &[Axle],
-) -> Result<Load, RecordRefusal>
-    ensures { Judges result (load_of height width length axles.now) }
+pub(crate) fn load_of(truck: &TruckFields) -> Result<Load, Cause>
+    ensures { result ≡ load_of truck.now.height truck.now.width truck.now.length truck.now.axles }
 {
-    if !is_cross_section(height) {
-        return Err(RecordRefusal::bad(RecordCause::Range(4)));
-    }
-    if !is_cross_section(width) {
-        return Err(RecordRefusal::bad(RecordCause::Range(5)));
-    }
-    if !is_length(length) {
-        return Err(RecordRefusal::bad(RecordCause::Range(6)));
-    }
-    let train = match Train::new(axles) {
+    demand(is_cross_section(truck.height), RecordCause::Range(4))?;
+    demand(is_cross_section(truck.width), RecordCause::Range(5))?;
+    demand(is_length(truck.length), RecordCause::Range(6))?;
+    let train = match Train::new(truck.axles.as_slice()) {
         Ok(train) => train,
-        Err(refusal) => {
-            return Err(RecordRefusal::bad(RecordCause::Train(train_number(refusal))));
-        }
+        Err(refusal) => return Err(Cause::Bad(RecordCause::Train(train_number(refusal)))),
     };
-    match Load::new(height, width, length, train) {
+    match Load::new(truck.height, truck.width, truck.length, train) {
         Ok(load) => Ok(load),
         Err(_) => unreachable!(),
     }

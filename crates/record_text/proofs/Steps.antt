@@ -31,11 +31,11 @@ pub found_some : {A : Type 0} (cause : RecordCause) (o : Option A) (x : A) → o
 found_some cause None x e = cc
 found_some cause (Some y) x e = cc
 
-pub was_demanded : (b : Bool) (cause : RecordCause) (x : ℕ) → demand b cause ≡ Ok x → b ≡ true
+pub was_demanded : (b : Bool) (cause : RecordCause) (x : Unit {0}) → demand b cause ≡ Ok x → b ≡ true
 was_demanded true cause x e = refl
 was_demanded false cause x e = cc
 
-pub was_within : (b : Bool) (kind : Kind) (x : ℕ) → limit b kind ≡ Ok x → b ≡ true
+pub was_within : (b : Bool) (kind : Kind) (x : Unit {0}) → limit b kind ≡ Ok x → b ≡ true
 was_within true kind x e = refl
 was_within false kind x e = cc
 

@@ -21,12 +21,12 @@ or_bad cause None = Err (why.Bad cause)
 or_bad cause (Some x) = Ok x
 
 -- where a test fails, this record is bad
-abbrev pub demand : Bool → RecordCause → Result ℕ Cause
-demand holds cause = if holds then Ok 0 else Err (why.Bad cause)
+abbrev pub demand : Bool → RecordCause → Result (Unit {0}) Cause
+demand holds cause = if holds then Ok tt else Err (why.Bad cause)
 
 -- where a test fails, there is one too many of this kind
-abbrev pub limit : Bool → Kind → Result ℕ Cause
-limit holds kind = if holds then Ok 0 else Err (why.TooMany kind)
+abbrev pub limit : Bool → Kind → Result (Unit {0}) Cause
+limit holds kind = if holds then Ok tt else Err (why.TooMany kind)
 
 -- what a call answered of a record is what the definition says, unless memory ran out
 abbrev pub Judges : {T : Type 0} → Result T RecordRefusal → Result T Cause → Type 0

@@ -10,6 +10,7 @@
 #![tactic(auto)]
 
 mod axles;
+mod demands;
 mod fields;
 mod posted;
 mod records;
@@ -18,6 +19,7 @@ mod route;
 mod split;
 
 pub use axles::{Axles, parse_axles};
+pub use demands::{day_in, demand, has_only, limit, name_in, number_in, or_bad};
 pub use fields::{field, parse_day, parse_name, parse_number};
 pub use posted::{Posted, parse_posted, parse_what};
 pub use records::{Progress, is_blank_from, read_records};

@@ -1,7 +1,7 @@
 // Why a record, and so a file, is refused.
 
 ghost use Rattle.std.specs.Prelude.{◌≡◌};
-ghost use Rattle.record_text.specs.declared.refusal.RecordRefusal.TheVariants.{NoMemory};
+ghost use Rattle.record_text.specs.declared.refusal.RecordRefusal.TheVariants.{NoMemory, Refused};
 
 use std::alloc::{AllocError, AllocFailed};
 use thiserror::Error;
@@ -94,6 +94,14 @@ impl RecordRefusal {
         ensures { result ≡ RecordRefusal.Refused (Cause.TooMany kind) }
     {
         RecordRefusal::Refused(Cause::TooMany(kind))
+    }
+}
+
+impl From<Cause> for RecordRefusal {
+    ghost from_gives = { λ cause refusal. refusal ≡ Refused cause };
+
+    fn from(cause: Cause) -> RecordRefusal {
+        RecordRefusal::Refused(cause)
     }
 }
 

@@ -1,13 +1,11 @@
 ghost use Rattle.std.specs.Prelude.{Ok};
-ghost use Rattle.record_text.specs.Causes.{◌>>=◌, demand, or_bad};
-ghost use Rattle.record_text.specs.Fields.{field_of, number_of};
-ghost use Rattle.record_text.specs.Records.{is_blank_from};
-ghost use Rattle.record_text.specs.declared.refusal.RecordCause.TheVariants as bad;
+ghost use Rattle.record_text.specs.Causes.{◌>>=◌};
+ghost use Rattle.record_text.specs.Records.{has_only, number_in};
 
 use axle_train::Axle;
 use csv::StringRecord;
 use record_text::{
-    Cause, FileRefusal, Posted, Progress, RecordCause, RecordRefusal, field, is_blank_from,
+    Cause, FileRefusal, Posted, Progress, RecordCause, RecordRefusal, has_only, number_in,
     parse_axles, parse_day, parse_name, parse_number, parse_posted, parse_route, parse_what,
     read_records,
 };
@@ -24,16 +22,12 @@ struct Last {
 }
 
 impl Progress for Last {
-    ghost judge = { λ last row. demand (is_blank_from 2 row) bad.Extra >>= (λ rest. or_bad (bad.Field 2) (number_of (field_of row 1)) >>= (λ n. Ok (record { number = n }))) };
+    ghost judge = { λ last row. has_only 2 row >>= (λ rest. number_in 2 row >>= (λ n. Ok (record { number = n }))) };
 
     fn take(self, _alloc: Global, row: &StringRecord) -> Result<Last, RecordRefusal> {
-        if !is_blank_from(row, 2) {
-            return Err(RecordRefusal::bad(RecordCause::Extra));
-        }
-        match parse_number(field(row, 1)) {
-            Some(number) => Ok(Last { number }),
-            None => Err(RecordRefusal::bad(RecordCause::Field(2))),
-        }
+        has_only(row, 2)?;
+        let number = number_in(row, 2)?;
+        Ok(Last { number })
     }
 }
 

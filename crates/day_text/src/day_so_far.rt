@@ -12,7 +12,7 @@ use std::marker::Model;
 
 /// The roads, the opening day, the trucks, the actors and the commands of the records so far.
 #[derive(Drop)]
-pub(crate) struct Draft {
+pub(crate) struct DaySoFar {
     pub network: Network,
     pub day: Day,
     pub fleet: Fleet,
@@ -20,36 +20,36 @@ pub(crate) struct Draft {
     pub orders: Orders,
 }
 
-/// A draft that goes from one record to the next. It stays where it is, and what moves is a pointer to it.
+/// What goes from one record to the next. It stays where it is, and what moves is a pointer to it.
 #[derive(Drop)]
 pub(crate) struct Growing {
-    pub draft: Box<Draft>,
+    pub so_far: Box<DaySoFar>,
 }
 
 impl Model for Growing {
-    ghost use Rattle.day_text.specs.declared.draft.Draft.{Draft};
+    ghost use Rattle.day_text.specs.declared.day_so_far.DaySoFar.{DaySoFar};
 
-    ghost Value = { Draft };
+    ghost Value = { DaySoFar };
 
-    ghost view = { λ g. g.draft.value };
+    ghost view = { λ g. g.so_far.value };
 }
 
 impl Growing {
     ghost use Rattle.std.specs.Prelude.{IfOk};
 
-    /// This draft in a place of its own.
-    pub fn new(alloc: Global, draft: Draft) -> Result<Growing, AllocError>
-        ensures { IfOk result (λ growing. growing ≡ draft) }
+    /// What was said so far, in a place of its own.
+    pub fn new(alloc: Global, so_far: DaySoFar) -> Result<Growing, AllocError>
+        ensures { IfOk result (λ growing. growing ≡ so_far) }
     {
         Ok(Growing {
-            draft: Box::new(alloc, draft)?,
+            so_far: Box::new(alloc, so_far)?,
         })
     }
 
-    /// The draft itself.
-    pub fn into_draft(self) -> Draft
+    /// What was said so far.
+    pub fn into_inner(self) -> DaySoFar
         ensures { result ≡ self }
     {
-        Box::into_inner(self.draft)
+        Box::into_inner(self.so_far)
     }
 }
