@@ -1,6 +1,6 @@
 -- Every day file is within bounds: its roads, its trucks, its opening day, and the numbers and days of its commands.
 use Rattle.std.proofs.Common.{◌≡◌, ◌≤◌, ◌<◌, ◌∷◌, ◌++◌, ◌&&◌, [], List, ℕ, Bool, true, false, not, cond, Option, Some, None, Result, Ok, Err, IfOk, All, length, refl, subst, arith, rules}
-use Rattle.std.specs.Prelude.{nat_lt, nat_le}
+use Rattle.std.specs.Prelude.{◌==◌, nat_lt, nat_le}
 use Rattle.std.specs.List.{list_all}
 use Rattle.std.specs.Char.{is_ascii_digit}
 use Rattle.std.specs.Str.{bytes_eq}
@@ -35,11 +35,14 @@ use Rattle.trip_analysis.specs.declared.application.Application.{Application}
 use Rattle.trip_analysis.specs.declared.base.Truck.{Truck}
 use Rattle.trip_analysis.specs.declared.refusal.ApplicationRefusal.{ApplicationRefusal}
 use Rattle.trip_analysis.specs.Applications.{application_of}
-use Rattle.restriction_log.specs.Changes.{takes}
+use Rattle.restriction_log.specs.Changes.{change_of, flag, replaced_by, takes, takes_replaced}
+use Rattle.restriction_log.specs.declared.change.Replaced.{Replaced}
+use Rattle.restriction_log.specs.declared.change.Replaced.TheVariants as replaced
 use Rattle.office_words.specs.declared.entry.Command.{Command}
 use Rattle.office_words.specs.declared.entry.Command.TheVariants as command
 use Rattle.record_text.specs.Causes.{demand, limit, or_bad}
-use Rattle.record_text.specs.Fields.{day_of as day_field_of, day_or_none, field_of, number_of, posted_of, route_of, what_of}
+use Rattle.road_graph.specs.Words.{what_of}
+use Rattle.record_text.specs.Fields.{day_of as day_field_of, day_or_none, field_of, number_of, posted_of, route_of}
 use Rattle.record_text.specs.Records.{Row, day_in, has_only, judged, name_in, number_in, rows_of}
 use Rattle.record_text.specs.declared.posted.Posted.{Posted}
 use Rattle.record_text.specs.declared.posted.Posted.TheVariants as posted
@@ -48,7 +51,7 @@ use Rattle.record_text.specs.declared.refusal.RecordCause.TheVariants as bad
 use Rattle.record_text.specs.declared.refusal.Kind.TheVariants as kind
 use Rattle.record_text.proofs.Steps.{Gives, found_some, gives, records_keep, refuses, then_gives, was_demanded, was_within}
 use Rattle.day_text.specs.Bounds.{DayFilesAreBounded, IsBounded, IsSized, IsWithin}
-use Rattle.day_text.specs.Commands.{all_numbers, applied, apply_fields_of, asked_of, change_of, order_of, permit_of, post_of, posting_of, resolved_of, set_day_of, unless_refused, with_order}
+use Rattle.day_text.specs.Commands.{all_numbers, applied, apply_fields_of, asked_of, order_of, permit_of, post_of, posting_of, resolved_of, set_day_of, unless_refused, with_order}
 use Rattle.day_text.specs.Days.{ended_day, finished_day, going_on, judge_day, judge_kind, judge_later, judge_opening, opened, opening_of, parts_of, with_actor, with_command, with_road, with_truck}
 use Rattle.day_text.specs.Fleets.{actors_of, fleet_of, truck_names}
 use Rattle.day_text.specs.Kinds.{kind_of}
@@ -112,7 +115,7 @@ node_gives roads fields h =
     gives IsRoads (with_node roads name) (roads-node roads name h (ltb-true _ _ (was_within _ kind.Nodes b few)) (not-true _ (was_demanded _ bad.Same a new)))))))
 
 defaults : AreInRange default_values
-defaults = record { height = refl; width = refl; length = refl; gross = refl; allowance = refl }
+defaults = record { height = refl; width = refl; length = refl; gross = refl; allowance = refl; tridem = refl }
 
 segment_gives : (roads : Roads) (fields : Row) → IsRoads roads → Gives IsRoads (segment_of roads fields)
 unfolding segment_of
@@ -283,20 +286,25 @@ resolved_gives d f h =
     (subst (λ (x : Application). (is_day_text x.first ≡ true) × (is_day_text x.last ≡ true)) same (a, b))))))))))
 
 -- the roads take the change that a posting gives
-change_taken : (roads : Roads) (what : What) (i value : ℕ) → i < length roads.segments → is_limit what value ≡ true → takes roads (change_of what i value) ≡ true
-change_taken roads limits.Closed i value there within = lt-ltb _ _ there
+flag_small : (b : Bool) → is_limit limits.Closed (flag b) ≡ true
+flag_small true = refl
+flag_small false = refl
+
+change_taken : (roads : Roads) (what : What) (i value : ℕ) → i < length roads.segments → is_limit what value ≡ true → takes roads (change_of i what value) ≡ true
+change_taken roads limits.Closed i value there within = rw (lt-ltb _ _ there) (flag_small (value == 1))
 change_taken roads limits.Height i value there within = rw (lt-ltb _ _ there) within
 change_taken roads limits.Width i value there within = rw (lt-ltb _ _ there) within
 change_taken roads limits.Length i value there within = rw (lt-ltb _ _ there) within
 change_taken roads limits.Gross i value there within = rw (lt-ltb _ _ there) within
 change_taken roads limits.Allowance i value there within = rw (lt-ltb _ _ there) within
+change_taken roads limits.Tridem i value there within = rw (lt-ltb _ _ there) within
 
 posting_gives : (roads : Roads) (what : Posted) (item : List ℕ) (value : ℕ) → Gives (λ change. takes roads change ≡ true) (posting_of roads what item value)
 unfolding posting_of
 posting_gives roads (posted.Limit what) item value =
     then_gives {r = or_bad (bad.Unknown 3) (number_named item (segment_names roads.segments))} (λ i known.
     then_gives {r = demand (is_limit what value) (bad.Range 5)} (λ a within.
-    gives (λ change. takes roads change ≡ true) (change_of what i value)
+    gives (λ change. takes roads change ≡ true) (change_of i what value)
     (change_taken roads what i value (segment_there roads item i (found_some (bad.Unknown 3) _ i known)) (was_demanded (is_limit what value) (bad.Range 5) a within))))
 posting_gives roads posted.Rating item value =
     then_gives {r = or_bad (bad.Unknown 3) (number_named item (span_names roads.spans))} (λ i known.
@@ -357,14 +365,12 @@ more_is a old new le e = let less : a < old = ltb-true _ _ e in lt-ltb _ _ (omeg
 wider : (a old new : ℕ) (b : Bool) → old ≤ new → (nat_lt a old && b) ≡ true → (nat_lt a new && b) ≡ true
 wider a old new b le e = let h = both (nat_lt a old) b e in rw (more_is a old new le h.0) h.1
 
+still_has : (old new : Roads) → HasMore old new → (r : Replaced) → takes_replaced old r ≡ true → takes_replaced new r ≡ true
+still_has old new more (replaced.Limit segment what value) e = wider segment _ _ (is_limit what value) more.segments e
+still_has old new more (replaced.Rating span permille) e = wider span _ _ (is_rating permille) more.spans e
+
 still_takes : (old new : Roads) → HasMore old new → (c : Change) → takes old c ≡ true → takes new c ≡ true
-still_takes old new more (change.Closed segment closed) e = more_is segment _ _ more.segments e
-still_takes old new more (change.Height segment inches) e = wider segment _ _ (is_limit limits.Height inches) more.segments e
-still_takes old new more (change.Width segment inches) e = wider segment _ _ (is_limit limits.Width inches) more.segments e
-still_takes old new more (change.Length segment inches) e = wider segment _ _ (is_limit limits.Length inches) more.segments e
-still_takes old new more (change.Gross segment pounds) e = wider segment _ _ (is_limit limits.Gross pounds) more.segments e
-still_takes old new more (change.Allowance segment permille) e = wider segment _ _ (is_limit limits.Allowance permille) more.segments e
-still_takes old new more (change.Rating span permille) e = wider span _ _ (is_rating permille) more.spans e
+still_takes old new more c = still_has old new more (replaced_by c)
 
 still_within : (old new : Roads) → HasMore old new → (c : Command) → IsWithin old c → IsWithin new c
 still_within old new more (command.Apply a) h = h

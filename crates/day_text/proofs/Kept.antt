@@ -13,7 +13,8 @@ use Rattle.trip_analysis.specs.Applications.{IsAskedWalk, Sound}
 use Rattle.trip_analysis.specs.Bases.{BaseLists}
 use Rattle.trip_analysis.specs.declared.application.Application.{Application}
 use Rattle.record_text.specs.Causes.{demand, limit, or_bad}
-use Rattle.record_text.specs.Fields.{field_of, what_of}
+use Rattle.road_graph.specs.Words.{what_of}
+use Rattle.record_text.specs.Fields.{field_of}
 use Rattle.road_graph.specs.Ranges.{is_feet, is_inches, is_limit, is_rating}
 use Rattle.record_text.specs.declared.refusal.Kind.TheVariants as kind
 use Rattle.record_text.specs.Records.{Row, has_only, name_in, number_in}

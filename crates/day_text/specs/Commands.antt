@@ -1,10 +1,9 @@
 -- The records of commands: the command that each gives, or the first cause for which it is refused. A command refers to its
 -- actor, its truck and the things of the road network by the names of records before it.
 use Rattle.std.specs.Prelude.{ℕ, ◌==◌, nat_lt, List, [], ◌∷◌, ◌++◌, length, Result, Ok, Err, Option, Some, None, if◌then◌else◌, option_and_then, option_map}
+use Rattle.restriction_log.specs.Changes.{change_of}
 use Rattle.restriction_log.specs.declared.change.Change.{Change}
 use Rattle.restriction_log.specs.declared.change.Change.TheVariants as change
-use Rattle.road_graph.specs.declared.values.What.{What}
-use Rattle.road_graph.specs.declared.values.What.TheVariants.{Closed, Height, Width, Length, Gross, Allowance}
 use Rattle.road_graph.specs.Ranges.{is_limit, is_rating}
 use Rattle.road_graph.specs.Roads.{Roads, segment_names, span_names}
 use Rattle.road_graph.specs.Roads.{number_of as number_named}
@@ -83,21 +82,12 @@ resolved_of d f = do
 abbrev pub apply_of : DaySoFar → Row → Result Order Cause
 apply_of d fields = apply_fields_of fields >>= resolved_of d
 
--- the change that a limit of a segment is to have
-abbrev pub change_of : What → ℕ → ℕ → Change
-change_of Closed segment value = change.Closed segment (value == 1)
-change_of Height segment value = change.Height segment value
-change_of Width segment value = change.Width segment value
-change_of Length segment value = change.Length segment value
-change_of Gross segment value = change.Gross segment value
-change_of Allowance segment value = change.Allowance segment value
-
 -- a posting on a segment, or on a span where it is of a rating
 unfoldable pub posting_of : Roads → Posted → List ℕ → ℕ → Result Change Cause
 posting_of roads (posted.Limit what) item value = do
   i ← or_bad (bad.Unknown 3) (number_named item (segment_names roads.segments))
   a ← demand (is_limit what value) (bad.Range 5)
-  Ok (change_of what i value)
+  Ok (change_of i what value)
 posting_of roads posted.Rating item value = do
   i ← or_bad (bad.Unknown 3) (number_named item (span_names roads.spans))
   a ← demand (is_rating value) (bad.Range 5)

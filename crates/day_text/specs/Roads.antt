@@ -5,7 +5,8 @@ use Rattle.road_graph.specs.Ranges.{is_feet, is_inches, is_limit, is_rating}
 use Rattle.road_graph.specs.Roads.{Roads, has_name, segment_names, span_names, spans_of}
 use Rattle.road_graph.specs.Roads.{number_of as number_named}
 use Rattle.record_text.specs.Causes.{◌>>=◌, demand, limit, or_bad}
-use Rattle.record_text.specs.Fields.{field_of, what_of}
+use Rattle.road_graph.specs.Words.{what_of}
+use Rattle.record_text.specs.Fields.{field_of}
 use Rattle.record_text.specs.Records.{Row, has_only, name_in, number_in}
 use Rattle.day_text.specs.declared.kind.RoadKind.{RoadKind}
 use Rattle.day_text.specs.declared.kind.RoadKind.TheVariants.{Limit, Node, Segment, Span}

@@ -5,7 +5,7 @@ ghost use Rattle.csv.specs.Records.{fields_of};
 ghost use Rattle.road_graph.specs.Roads.{segment_names};
 ghost use Rattle.trip_analysis.specs.Applications.{AreAskedThere};
 ghost use Rattle.record_text.specs.Causes.{Judges};
-ghost use Rattle.day_text.specs.Commands.{all_numbers, apply_fields_of, apply_of, asked_of, cause_of, change_of, order_of, permit_of, post_of, posting_of, resolved_of, set_day_of, show_of, surrender_of};
+ghost use Rattle.day_text.specs.Commands.{all_numbers, apply_fields_of, apply_of, asked_of, cause_of, order_of, permit_of, post_of, posting_of, resolved_of, set_day_of, show_of, surrender_of};
 
 use crate::day_so_far::DaySoFar;
 use crate::kind::CommandKind;
@@ -19,7 +19,7 @@ use record_text::{
     number_in, or_bad, parse_posted, parse_route,
 };
 use restriction_log::Change;
-use road_graph::{Network, Numbers, Span, What};
+use road_graph::{Network, Numbers, Span};
 use std::alloc::Global;
 use trip_analysis::{Application, ApplicationRefusal};
 
@@ -225,7 +225,7 @@ fn posting(network: &Network, what: Posted, item: &Name, value: u32) -> Result<C
         Posted::Limit(what) => {
             let segment = or_bad(network.segment_named(item), RecordCause::Unknown(3))?;
             demand(what.takes(value), RecordCause::Range(5))?;
-            Ok(change_of(what, segment, value))
+            Ok(Change::of(segment, what, value))
         }
         Posted::Rating => {
             let span = or_bad(network.span_named(item), RecordCause::Unknown(3))?;
@@ -235,38 +235,6 @@ fn posting(network: &Network, what: Posted, item: &Name, value: u32) -> Result<C
                 permille: value,
             })
         }
-    }
-}
-
-// The change of a limit of a segment.
-fn change_of(what: What, segment: u32, value: u32) -> Change
-    ensures { result ≡ change_of what segment value }
-{
-    match what {
-        What::Closed => Change::Closed {
-            segment,
-            closed: value == 1,
-        },
-        What::Height => Change::Height {
-            segment,
-            inches: value,
-        },
-        What::Width => Change::Width {
-            segment,
-            inches: value,
-        },
-        What::Length => Change::Length {
-            segment,
-            inches: value,
-        },
-        What::Gross => Change::Gross {
-            segment,
-            pounds: value,
-        },
-        What::Allowance => Change::Allowance {
-            segment,
-            permille: value,
-        },
     }
 }
 

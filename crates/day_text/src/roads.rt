@@ -9,9 +9,8 @@ use crate::kind::RoadKind;
 use csv::StringRecord;
 use record_text::{
     Kind, RecordCause, RecordRefusal, demand, field, has_only, limit, name_in, number_in, or_bad,
-    parse_what,
 };
-use road_graph::{AddRefusal, Network, Span};
+use road_graph::{AddRefusal, Network, Span, What};
 
 /// Adds to the road network what a record says of it.
 pub(crate) fn add_road(
@@ -74,7 +73,7 @@ fn set_limit(network: &mut Network, row: &StringRecord) -> Result<(), RecordRefu
 {
     has_only(row, 4)?;
     let segment = name_in(row, 2)?;
-    let what = or_bad(parse_what(field(row, 2)), RecordCause::Field(3))?;
+    let what = or_bad(What::of_word(field(row, 2).as_bytes()), RecordCause::Field(3))?;
     let value = number_in(row, 4)?;
     let segment = or_bad(network.segment_named(&segment), RecordCause::Unknown(2))?;
     match network.set_limit(segment, what, value) {

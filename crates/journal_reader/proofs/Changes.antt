@@ -1,17 +1,17 @@
 -- A change that is read is spelled by the words that were read.
-use Rattle.std.proofs.Common.{◌≡◌, ◌∙◌, ◌<◌, ◌∷◌, ℕ, zero, suc, List, true, Some, refl, ap, sym, arith}
+use Rattle.std.proofs.Common.{◌≡◌, ◌∷◌, ℕ, zero, suc, List, true, Some, refl, arith}
 use Rattle.std.specs.Prelude.{codes}
 use Rattle.std.specs.Fmt.{decimal}
 use Rattle.std.proofs.lemmas.Bool.{leb-true}
 use Rattle.road_graph.specs.declared.values.What.{What}
 use Rattle.road_graph.specs.declared.values.What.TheVariants.{Closed, Height, Width, Length, Gross, Allowance, Tridem}
-use Rattle.road_graph.specs.Words.{what_of, what_word}
+use Rattle.road_graph.specs.Words.{what_of}
 use Rattle.road_graph.proofs.Words.{read_is_word}
 use Rattle.restriction_log.specs.Changes.{change_of, replaced_by}
 use Rattle.restriction_log.specs.declared.change.Replaced.TheVariants as replaced
 use Rattle.journal_text.specs.Words.{Words, index}
-use Rattle.journal_text.specs.Entries.{change_words, replaced_words}
-use Rattle.journal_reader.specs.Fits.{FitsChange, FitsIndex, FitsNumber, FitsReplaced}
+use Rattle.journal_text.specs.Entries.{change_words}
+use Rattle.journal_reader.specs.Fits.{FitsChange, FitsIndex, FitsNumber}
 use Rattle.journal_reader.specs.Readers.{may_stand}
 
 -- the change of a limit replaces that limit, by the value that was read

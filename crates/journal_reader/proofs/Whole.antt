@@ -1,6 +1,6 @@
 -- Journals, line by line: what follows lines that are read, and that each text is the journal of one history.
 use Rattle.std.proofs.Common.{◌≡◌, ◌≢◌, ◌∙◌, ◌∷◌, ◌++◌, [], ℕ, List, Option, Some, None, Bool, true, false, cond, eqb, refl, ap, sym, subst, arith, length, append_assoc, inl, inr, ◌⊎◌}
-use Rattle.std.specs.Prelude.{codes, ◌&&◌, IfSome}
+use Rattle.std.specs.Prelude.{◌&&◌, IfSome}
 use Rattle.std.specs.Fmt.{digits}
 use Rattle.std.specs.List.{join_with_byte, list_all}
 use Rattle.std.proofs.lemmas.Bool.{true≢false}

@@ -1,6 +1,6 @@
 -- What words spell: each function gives what it found and the words that follow. They are the inverses of the functions
 -- that put words in front of others.
-use Rattle.std.specs.Prelude.{[], ◌∷◌, ℕ, List, Bool, true, false, codes, if◌then◌else◌, Option, Some, None, option_map, IfSome, nat_le, ◌≡◌}
+use Rattle.std.specs.Prelude.{[], ◌∷◌, ℕ, List, Bool, true, codes, if◌then◌else◌, Option, Some, None, option_map, IfSome, nat_le, ◌≡◌}
 use Rattle.std.specs.Str.{bytes_eq}
 use Rattle.std.specs.Borrow.{Bor}
 use Rattle.std.specs.Fmt.{decimal}

@@ -7,13 +7,12 @@ use Rattle.std.specs.Str.Parse.{digits_value}
 use Rattle.csv.specs.Records.{field_at}
 use Rattle.names.specs.Names.{is_name}
 use Rattle.axle_train.specs.declared.axle.Axle.{Axle}
-use Rattle.road_graph.specs.declared.values.What.{What}
+use Rattle.road_graph.specs.Words.{what_of}
 use Rattle.permit_days.specs.Days.{reading_of}
 use Rattle.permit_days.specs.declared.refusal.DayRefusal.{DayRefusal}
 use Rattle.permit_days.specs.declared.refusal.DayRefusal.TheVariants.{NoSuchDay, Shape}
 use Rattle.record_text.specs.declared.posted.Posted.{Posted}
 use Rattle.record_text.specs.declared.posted.Posted.TheVariants as posted
-use Rattle.road_graph.specs.declared.values.What.TheVariants.{Closed, Height, Width, Length, Gross, Allowance}
 
 -- the field at a place, counted from 0; empty where there is none
 abbrev pub field_of : List (List ℕ) → ℕ → List ℕ
@@ -45,16 +44,6 @@ all_axles (part ∷ parts) = option_and_then (λ a. option_map (λ axles. a ∷ 
 -- an axle field: one axle and more, with one space between them
 abbrev pub axles_of : List ℕ → Option (List Axle)
 axles_of text = all_axles (slice_split (λ b. b == 32) text)
-
--- which of a segment's limits a word means
-abbrev pub what_of : List ℕ → Option What
-what_of text =
-    if bytes_eq text (codes "closed") then Some Closed
-    else (if bytes_eq text (codes "height") then Some Height
-    else (if bytes_eq text (codes "width") then Some Width
-    else (if bytes_eq text (codes "length") then Some Length
-    else (if bytes_eq text (codes "gross") then Some Gross
-    else (if bytes_eq text (codes "allowance") then Some Allowance else None)))))
 
 -- what a posting replaces: a limit of a segment, or the rating of a span
 abbrev pub posted_of : List ℕ → Option Posted

@@ -21,7 +21,7 @@ mod split;
 pub use axles::{Axles, parse_axles};
 pub use demands::{day_in, demand, has_only, limit, name_in, number_in, or_bad};
 pub use fields::{field, parse_day, parse_name, parse_number};
-pub use posted::{Posted, parse_posted, parse_what};
+pub use posted::{Posted, parse_posted};
 pub use records::{Progress, is_blank_from, read_records};
 pub use refusal::{Cause, FileRefusal, Kind, RecordCause, RecordRefusal};
 pub use route::{Route, parse_route};
