@@ -3,10 +3,11 @@ use crate::records::{Field, Records};
 use crate::truck::{Train, Truck};
 use std::collections::HashMap;
 
-pub const WHATS: [&str; 7] = ["closed", "height", "width", "length", "gross", "allowance", "rating"];
-pub const RATING: usize = 6;
-const RANGES: [(u32, u32); 7] =
-    [(0, 1), (1, 999), (1, 999), (1, 9999), (1, 2_000_000), (0, 100_000), (0, 100_000)];
+pub const WHATS: [&str; 8] = ["closed", "height", "width", "length", "gross", "allowance", "tridem", "rating"];
+pub const TRIDEM: usize = 6;
+pub const RATING: usize = 7;
+const RANGES: [(u32, u32); 8] =
+    [(0, 1), (1, 999), (1, 999), (1, 9999), (1, 2_000_000), (0, 100_000), (1, 600_000), (0, 100_000)];
 const MOST_BYTES: usize = 4_194_304;
 
 /// The status and what is said behind `refused: `.
@@ -125,8 +126,8 @@ fn truck(record: &[Field], names: Option<&Names>) -> Or<Truck> {
     demand(gross <= 2_000_000, "train 5")?;
     demand(axles[axles.len() - 1].0 <= 3000, "train 6")?;
     let train = Train::new(axles);
-    let worst = train.worst();
-    Ok(Truck { name: it.to_vec(), height, width, length, train, worst })
+    let (worst, tridem) = (train.worst(), train.heaviest_tridem());
+    Ok(Truck { name: it.to_vec(), height, width, length, train, worst, tridem })
 }
 
 /// Takes the records one after another, up to the end or to the first that is refused.
@@ -183,7 +184,7 @@ pub struct Segment {
     pub to: u32,
     pub feet: u32,
     /// The limits, in the order of `WHATS`.
-    pub limits: [u32; 6],
+    pub limits: [u32; 7],
     pub spans: Vec<u32>,
 }
 
@@ -286,7 +287,7 @@ impl DayFile {
         range(feet, (1, 10_000_000), 5)?;
         room(self.segments.len(), 16384, "segments")?;
         self.segment_names.add(it);
-        self.segments.push(Segment { from, to, feet, limits: [0, 999, 999, 9999, 2_000_000, 100_000], spans: Vec::new() });
+        self.segments.push(Segment { from, to, feet, limits: [0, 999, 999, 9999, 2_000_000, 100_000, 600_000], spans: Vec::new() });
         Ok(())
     }
 

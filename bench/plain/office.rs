@@ -1,5 +1,5 @@
 //! A day of one actor: each command is carried out in its turn, and the journal is written as it goes.
-use crate::files::{Day, DayFile, Order, RATING, Segment, Trip, WHATS};
+use crate::files::{Day, DayFile, Order, RATING, Segment, TRIDEM, Trip, WHATS};
 use crate::text::Text;
 use crate::truck::{Effects, HS20, Train};
 use std::cmp::Reverse;
@@ -26,6 +26,7 @@ enum Limit {
     Closed,
     Posted(usize),
     Group,
+    Tridem,
     Moment(u32),
     Shear(u32),
 }
@@ -79,6 +80,8 @@ pub struct Office {
     version: u32,
     journal: Text,
     entries: u64,
+    /// Whether the journal has words for tridem groups, and so is of the second format.
+    tells_tridem: bool,
     notices: Text,
 }
 
@@ -90,6 +93,8 @@ enum What {
 }
 
 const MOST_INCHES: usize = 6000;
+/// Where the first line of the journal has the number of its format.
+const FORMAT_AT: usize = 15;
 
 impl Kept {
     fn effects(&mut self, file: &DayFile, truck: u32, inches: u32) -> (Effects, Effects) {
@@ -106,7 +111,7 @@ impl Kept {
 
     fn first_limit(&mut self, file: &DayFile, truck: u32, segment: u32) -> Option<Limit> {
         let (it, here) = (&file.trucks[truck as usize], &file.segments[segment as usize]);
-        let [closed, height, width, length, gross, allowance] = here.limits;
+        let [closed, height, width, length, gross, allowance, tridem] = here.limits;
         if closed == 1 {
             return Some(Limit::Closed);
         }
@@ -116,6 +121,9 @@ impl Kept {
         }
         if 1000 * it.worst.weight > u64::from(allowance) * it.worst.limit {
             return Some(Limit::Group);
+        }
+        if it.tridem.as_ref().is_some_and(|group| group.weight > u64::from(tridem)) {
+            return Some(Limit::Tridem);
         }
         for &number in &here.spans {
             let span = &file.spans[number as usize];
@@ -246,7 +254,7 @@ impl Office {
         let mut journal = Text::default();
         journal.word("permit-journal 1\n");
         let (permits, notices) = (Vec::new(), Text::default());
-        Office { file, permits, using, kept, search, version: 0, journal, entries: 0, notices }
+        Office { file, permits, using, kept, search, version: 0, journal, entries: 0, tells_tridem: false, notices }
     }
 
     /// The journal, and what standard error is told.
@@ -262,6 +270,9 @@ impl Office {
             self.journal.word("\n");
         }
         self.journal.pair("end ", self.entries).word("\n");
+        if self.tells_tridem {
+            self.journal.0[FORMAT_AT] = b'2';
+        }
         (self.journal.0, self.notices.0)
     }
 
@@ -374,6 +385,12 @@ impl Office {
                 text.pair(" group ", it.first as u64 + 1).pair("-", it.last as u64 + 1).pair(" weight ", it.weight);
                 text.pair(" limit ", it.limit).pair(" allowance ", here.limits[5]);
             }
+            Limit::Tridem => {
+                self.tells_tridem = true;
+                let it = truck.tridem.as_ref().expect("a tridem group fails");
+                text.pair(" tridem ", it.first as u64 + 1).pair("-", it.last as u64 + 1).pair(" weight ", it.weight);
+                text.pair(" over ", here.limits[TRIDEM]);
+            }
             Limit::Moment(span) | Limit::Shear(span) => {
                 let on = &self.file.spans[span as usize];
                 let (mine, most) = self.kept.effects(&self.file, number, on.inches);
@@ -389,6 +406,7 @@ impl Office {
     }
 
     fn post(&mut self, caller: u32, item: u32, what: usize, value: u32) {
+        self.tells_tridem |= what == TRIDEM;
         let kind = if what == RATING { "post span " } else { "post segment " };
         self.entry(caller).pair(kind, item + 1).word(" ").word(WHATS[what]).pair(" ", value);
         let segment = if what == RATING {

@@ -123,6 +123,13 @@ impl Train {
         self.groups().reduce(|a, b| if b.weight * a.limit > a.weight * b.limit { b } else { a }).expect("a group")
     }
 
+    /// The heaviest group of exactly three axles that are over 96 in and at most 144 in apart.
+    pub fn heaviest_tridem(&self) -> Option<Group> {
+        let spread = |it: &Group| self.axles[it.last].0 - self.axles[it.first].0;
+        let tridems = self.groups().filter(|it| it.last == it.first + 2 && (97..=144).contains(&spread(it)));
+        tridems.reduce(|a, b| if b.weight > a.weight { b } else { a })
+    }
+
     /// The runs of axles that can be exactly those on the span, as the train rolls over it.
     fn runs(&self, span: u64) -> Vec<(usize, usize)> {
         let (count, at) = (self.axles.len(), |k: usize| self.axles[k].0);
@@ -279,6 +286,7 @@ pub struct Truck {
     pub length: u32,
     pub train: Train,
     pub worst: Group,
+    pub tridem: Option<Group>,
 }
 
 impl Truck {

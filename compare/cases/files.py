@@ -125,12 +125,15 @@ class Day:
     def limit(self, segment: str) -> tuple[str, str, str]:
         """A limit of a segment, mostly about what some truck has."""
         rng, it = self.rng, self.rng.choice(self.trucks)
-        what = rng.choice(("closed", "closed", "height", "width", "length", "gross", "allowance", "allowance"))
+        what = rng.choice(("closed", "closed", "height", "width", "length", "gross", "allowance", "allowance", "tridem"))
         least, most = RANGES[what]
         if what == "closed":
             value = rng.randrange(2)
         elif what == "allowance":
             value = 1000 * it.worst.weight // it.worst.limit + rng.choice((0, 1))
+        elif what == "tridem":
+            heaviest = it.heaviest_tridem
+            value = (heaviest.weight if heaviest else it.gross) + rng.choice((-1, 0, 0, 1))
         else:
             value = getattr(it, what) + rng.choice((-1, 0, 0, 1))
         value = rng.choice((value, value, value, least, most, most))

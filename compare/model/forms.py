@@ -2,11 +2,11 @@
 import datetime
 import re
 
-LIMITS = ("closed", "height", "width", "length", "gross", "allowance")
+LIMITS = ("closed", "height", "width", "length", "gross", "allowance", "tridem")
 POSTED = LIMITS + ("rating",)
 RANGES = {
     "closed": (0, 1), "height": (1, 999), "width": (1, 999), "length": (1, 9999), "gross": (1, 2000000),
-    "allowance": (0, 100000), "rating": (0, 100000),
+    "allowance": (0, 100000), "tridem": (1, 600000), "rating": (0, 100000),
 }
 
 

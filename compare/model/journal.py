@@ -86,9 +86,14 @@ class Actor:
         return reply
 
 
+def format_of(entries: Sequence[str]) -> int:
+    """The format in which these entries are written: the first has no words for tridem groups."""
+    return 2 if any(" tridem " in entry for entry in entries) else 1
+
+
 def text_of(entries: Sequence[str]) -> str:
     """A journal of these entries."""
-    lines = ["permit-journal 1", *entries, f"end {len(entries)}"]
+    lines = [f"permit-journal {format_of(entries)}", *entries, f"end {len(entries)}"]
     return "".join(f"{line}\n" for line in lines)
 
 
@@ -112,7 +117,8 @@ def alone(file: DayFile) -> tuple[str, str]:
 def entries_of(text: str) -> list[tuple[int, str]]:
     """The lines of a journal between its first and its last, with their row numbers."""
     lines = text.split("\n")
-    if len(lines) < 3 or lines[0] != "permit-journal 1" or lines[-1] or lines[-2] != f"end {len(lines) - 3}":
+    first = f"permit-journal {format_of(lines[1:-2])}"
+    if len(lines) < 3 or lines[0] != first or lines[-1] or lines[-2] != f"end {len(lines) - 3}":
         raise Wrong("a journal has not this first and last line")
     return list(enumerate(lines[1:-2], 2))
 

@@ -12,6 +12,7 @@ Axles = Sequence[tuple[int, int]]
 SINGLE, TANDEM, GROSS = 20000, 34000, 80000
 SINGLE_SPREAD, TANDEM_SPREAD = 40, 96
 TWO_TANDEM, TWO_TANDEM_SPREAD = 68000, 432
+TRIDEM_SPREAD = 144
 LEGAL_WIDTH, LEGAL_HEIGHT = 102, 162
 
 
@@ -73,3 +74,10 @@ def worst(axles: Axles) -> Group:
         if group.weight * greatest.limit > greatest.weight * group.limit:
             greatest = group
     return greatest
+
+
+def heaviest_tridem(axles: Axles) -> Group | None:
+    """The heaviest group of exactly three axles that are over 96 and at most 144 in apart; the first of equal ones."""
+    tridems = [group for group in groups(axles) if group.last - group.first == 2
+               and TANDEM_SPREAD < axles[group.last][0] - axles[group.first][0] <= TRIDEM_SPREAD]
+    return max(tridems, key=lambda group: group.weight, default=None)

@@ -24,6 +24,7 @@ class Posted:
     length: int
     gross: int
     allowance: int
+    tridem: int
     ratings: tuple[int, ...]
 
 
@@ -89,6 +90,10 @@ class Roads:
         if 1000 * group.weight > allowance * group.limit:
             axles = f"{group.first + 1}-{group.last + 1}"
             return f"{here} group {axles} weight {group.weight} limit {group.limit} allowance {allowance}"
+        heaviest = truck.heaviest_tridem
+        if heaviest is not None and heaviest.weight > posted.tridem:
+            axles = f"{heaviest.first + 1}-{heaviest.last + 1}"
+            return f"{here} tridem {axles} weight {heaviest.weight} over {posted.tridem}"
         for span, rating in zip(self.spans_of[segment], posted.ratings):
             inches = self.spans[span].inches
             effects, hs20 = truck.effects(inches), design(inches)

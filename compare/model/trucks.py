@@ -4,7 +4,7 @@ from fractions import Fraction
 from functools import cached_property
 
 from .bridges import Effects, End, Vertex, peak_moment, peak_shear
-from .limits import GROSS, LEGAL_HEIGHT, LEGAL_WIDTH, Axles, Group, findings, worst
+from .limits import GROSS, LEGAL_HEIGHT, LEGAL_WIDTH, Axles, Group, findings, heaviest_tridem, worst
 
 MOST_PLACE, MOST_WEIGHT, MOST_GROSS = 3000, 200000, 2000000
 
@@ -49,6 +49,11 @@ class Truck:
     def worst(self) -> Group:
         """The worst group."""
         return worst(self.axles)
+
+    @cached_property
+    def heaviest_tridem(self) -> Group | None:
+        """The heaviest tridem group, if there is one."""
+        return heaviest_tridem(self.axles)
 
     def is_legal(self) -> bool:
         """Whether it needs no permit: each group, the gross weight, the width and the height are within limits."""

@@ -21,6 +21,7 @@ LIMIT_FORMS = (
     ("closed", re.compile(rf"segment {I} closed")),
     ("size", re.compile(rf"segment {I} (height|width|length|gross) {N} over {N}")),
     ("group", re.compile(rf"segment {I} group {I}-{I} weight {N} limit {N} allowance {N}")),
+    ("tridem", re.compile(rf"segment {I} tridem {I}-{I} weight {N} over {N}")),
     ("effect", re.compile(rf"segment {I} span {I} (moment|shear) {RATIO} hs20 {RATIO} rating {N}")),
 )
 APPLICATION = rf"truck {I} from {I} to {I} asked (none|{INDEXES[1:-1]}) days {D} {D}"
@@ -29,7 +30,7 @@ CALLS = (
     ("submit", re.compile(rf"submit {APPLICATION} seen {N} (?:(none)|(route|cut) {INDEXES}|(fails) {I})")),
     ("held", re.compile(rf"held {APPLICATION}")),
     ("post", re.compile(rf"post segment {I} (closed) ([01])")),
-    ("post", re.compile(rf"post segment {I} (height|width|length|gross|allowance) {N}")),
+    ("post", re.compile(rf"post segment {I} (height|width|length|gross|allowance|tridem) {N}")),
     ("post", re.compile(rf"post span {I} (rating) {N}")),
     ("day", re.compile(rf"day {D}")),
     ("surrender", re.compile(rf"surrender {N}")),
@@ -168,6 +169,9 @@ def limit_of(text: str) -> Limit:
             group = index(found[2]), index(found[3])
             has, most, rate = number(found[4]), number(found[5]), number(found[6])
             return Limit(segment, "group", Fraction(has), Fraction(most), rate, group=group)
+        if kind == "tridem":
+            group = index(found[2]), index(found[3])
+            return Limit(segment, "tridem", Fraction(number(found[4])), Fraction(number(found[5])), group=group)
         span, has_text, most_text = index(found[2]), found[4], found[5]
         return Limit(segment, found[3], ratio(has_text), ratio(most_text), number(found[6]), span)
     raise Bad
@@ -237,6 +241,11 @@ def entry_of(text: str, line: int) -> Entry:
     return Entry(line=line, caller=index(who), **call_of(call) | reply_of(reply))  # type: ignore[arg-type]
 
 
+def tells_tridem(entry: Entry) -> bool:
+    """Whether an entry needs words for tridem groups, which the first format has not."""
+    return (entry.call == "post" and entry.what == "tridem") or (entry.limit is not None and entry.limit.what == "tridem")
+
+
 def read_journal(data: bytes, path: str) -> list[Entry]:
     """The entries of a journal, or a fault that names the first bad line."""
     lines = data.decode("utf-8", "backslashreplace").split("\n")
@@ -247,8 +256,9 @@ def read_journal(data: bytes, path: str) -> list[Entry]:
 
     if lines and lines[0].startswith("refused: "):
         raise Fault(BAD, f"{path} is no journal, but the line of a refusal: {lines[0]}")
-    if not lines or lines[0] != "permit-journal 1":
-        raise bad(1, "is not permit-journal 1")
+    formats = {f"permit-journal {number}": number for number in (1, 2)}
+    if not lines or lines[0] not in formats:
+        raise bad(1, "is neither permit-journal 1 nor permit-journal 2")
     entries: list[Entry] = []
     for line, text in enumerate(lines[1:], 2):
         if text == f"end {len(entries)}":
@@ -256,7 +266,10 @@ def read_journal(data: bytes, path: str) -> list[Entry]:
                 raise bad(line + 1, "stands behind the end")
             return entries
         try:
-            entries.append(entry_of(text, line))
+            entry = entry_of(text, line)
+            if tells_tridem(entry) and formats[lines[0]] < 2:
+                raise Bad
+            entries.append(entry)
         except Bad as fault:
             raise bad(line, "is of no form that a journal has") from fault
     raise bad(

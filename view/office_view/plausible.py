@@ -30,6 +30,7 @@ LIMITS = {
         10_000,
         "an allowance is in thousandths of the federal limits, so that 1,000 is what every truck may have",
     ),
+    "tridem": (6_000, 600_000, "the weight of a tridem group is in pounds; were tons or kips written?"),
     "rating": RATING,
 }
 LEAST_AXLE, MOST_AXLE, LEAST_SPACING = 2_000, 60_000, 36

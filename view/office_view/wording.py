@@ -8,7 +8,7 @@ from .journal import Limit, Trip
 from .replay import EXPIRED, IN_FORCE, RECALLED, SURRENDERED, Answer, Other, Permit, Posting
 
 STATUS = {IN_FORCE: "In force", RECALLED: "Recalled", SURRENDERED: "Surrendered", EXPIRED: "Expired"}
-UNITS = {"height": "in", "width": "in", "length": "in", "gross": "lb"}
+UNITS = {"height": "in", "width": "in", "length": "in", "gross": "lb", "tridem": "lb"}
 EFFECTS = {"moment": "moment", "shear": "end shear"}
 EFFECT_UNITS = {"moment": "lb·in", "shear": "lb"}
 
@@ -81,6 +81,8 @@ class Words:
                 f"{segment}: {axles} {has} lb, and {most} are allowed, {limit.rate:,} thousandths of their limit of "
                 f"{rounded(limit.most)}"
             )
+        if limit.what == "tridem":
+            return f"{segment}: {axles_text(*limit.group)} {has} lb, and {most} are allowed for a tridem group"
         if limit.span >= 0:
             return (
                 f"{segment}, bridge {self.spans[limit.span]}: {EFFECTS[limit.what]} {has} {EFFECT_UNITS[limit.what]}, "
@@ -116,6 +118,9 @@ class Words:
             first, last, weight, limit, _ = truck.worst
             texts = two_rounded(Fraction(weight), Fraction(limit * posting.value, 1000))
             return f"the truck's {axles_text(first, last)} {texts[0]} lb, {texts[1]} are allowed"
+        if posting.what == "tridem":
+            group = truck.heaviest_tridem
+            return f"the truck's {axles_text(group.first, group.last)} {group.weight:,} lb" if group else ""
         has = getattr(truck, posting.what)
         return f"the truck has {has:,} {UNITS[posting.what]}"
 
@@ -147,7 +152,7 @@ class Words:
         }.get(reply, stands)
 
 
-LIMIT_NAMES = {"height": "height", "width": "width", "length": "length", "gross": "gross weight"}
+LIMIT_NAMES = {"height": "height", "width": "width", "length": "length", "gross": "gross weight", "tridem": "tridem group"}
 
 
 def axles_text(first: int, last: int) -> str:

@@ -35,7 +35,7 @@ pub(crate) const TWO_RECALLS: (&str, &str) = (
 );
 
 /// A day file, and the journal that `day` writes for it.
-pub(crate) const DAYS: [(&str, &str); 10] = [
+pub(crate) const DAYS: [(&str, &str); 11] = [
     // One road posted at 168 in, and a load as high as that.
     (
         "\
@@ -168,6 +168,29 @@ pub(crate) const DAYS: [(&str, &str); 10] = [
          1 snapshot = at 0\n\
          1 submit truck 1 from 1 to 2 asked none days 2026-03-02 2026-03-06 seen 0 cut 1 = refused 0 segment 1 group 2-5 weight 68000 limit 65500 allowance 1038\n\
          end 2\n",
+    ),
+    // A tridem group that weighs just what is posted, and then a pound more than is posted.
+    (
+        "\
+         day,2026-03-02,,,,,,\n\
+         node,A,,,,,,\n\
+         node,B,,,,,,\n\
+         segment,S1,A,B,5000,,,\n\
+         limit,S1,tridem,51000,,,,\n\
+         truck,TRI,ACME,168,102,720,0:12000 180:17000 234:17000 288:17000,\n\
+         actor,ann,,,,,,\n\
+         apply,ann,TRI,A,B,,2026-03-02,2026-03-06\n\
+         post,ann,S1,tridem,50999,,,\n\
+         apply,ann,TRI,A,B,,2026-03-02,2026-03-06\n\
+         end,,,,,,,\n",
+        "\
+         permit-journal 2\n\
+         1 snapshot = at 0\n\
+         1 submit truck 1 from 1 to 2 asked none days 2026-03-02 2026-03-06 seen 0 route 1 = issued 1 at 0 route 1\n\
+         1 post segment 1 tridem 50999 = posted 1 recalled 1\n\
+         1 snapshot = at 1\n\
+         1 submit truck 1 from 1 to 2 asked none days 2026-03-02 2026-03-06 seen 1 cut 1 = refused 1 segment 1 tridem 2-4 weight 51000 over 50999\n\
+         end 5\n",
     ),
     // The allowance at which that group passes.
     (

@@ -65,36 +65,15 @@ pub const GROSS: Option<What> = Some(What::Gross);
 
 pub const ALLOWANCE: Option<What> = Some(What::Allowance);
 
+pub const TRIDEM: Option<What> = Some(What::Tridem);
+
 pub const RATING: Option<What> = None;
 
 // The change that is posted.
 pub fn change(posted: Posted) -> Change {
     let (what, of, value) = posted;
     match what {
-        Some(What::Closed) => Change::Closed {
-            segment: of,
-            closed: value == 1,
-        },
-        Some(What::Height) => Change::Height {
-            segment: of,
-            inches: value,
-        },
-        Some(What::Width) => Change::Width {
-            segment: of,
-            inches: value,
-        },
-        Some(What::Length) => Change::Length {
-            segment: of,
-            inches: value,
-        },
-        Some(What::Gross) => Change::Gross {
-            segment: of,
-            pounds: value,
-        },
-        Some(What::Allowance) => Change::Allowance {
-            segment: of,
-            permille: value,
-        },
+        Some(what) => Change::of(of, what, value),
         None => Change::Rating {
             span: of,
             permille: value,

@@ -38,6 +38,14 @@ const TWO_TANDEMS: [(u32, u32); 5] = [
     (612, 17_000),
 ];
 
+// A steering axle and three axles 108 in from first to last, to which the bridge formula gives 42,500 lb.
+const THREE_AXLES: [(u32, u32); 4] = [
+    (0, 12_000),
+    (180, 17_000),
+    (234, 17_000),
+    (288, 17_000),
+];
+
 // Two axles 10 ft apart. On 20 ft the moment is 60,000/(4*240)*180*180, and the shear 30,000 + 15,000.
 const TWO_AXLES: [(u32, u32); 2] = [(0, 30_000), (120, 30_000)];
 
@@ -404,6 +412,55 @@ fn names_the_first_limit(rt: HostRuntime) -> Result<(), Fail> {
     drop(network);
     drop(load);
     named
+}
+
+// A posted weight of tridem groups, and the limit that fails a load after it.
+fn tridem(pounds: u32, limit: Option<Limit>) -> Row {
+    (Change::Tridem { segment: 0, pounds }, limit)
+}
+
+fn weigh_tridems(rt: &impl Abort, alloc: Global, network: &Network, load: &Load) -> Result<(), Fail> {
+    let over = Some(Limit::Tridem {
+        segment: 0,
+        i: 1,
+        j: 3,
+        weight: 51_000,
+        allowed: 50_999,
+    });
+    try_each(rt, alloc, network, load, &[tridem(51_000, None), tridem(50_999, over)])?;
+    let rows = [
+        // 51,000 lb of 42,500 lb are 1,200 thousandths
+        (
+            Change::Allowance {
+                segment: 0,
+                permille: 1_199,
+            },
+            Some(Limit::Group {
+                segment: 0,
+                i: 1,
+                j: 3,
+                weight: 51_000,
+                limit: 42_500,
+                allowance: 1_199,
+            }),
+        ),
+        tridem(50_999, over),
+        // on 20 ft: 17,000/4*240 of the axle in the middle, and 17,000*66/240*120 of each at its side, twice
+        rated(0, 0, moment(rt, 0, 2_142_000, 1_920_000, 0)),
+    ];
+    try_from_each(rt, alloc, network, load, &rows)
+}
+
+// A tridem group passes at equality, is judged behind the groups and before the spans, and by its own weight: the allowance, which is
+// the greatest here, does not scale it.
+#[test]
+fn weighs_tridem_groups(rt: HostRuntime) -> Result<(), Fail> {
+    let load = loaded(&rt, rt.alloc(), 168, 102, 720, &THREE_AXLES)?;
+    let network = roads(&rt, rt.alloc(), 240, [100_000; 3]);
+    let weighed = weigh_tridems(&rt, rt.alloc(), &network, &load);
+    drop(network);
+    drop(load);
+    weighed
 }
 
 fn judge_spans(rt: &impl Abort, alloc: Global, network: &Network, load: &Load) -> Result<(), Fail> {

@@ -170,7 +170,7 @@ fn set_limits(rt: &impl Abort, network: &mut Network, cases: &[(Posted, Taken)])
     }
 }
 
-const LIMITS: [(Posted, Taken); 15] = [
+const LIMITS: [(Posted, Taken); 19] = [
     ((1, What::Height, 0), Err(AddRefusal::UnknownSegment)),
     ((0, What::Closed, 2), Err(AddRefusal::Range)),
     ((0, What::Closed, 1), Ok(())),
@@ -186,6 +186,10 @@ const LIMITS: [(Posted, Taken); 15] = [
     ((0, What::Gross, 2_000_001), Err(AddRefusal::Range)),
     ((0, What::Allowance, 0), Ok(())),
     ((0, What::Allowance, 100_001), Err(AddRefusal::Range)),
+    ((0, What::Tridem, 0), Err(AddRefusal::Range)),
+    ((0, What::Tridem, 1), Ok(())),
+    ((0, What::Tridem, 600_000), Ok(())),
+    ((0, What::Tridem, 600_001), Err(AddRefusal::Range)),
 ];
 
 #[test]
@@ -260,11 +264,12 @@ fn has_set(rt: &impl Abort, network: &Network, segment: u32, values: &Values) {
     same(rt, segment as usize, &network.segment(segment).base, values);
 }
 
-const SET: [(Posted, Taken); 4] = [
+const SET: [(Posted, Taken); 5] = [
     ((0, What::Height, 168), Ok(())),
     ((0, What::Closed, 1), Ok(())),
     ((0, What::Closed, 0), Ok(())),
     ((0, What::Gross, 120_000), Ok(())),
+    ((0, What::Tridem, 51_000), Ok(())),
 ];
 
 #[test]
@@ -279,6 +284,7 @@ fn sets_one_limit_and_leaves_the_others(rt: HostRuntime) {
         length: 9_999,
         gross: 120_000,
         allowance: 100_000,
+        tridem: 51_000,
     };
     has_set(&rt, &network, 0, &values);
     has_set(&rt, &network, 1, &Values::default());

@@ -3,8 +3,8 @@ ghost use Rattle.restriction_log.specs.Changes.{AreTaken};
 ghost use Rattle.restriction_log.specs.States.{AreOf};
 
 use crate::fixtures::{
-    ALLOWANCE, CLOSED, GROSS, HEIGHT, LENGTH, Posted, RATING, WIDTH, after, base_state, change,
-    named, roads, same,
+    ALLOWANCE, CLOSED, GROSS, HEIGHT, LENGTH, Posted, RATING, TRIDEM, WIDTH, after, base_state,
+    change, named, roads, same,
 };
 use restriction_log::{
     Change, Log, PostRefusal, Stamps, State, states_are_of_their_network, takes, touched,
@@ -46,7 +46,7 @@ fn post_each(rt: &impl Abort, network: &Network, log: &mut Log, postings: &[Post
     }
 }
 
-const TAKEN: [Posting; 21] = [
+const TAKEN: [Posting; 25] = [
     ((CLOSED, 1, 1), true),
     ((CLOSED, 2, 1), false),
     ((HEIGHT, 1, 1), true),
@@ -65,6 +65,10 @@ const TAKEN: [Posting; 21] = [
     ((ALLOWANCE, 0, 0), true),
     ((ALLOWANCE, 0, 100_000), true),
     ((ALLOWANCE, 0, 100_001), false),
+    ((TRIDEM, 0, 0), false),
+    ((TRIDEM, 0, 1), true),
+    ((TRIDEM, 0, 600_000), true),
+    ((TRIDEM, 0, 600_001), false),
     ((RATING, 2, 0), true),
     ((RATING, 2, 100_000), true),
     ((RATING, 2, 100_001), false),
@@ -115,13 +119,14 @@ fn is_state(rt: &impl Abort, state: &State, values: &[Values; 2], ratings: &[u32
     );
 }
 
-const REPLACING: [Replacing; 8] = [
+const REPLACING: [Replacing; 9] = [
     ((CLOSED, 0, 1), 0),
     ((HEIGHT, 0, 168), 0),
     ((WIDTH, 0, 144), 0),
     ((LENGTH, 0, 1_200), 0),
     ((GROSS, 0, 120_000), 0),
     ((ALLOWANCE, 0, 1_100), 0),
+    ((TRIDEM, 0, 51_000), 0),
     ((RATING, 1, 750), 1),
     ((RATING, 2, 500), 0),
 ];
@@ -135,6 +140,7 @@ fn replace_each(rt: &impl Abort, alloc: Global, network: &Network) {
         length: 1_200,
         gross: 120_000,
         allowance: 1_100,
+        tridem: 51_000,
     };
     assert!(rt; network.segments() == 2 && network.spans() == 3);
     is_state(rt, &state, &[values, Values::default()], &[1_000, 750, 500]);

@@ -69,22 +69,30 @@ const FORMS: &str = "permit-journal 1
 end 25
 ";
 
+// Three axles over a posted weight of tridem groups, which only the second format has words for.
+const TRIDEM: &str = "permit-journal 2
+1 snapshot = at 0
+1 submit truck 1 from 1 to 2 asked none days 2026-03-02 2026-03-06 seen 0 route 1 = issued 1 at 0 route 1
+1 post segment 1 tridem 50999 = posted 1 recalled 1
+1 snapshot = at 1
+1 submit truck 1 from 1 to 2 asked none days 2026-03-02 2026-03-06 seen 1 cut 1 = refused 1 segment 1 tridem 2-4 weight 51000 over 50999
+end 5
+";
+
 // What is read is printed as the same text.
 fn reads_back(rt: &impl Abort, alloc: Global, text: &str) {
-    let history = read(alloc, text.as_bytes()).expect(rt, text);
-    let printed = print(alloc, history.as_slice()).expect(rt, "memory");
-    drop(history);
-    holds(rt, printed.as_slice() == text.as_bytes(), text);
+    prints_as(rt, alloc, text, text);
 }
 
 // Texts that are journals.
-const JOURNALS: [&str; 6] = [
+const JOURNALS: [&str; 7] = [
     "permit-journal 1\nend 0\n",
     ONE_TRIP,
     BRIDGE,
     NO_ROAD,
     RECALL,
     FORMS,
+    TRIDEM,
 ];
 
 #[test]
@@ -92,6 +100,26 @@ fn journals_are_read_and_printed_again(rt: HostRuntime) {
     for text in JOURNALS {
         reads_back(&rt, rt.alloc(), text);
     }
+}
+
+// A text in the second format that needs only words of the first is read, and printed in the first.
+#[test]
+fn journals_are_written_in_the_oldest_format_that_serves(rt: HostRuntime) {
+    let alloc = rt.alloc();
+    for text in [ONE_TRIP, BRIDGE, NO_ROAD, RECALL, FORMS] {
+        let second = text
+            .replace(alloc, "permit-journal 1", "permit-journal 2")
+            .expect(&rt, "memory");
+        prints_as(&rt, alloc, second.as_str(), text);
+    }
+}
+
+// The history of the one text is printed as the other.
+fn prints_as(rt: &impl Abort, alloc: Global, text: &str, wanted: &str) {
+    let history = read(alloc, text.as_bytes()).expect(rt, text);
+    let printed = print(alloc, history.as_slice()).expect(rt, "memory");
+    drop(history);
+    holds(rt, printed.as_slice() == wanted.as_bytes(), text);
 }
 
 // The row of the bad line, where the text is refused for one.
@@ -107,12 +135,18 @@ fn bad_row(alloc: Global, text: &str) -> Option<u64> {
 }
 
 // Texts that are none, and the row of the first line that no journal has there.
-const BAD_JOURNALS: [(&str, u64); 19] = [
+const BAD_JOURNALS: [(&str, u64); 24] = [
     // no first line, a part of it, another, and none but it
     ("", 1),
     ("\n", 1),
     ("permit-journal 1", 1),
-    ("permit-journal 2\nend 0\n", 1),
+    ("permit-journal 3\nend 0\n", 1),
+    ("permit-journal 2", 1),
+    ("permit-journal 2\n", 2),
+    // what the first format has no words for, posted or named
+    ("permit-journal 1\n1 post segment 1 tridem 50999 = posted 1 recalled -\nend 1\n", 2),
+    ("permit-journal 1\n1 snapshot = refused 0 segment 1 tridem 2-4 weight 51000 over 50999\nend 1\n", 2),
+    ("permit-journal 1\n1 snapshot = outdated 0 fails segment 1 tridem 2-4 weight 51000 over 50999\nend 1\n", 2),
     ("permit-journal 1\n", 2),
     // a zero in front; the same line is bad whatever follows
     ("permit-journal 1\n1 snapshot = at 00\nend 1\n", 2),
@@ -167,12 +201,12 @@ fn names_the_line_that_was_changed(rt: HostRuntime) {
 
 // A journal of this one line names it.
 fn is_bad_line(rt: &impl Abort, alloc: Global, line: &str) -> bool {
-    let text = format!(in alloc; "permit-journal 1\n{line}\nend 1\n").expect(rt, "memory");
+    let text = format!(in alloc; "permit-journal 2\n{line}\nend 1\n").expect(rt, "memory");
     bad_row(alloc, text.as_str()) == Some(2)
 }
 
-// Lines that no journal has.
-const FAULTS: [&str; 45] = [
+// Lines that no journal has, in whatever format.
+const FAULTS: [&str; 48] = [
     // indices and numbers out of range, with a sign, with a zero in front, or none
     "0 snapshot = at 0",
     "65537 snapshot = at 0",
@@ -224,6 +258,9 @@ const FAULTS: [&str; 45] = [
     "1 snapshot = refused 0 segment 1 group 1-0 weight 1 limit 2 allowance 3",
     "1 snapshot = refused 0 segment 1 group 1 weight 1 limit 2 allowance 3",
     "1 snapshot = refused 0 segment 1 height 2 under 1",
+    "1 snapshot = refused 0 segment 1 tridem 2-4 weight 51000 limit 50999",
+    "1 post segment 1 closed 01 = range",
+    "1 post segment 1 tridems 1 = range",
 ];
 
 #[test]

@@ -6,7 +6,7 @@ use axle_train::Axle;
 use csv::StringRecord;
 use record_text::{
     Cause, FileRefusal, Posted, Progress, RecordCause, RecordRefusal, has_only, number_in,
-    parse_axles, parse_day, parse_name, parse_number, parse_posted, parse_route, parse_what,
+    parse_axles, parse_day, parse_name, parse_number, parse_posted, parse_route,
     read_records,
 };
 use road_graph::What;
@@ -237,7 +237,7 @@ fn read_postings(rt: &impl Abort, cases: &[(&str, Option<What>, Option<Posted>)]
         same(
             rt,
             text,
-            &(parse_what(text), parse_posted(text)),
+            &(What::of_word(text.as_bytes()), parse_posted(text)),
             &(what, posted),
         );
     }
@@ -258,9 +258,10 @@ fn reads_what_a_posting_replaces(rt: HostRuntime) {
             limit("length", What::Length),
             limit("gross", What::Gross),
             limit("allowance", What::Allowance),
+            limit("tridem", What::Tridem),
             ("rating", None, Some(Posted::Rating)),
             ("Height", None, None),
-            ("tridem", None, None),
+            ("tridems", None, None),
             ("", None, None),
         ],
     );

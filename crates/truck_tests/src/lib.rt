@@ -10,3 +10,5 @@ mod federal_limits;
 mod formula_table;
 #[cfg(test)]
 mod trains;
+#[cfg(test)]
+mod tridems;
