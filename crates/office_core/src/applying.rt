@@ -18,6 +18,7 @@ use office_words::{Cause, Reply};
 use permit_book::BookRefusal;
 use permit_days::Day;
 use road_graph::Numbers;
+use shared_route::Route;
 use std::sync::ledger::Ledger;
 use trip_analysis::{Application, Base, Failing, NodeSet, Proposal, What, is_passable};
 
@@ -294,12 +295,13 @@ impl Register {
         ensures unchanged { OnErr result (self.new ≡ self.old) }
     {
         let (number, version) = (self.book.len() + 1, self.store.version());
+        let own = Route::along(self.alloc, route.try_clone(self.alloc)?)?;
         let answer = Answer::new(Reply::Issued {
             number,
             version,
-            route: route.try_clone(self.alloc)?,
+            route: own.clone()?,
         })?;
-        self.enter_permit(caller, application, seen, route)?;
+        self.enter_permit(caller, application, seen, &own)?;
         Ok(answer)
     }
 
@@ -309,7 +311,7 @@ impl Register {
         caller: u32,
         application: &Application,
         seen: u32,
-        route: &Numbers,
+        route: &Route,
     ) -> Result<(), NoMemory>
         requires truck { application.now.truck < length self.old.base.fleet }
         requires segments { All (λ s. s < length self.old.base.roads.segments) route.now }
@@ -321,8 +323,9 @@ impl Register {
     {
         let number = self.book.len() + 1;
         let version = self.store.version();
-        let own = route.try_clone(self.alloc)?;
-        self.index.add(number, route)?;
+        let own = route.clone()?;
+        let segments = route.as_slice();
+        self.index.add(number, segments)?;
         let (truck, first, last) = (application.truck(), application.first(), application.last());
         match self
             .book
@@ -330,7 +333,7 @@ impl Register {
         {
             Ok(_number) => Ok(()),
             Err(BookRefusal::NoMemory) => {
-                self.index.remove(number, route);
+                self.index.remove(number, segments);
                 Err(NoMemory)
             }
             Err(BookRefusal::Full) => unreachable!(),

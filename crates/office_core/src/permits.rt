@@ -53,7 +53,7 @@ impl Register {
         if !status.is_in_force() {
             return Answer::plain(Reply::NotInForce { status });
         }
-        self.index.remove(number, &permit.route);
+        self.index.remove(number, permit.route.as_slice());
         self.book.surrender(number);
         Answer::plain(Reply::Surrendered)
     }

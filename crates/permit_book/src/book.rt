@@ -3,7 +3,7 @@
 use crate::permit::{Mark, Permit, Status};
 use crate::refusal::BookRefusal;
 use permit_days::Day;
-use road_graph::Numbers;
+use shared_route::Route;
 use std::alloc::Global;
 use std::marker::Model;
 
@@ -52,7 +52,7 @@ impl Book {
         &mut self,
         caller: u32,
         truck: u32,
-        route: Numbers,
+        route: Route,
         first: Day,
         last: Day,
         version: u32,

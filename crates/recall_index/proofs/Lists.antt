@@ -129,12 +129,6 @@ gone_from_all old new n route there gone = record {
     by s low true e = refl
     by s low false e = sym (without_absent n (using_in old s) (there s low ∙ e))
 
--- each place of a route is one of the lists
-pub place_there : (old lists : Lists) (n : ℕ) (route list : List ℕ) (i : ℕ) → All (λ s. s < length old) route → list ≡ route → i < length list → IsAdded old n (take i list) lists → get_or list i 0 < length lists
-place_there old lists n route list i inside same low had =
-    let within : i < length route = omega (arith, low, ap length same) in
-    omega (arith, inside i 0 within, ap (λ l. get_or l i 0) same, had.many)
-
 -- a list that is put back leaves all as they were
 pub put_back : (lists : Lists) (at : ℕ) (found put : List ℕ) → found ≡ get_or lists at found → put ≡ found → set lists at put ≡ lists
 put_back lists at found put is same = ap (set lists at) (same ∙ is) ∙ set-get_or lists at found

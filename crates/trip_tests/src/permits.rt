@@ -4,6 +4,7 @@ ghost use Rattle.permit_book.specs.Permits.{is_issued, is_live, permit_of};
 use permit_book::{Book, Mark, Status};
 use permit_days::Day;
 use road_graph::Numbers;
+use shared_route::Route;
 use std::alloc::Global;
 use std::process::Abort;
 use std::test::Fail;
@@ -11,6 +12,11 @@ use std::test::Fail;
 // The day of a text, which writes one.
 fn day(rt: &impl Abort, text: &[u8]) -> Day {
     Day::read(text).expect(rt, "a day")
+}
+
+// A route without a segment.
+fn nowhere(rt: &impl Abort, alloc: Global) -> Route {
+    Route::along(alloc, Numbers::of(Vec::new(alloc))).expect(rt, "memory")
 }
 
 // A book with two permits of one route, for the days 2 to 10 and 2 to 20 of a month.
@@ -21,7 +27,7 @@ fn two(rt: &impl Abort, alloc: Global) -> Book {
         book.issue(
             7,
             1,
-            Numbers::of(Vec::new(alloc)),
+            nowhere(rt, alloc),
             first,
             day(rt, b"2026-03-10"),
             3,
@@ -30,7 +36,7 @@ fn two(rt: &impl Abort, alloc: Global) -> Book {
         book.issue(
             9,
             0,
-            Numbers::of(Vec::new(alloc)),
+            nowhere(rt, alloc),
             first,
             day(rt, b"2026-03-20"),
             4,

@@ -27,18 +27,18 @@ invariant_of-self-in-Ok c =
     } in
     let n : ℕ = c.len-number.result + 1 in
     let next : n ≡ length c.self.inside.book + 1 = ap (λ k. k + 1) c.len-number.ensures.count in
-    issue_keeps c.self.inside c.args.self.now c.issue.new.self c.add.new.self p c.args.application.now.truck n c.args.route.now c.self.view_is c.self.invariant next (sym next) c.truck-truck.ensures c.in_ok-own.ensures refl
-    c.requires.truck c.requires.segments c.requires.meets c.in_ok-add.ensures.added c.in-Ok.ensures.issued
+    issue_keeps c.self.inside c.args.self.now c.issue.new.self c.add.new.self p c.args.application.now.truck n c.args.route.now c.self.view_is c.self.invariant next (sym next) c.truck-truck.ensures c.in_ok-own.ensures.cases refl
+    c.requires.truck c.requires.segments c.requires.meets (rw c.as_slice-segments.ensures at c.in_ok-add.ensures.added) c.in-Ok.ensures.issued
 
 pub remove-requires-clause-segments : goal.remove-requires-clause-segments
 remove-requires-clause-segments c =
-    subst (λ k. All (λ s. s < k) c.args.route.now) (sym c.in_ok-add.ensures.added.many) (route_there c.self.inside c.args.self.now c.args.route.now c.self.view_is c.self.invariant c.requires.segments)
+    rw c.as_slice-segments.ensures (subst (λ k. All (λ s. s < k) c.args.route.now) (sym c.in_ok-add.ensures.added.many) (route_there c.self.inside c.args.self.now c.args.route.now c.self.view_is c.self.invariant c.requires.segments))
 
 pub remove-requires-clause-there : goal.remove-requires-clause-there
 remove-requires-clause-there c = let i = c.self.inside in let inv = c.self.invariant in
-    there_once_added i.index c.add.new.self (c.len-number.result + 1) c.args.route.now
-    (index_below (length (arc_value i.base).roads.segments) i.book i.index inv.index inv.good.numbered (c.len-number.result + 1) (ap (λ k. k + 1) c.len-number.ensures.count)) c.in_ok-add.ensures.added
+    rw c.as_slice-segments.ensures (there_once_added i.index c.add.new.self (c.len-number.result + 1) c.args.route.now
+    (index_below (length (arc_value i.base).roads.segments) i.book i.index inv.index inv.good.numbered (c.len-number.result + 1) (ap (λ k. k + 1) c.len-number.ensures.count)) (rw c.as_slice-segments.ensures at c.in_ok-add.ensures.added))
 
 pub invariant_of-self-in-Err-NoMemory : goal.invariant_of-self-in-Err-NoMemory
 invariant_of-self-in-Err-NoMemory c =
-    undo_keeps c.self.inside c.issue.new.self c.add.new.self c.remove.new.self (c.len-number.result + 1) c.args.route.now c.self.invariant (ap (λ k. k + 1) c.len-number.ensures.count) c.in_ok-add.ensures.added c.remove.ensures c.in-Err-NoMemory.ensures.unchanged
+    undo_keeps c.self.inside c.issue.new.self c.add.new.self c.remove.new.self (c.len-number.result + 1) c.args.route.now c.self.invariant (ap (λ k. k + 1) c.len-number.ensures.count) (rw c.as_slice-segments.ensures at c.in_ok-add.ensures.added) c.remove.ensures c.in-Err-NoMemory.ensures.unchanged

@@ -11,13 +11,13 @@ use Rattle.office_core.proofs.register.Register.surrender.Goals as goal
 
 pub remove-requires-clause-segments : goal.remove-requires-clause-segments
 remove-requires-clause-segments c = let i = c.self.inside in let inv = c.self.invariant in
-    index_inside (length (arc_value i.base).roads.segments) i.book i.index inv.index inv.good.numbered c.args.number (sym c.in-Some.ensures.issued) c.in-Some.permit.now c.in-Some.ensures.permit
+    rw c.as_slice.ensures (index_inside (length (arc_value i.base).roads.segments) i.book i.index inv.index inv.good.numbered c.args.number (sym c.in-Some.ensures.issued) c.in-Some.permit.now c.in-Some.ensures.permit)
 
 pub remove-requires-clause-there : goal.remove-requires-clause-there
 remove-requires-clause-there c = let i = c.self.inside in let inv = c.self.invariant in
     let live = live_in_force c.in-Some.permit.now i.day (ap is_in_force (sym c.status-status.ensures) ∙ (sym c.is_in_force.ensures ∙ c.if-not-is_in_force.false)) in
-    index_there (length (arc_value i.base).roads.segments) i.book i.index inv.index inv.good.numbered c.args.number (sym c.in-Some.ensures.issued) c.in-Some.permit.now c.in-Some.ensures.permit
-    (ap (λ (q : Permit). is_live q.mark) (sym c.in-Some.ensures.permit) ∙ live)
+    rw c.as_slice.ensures (index_there (length (arc_value i.base).roads.segments) i.book i.index inv.index inv.good.numbered c.args.number (sym c.in-Some.ensures.issued) c.in-Some.permit.now c.in-Some.ensures.permit
+    (ap (λ (q : Permit). is_live q.mark) (sym c.in-Some.ensures.permit) ∙ live))
 
 pub invariant_of-self : goal.invariant_of-self
 invariant_of-self c = let i = c.self.inside in let inv = c.self.invariant in record {
