@@ -2,8 +2,8 @@ use Rattle.std.proofs.Common.{◌<◌, sym, subst, length, arith}
 use Rattle.std.specs.BTreeMap.{get}
 use Rattle.std.specs.Ordering.{nat_cmp}
 use Rattle.office_words.specs.declared.entry.Entry.{Entry}
-use Rattle.office_core.specs.RecallLists.{HasTrucks}
-use Rattle.office_core.proofs.recall_list.recalls_by.Goals as goal
+use Rattle.recall_list.specs.RecallLists.{HasTrucks}
+use Rattle.recall_list.proofs.list.recalls_by.Goals as goal
 
 pub push_recalls-requires : goal.push_recalls-requires
 push_recalls-requires c =

@@ -1,9 +1,9 @@
 use Rattle.std.proofs.Common.{◌≡◌, sym, subst, ℕ, Option, All, IfOk}
 use Rattle.std.specs.List.{flat_map}
 use Rattle.std.proofs.Math.Path.{fun_ext}
-use Rattle.office_core.specs.RecallLists.{HasTrucks, recalls_by}
-use Rattle.office_core.proofs.Issuing.{has_trucks}
-use Rattle.office_core.proofs.recall_list.recalls.Goals as goal
+use Rattle.recall_list.specs.RecallLists.{HasTrucks, recalls_by}
+use Rattle.recall_list.proofs.Trucks.{has_trucks}
+use Rattle.recall_list.proofs.list.recalls.Goals as goal
 
 pub recalls_by-requires : goal.recalls_by-requires
 recalls_by-requires c =

@@ -6,7 +6,8 @@ ghost use Rattle.std.specs.List.{flat_map};
 ghost use Rattle.std.specs.Option.{option_or};
 ghost use Rattle.std.specs.Ordering.{nat_cmp};
 ghost use Rattle.office_core.specs.Happened.{application_in};
-ghost use Rattle.office_core.specs.RecallLists.{HasTrucks, IsThere, RecalledWereIssued, recall_of, recalls_by, recalls_in, truck_by, truck_in};
+ghost use Rattle.office_core.specs.Recalled.{RecalledWereIssued};
+ghost use Rattle.recall_list.specs.RecallLists.{HasTrucks, IsThere, recall_of, recalls_by, recalls_in, truck_by, truck_in};
 
 use names::NoMemory;
 use notice_desk::Recall;

@@ -1,8 +1,8 @@
 use Rattle.std.proofs.Common.{◌≡◌, ◌++◌, map, take}
 use Rattle.std.specs.BTreeMap.{get}
 use Rattle.std.specs.Ordering.{nat_cmp}
-use Rattle.office_core.specs.RecallLists.{recall_of}
-use Rattle.office_core.proofs.recall_list.push_each.Given as goal
+use Rattle.recall_list.specs.RecallLists.{recall_of}
+use Rattle.recall_list.proofs.list.push_each.Given as goal
 
 abbrev pub invariant-loop-number : goal.invariant-loop-number
 invariant-loop-number l =

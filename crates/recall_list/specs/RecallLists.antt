@@ -1,16 +1,13 @@
 -- The recalls of a history: which permits its postings recall, and the carriers of their trucks.
-use Rattle.std.specs.Prelude.{◌≡◌, ℕ, ◌<◌, ◌==◌, if◌then◌else◌, List, [], length, map, fold, Option, Some, None, option_map, All}
+use Rattle.std.specs.Prelude.{ℕ, ◌<◌, ◌==◌, if◌then◌else◌, List, [], length, map, fold, Option, Some, None, option_map, All}
 use Rattle.std.specs.List.{flat_map}
 use Rattle.std.specs.Option.{option_or}
 use Rattle.notice_desk.specs.declared.notice.Recall.{Recall}
-use Rattle.trip_analysis.specs.declared.application.Application.{Application}
 use Rattle.trip_analysis.specs.Bases.{BaseLists, truck_of}
 use Rattle.office_words.specs.declared.entry.Call.{Call}
 use Rattle.office_words.specs.declared.entry.Reply.{Reply}
 use Rattle.office_words.specs.declared.entry.Reply.TheVariants as reply
-use Rattle.office_core.specs.Offices.{entry}
-use Rattle.office_core.specs.Happened.{History, Numbers, Route, Stands, application_in}
-use Rattle.office_core.specs.Became.{IssuesAt, RecallsAt}
+use Rattle.office_core.specs.Happened.{History, Numbers, application_in}
 
 -- the truck for which a call and its answer issue the permit of a number, where they do
 abbrev pub truck_by : ℕ → Call → Reply → Option ℕ
@@ -37,23 +34,6 @@ recalls_by base trucks _ = []
 -- every number that a posting recalls, in order, with its version and the carrier of the permit's truck
 abbrev pub recalls_in : BaseLists → History → List Recall
 recalls_in base es = flat_map (λ e. recalls_by base (truck_in es) e.reply) es
-
--- just one entry issued the permit, before the posting, and it did so for a truck that is there
-pub record WasIssuedOnce (base : BaseLists) (es front : History) (n : ℕ) : Type 0 where
-  pub at : History
-  pub by : ℕ
-  pub c : Call
-  pub v : ℕ
-  pub route : Route
-  pub trip : Application
-  pub stands : Stands front at (entry by c (reply.Issued n v route))
-  pub asked : application_in c ≡ Some trip
-  pub there : trip.truck < length base.fleet
-  pub once : (other : History) → IssuesAt es n other → other ≡ at
-
--- so it is of each number that a posting recalls
-abbrev pub RecalledWereIssued : BaseLists → History → Type 0
-RecalledWereIssued base es = (front : History) (n : ℕ) → RecallsAt es n front → WasIssuedOnce base es front n
 
 -- what is known of a permit's truck is the number of one that is there
 abbrev pub IsThere : BaseLists → Option ℕ → Type 0
