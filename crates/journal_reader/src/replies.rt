@@ -14,7 +14,7 @@ use crate::numbers::is;
 use crate::words::{day, named_number, named_numbers, named_place, named_places, number, word};
 use office_words::Reply;
 use permit_book::Status;
-use shared_route::Route;
+use shared_route::SharedRoute;
 use std::alloc::{AllocError, Global};
 
 /// A reply.
@@ -50,7 +50,7 @@ fn issued(alloc: Global, rest: &[u8]) -> Result<Option<(Reply, &[u8])>, AllocErr
     let Some((segments, rest)) = named_places(alloc, rest, "route")? else {
         return Ok(None);
     };
-    let route = Route::along(alloc, segments)?;
+    let route = SharedRoute::along(alloc, segments)?;
     Ok(Some((
         Reply::Issued {
             number,

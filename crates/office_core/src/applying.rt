@@ -18,7 +18,7 @@ use office_words::{Cause, Reply};
 use permit_book::BookRefusal;
 use permit_days::Day;
 use road_graph::Numbers;
-use shared_route::Route;
+use shared_route::SharedRoute;
 use std::sync::ledger::Ledger;
 use trip_analysis::{Application, Base, Failing, NodeSet, Proposal, What, is_passable};
 
@@ -295,7 +295,7 @@ impl Register {
         ensures unchanged { OnErr result (self.new ≡ self.old) }
     {
         let (number, version) = (self.book.len() + 1, self.store.version());
-        let own = Route::along(self.alloc, route.try_clone(self.alloc)?)?;
+        let own = SharedRoute::along(self.alloc, route.try_clone(self.alloc)?)?;
         let answer = Answer::new(Reply::Issued {
             number,
             version,
@@ -311,7 +311,7 @@ impl Register {
         caller: u32,
         application: &Application,
         seen: u32,
-        route: &Route,
+        route: &SharedRoute,
     ) -> Result<(), NoMemory>
         requires truck { application.now.truck < length self.old.base.fleet }
         requires segments { All (λ s. s < length self.old.base.roads.segments) route.now }

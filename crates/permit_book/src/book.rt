@@ -3,7 +3,7 @@
 use crate::permit::{Mark, Permit, Status};
 use crate::refusal::BookRefusal;
 use permit_days::Day;
-use shared_route::Route;
+use shared_route::SharedRoute;
 use std::alloc::Global;
 use std::marker::Model;
 
@@ -52,7 +52,7 @@ impl Book {
         &mut self,
         caller: u32,
         truck: u32,
-        route: Route,
+        route: SharedRoute,
         first: Day,
         last: Day,
         version: u32,

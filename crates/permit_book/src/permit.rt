@@ -4,7 +4,7 @@ ghost use Rattle.std.specs.Prelude.{◌≡◌};
 ghost use Rattle.permit_book.specs.Permits.{is_in_force, is_live, status_of};
 
 use permit_days::Day;
-use shared_route::Route;
+use shared_route::SharedRoute;
 
 /// What became of a permit.
 #[derive(Clone, Copy, Debug, PartialEq, Eq)]
@@ -40,7 +40,7 @@ pub struct Permit {
     /// The truck, by its place in the fleet.
     pub truck: u32,
     /// The segments that it allows, in the order of the trip.
-    pub route: Route,
+    pub route: SharedRoute,
     /// The first day on which it holds.
     pub first: Day,
     /// The last day on which it holds.

@@ -8,4 +8,4 @@
 
 mod route;
 
-pub use route::Route;
+pub use route::SharedRoute;

@@ -11,11 +11,11 @@ use std::sync::Arc;
 ///
 /// Contracts see the segments.
 #[derive(Drop)]
-pub struct Route {
+pub struct SharedRoute {
     segments: Arc<Numbers, Global>,
 }
 
-impl Model for Route {
+impl Model for SharedRoute {
     ghost use Rattle.std.specs.Prelude.{List, ℕ};
     ghost use Rattle.std.specs.Arc.{arc_value};
 
@@ -25,22 +25,22 @@ impl Model for Route {
 }
 
 /// One more owner of the same list. Copies nothing, and is refused only where no further owner can be had.
-impl Clone for Route {
+impl Clone for SharedRoute {
     ghost is_clone = { λ route owner. owner ≡ route };
 
-    fn clone(&self) -> Result<Route, AllocError> {
+    fn clone(&self) -> Result<SharedRoute, AllocError> {
         let segments = Arc::try_clone(&self.segments)?;
-        Ok(Route { segments })
+        Ok(SharedRoute { segments })
     }
 }
 
-impl Route {
+impl SharedRoute {
     /// The route along these segments, with one owner.
-    pub fn along(alloc: Global, segments: Numbers) -> Result<Route, AllocError>
+    pub fn along(alloc: Global, segments: Numbers) -> Result<SharedRoute, AllocError>
         ensures { IfOk result (λ route. route ≡ segments) }
     {
         let segments = Arc::new(alloc, segments)?;
-        Ok(Route { segments })
+        Ok(SharedRoute { segments })
     }
 
     /// The segments. Takes no memory.

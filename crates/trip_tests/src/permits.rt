@@ -4,7 +4,7 @@ ghost use Rattle.permit_book.specs.Permits.{is_issued, is_live, permit_of};
 use permit_book::{Book, Mark, Status};
 use permit_days::Day;
 use road_graph::Numbers;
-use shared_route::Route;
+use shared_route::SharedRoute;
 use std::alloc::Global;
 use std::process::Abort;
 use std::test::Fail;
@@ -15,8 +15,8 @@ fn day(rt: &impl Abort, text: &[u8]) -> Day {
 }
 
 // A route without a segment.
-fn nowhere(rt: &impl Abort, alloc: Global) -> Route {
-    Route::along(alloc, Numbers::of(Vec::new(alloc))).expect(rt, "memory")
+fn nowhere(rt: &impl Abort, alloc: Global) -> SharedRoute {
+    SharedRoute::along(alloc, Numbers::of(Vec::new(alloc))).expect(rt, "memory")
 }
 
 // A book with two permits of one route, for the days 2 to 10 and 2 to 20 of a month.
