@@ -61,8 +61,8 @@ module _ (test keep : Permit → Bool) where
 recalled_uses : (base : BaseLists) (state : InForce) (segment : ℕ) (day : List ℕ) (p : Permit) → MeetsElsewhereIfInForce base state segment day p → is_recalled base state day p ≡ true → uses segment p ≡ true
 recalled_uses base state segment day p elsewhere is =
     let both = and_parts (in_force day p) (fails base state p) is in
-    let on = and_parts (is_in segment p.route) (not (is_passable base state p.truck segment)) (sym (fails_there base state segment p (elsewhere both.0)) ∙ both.1) in
-    and_from (is_live p.mark) (is_in segment p.route) (live_in_force p day both.0) on.0
+    let on = and_parts (is_in segment p.trip.route) (not (is_passable base state p.trip.truck segment)) (sym (fails_there base state segment p (elsewhere both.0)) ∙ both.1) in
+    and_from (is_live p.mark) (is_in segment p.trip.route) (live_in_force p day both.0) on.0
 
 -- so those that it recalls are found among the permits that use the segment
 pub recalled_among : (base : BaseLists) (state : InForce) (segment : ℕ) (day : List ℕ) (ps : List Permit) → AreNumbered 0 ps → InForceMeetElsewhere base state segment day ps
@@ -73,7 +73,7 @@ recalled_among base state segment day ps numbered elsewhere =
 
 -- the test of that segment decides
 pub recalled_if_failing : (base : BaseLists) (state : InForce) (segment : ℕ) (day : List ℕ) (p : Permit) → MeetsElsewhereIfInForce base state segment day p → uses segment p ≡ true
-    → in_force day p ≡ true → not (is_passable base state p.truck segment) ≡ is_recalled base state day p
+    → in_force day p ≡ true → not (is_passable base state p.trip.truck segment) ≡ is_recalled base state day p
 recalled_if_failing base state segment day p elsewhere use' on =
-    let holds = (and_parts (is_live p.mark) (is_in segment p.route) use').1 in
-    sym (ap (λ b. b && fails base state p) on ∙ (fails_there base state segment p (elsewhere on) ∙ ap (λ b. b && not (is_passable base state p.truck segment)) holds))
+    let holds = (and_parts (is_live p.mark) (is_in segment p.trip.route) use').1 in
+    sym (ap (λ b. b && fails base state p) on ∙ (fails_there base state segment p (elsewhere on) ∙ ap (λ b. b && not (is_passable base state p.trip.truck segment)) holds))

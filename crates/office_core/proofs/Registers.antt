@@ -62,12 +62,12 @@ recalled_whole i p state segment k numbers users seen inv elsewhere are done is 
 
 -- of a permit in force that uses the segment it decides whether the state fails its truck there
 pub recalled_so : (p : RegisterParts) (state : InForce) (segment n : ℕ) (q : Permit) → IsUser p.machine.permits segment n → MeetElsewhere p state segment → q ≡ permit_of p.machine.permits n
-    → in_force p.machine.day q ≡ true → not (is_passable p.base state q.truck segment) ≡ is_recalled_in p state n
+    → in_force p.machine.day q ≡ true → not (is_passable p.base state q.trip.truck segment) ≡ is_recalled_in p state n
 recalled_so p state segment n q user elsewhere same on =
     let issued = user.issued in
     let low : n - 1 < length p.machine.permits = grind (arith, nat_tests, issued) in
     let own = permit_of p.machine.permits n in
-    ap (λ (r : Permit). not (is_passable p.base state r.truck segment)) same
+    ap (λ (r : Permit). not (is_passable p.base state r.trip.truck segment)) same
     ∙ recalled_if_failing p.base state segment p.machine.day own (elsewhere (n - 1) no_permit low) user.uses (ap (in_force p.machine.day) (sym same) ∙ on)
 
 no_verdict : (trucks t : ℕ) (b : Bool) (empty : Option Bool) → empty ≡ None → slice_get (replicate trucks empty) t ≡ Some (Some b) → ⊥
@@ -117,26 +117,23 @@ pub route_there : (i : Inside) (p : RegisterParts) (route : List ℕ) → parts_
 route_there i p route seen inv inside = subst (λ k. All (λ s. s < k) route) (sym inv.index.many) (subst (λ (q : RegisterParts). All (λ s. s < length q.base.roads.segments) route) (sym seen) inside)
 
 -- with one permit more, whose route meets, and its route in the index
-pub issue_keeps : (i : Inside) (p : RegisterParts) (book : List Permit) (index : Lists) (q : Permit) (truck n : ℕ) (route : List ℕ) → parts_of i ≡ p → IsRegister i → n ≡ length i.book + 1 → q.number ≡ n → q.truck ≡ truck → q.route ≡ route → is_live q.mark ≡ true
-    → truck < length p.base.fleet → All (λ s. s < length p.base.roads.segments) route → first_on p.base (state_now p) truck route ≡ None
-    → IsAdded i.index n route index → book ≡ i.book ++ q ∷ [] → IsRegister (record i { book = book; index = index })
-issue_keeps i p book index q truck n route seen inv next number is along live there within meets added entered =
+pub issue_keeps : (i : Inside) (p : RegisterParts) (book : List Permit) (index : Lists) (q : Permit) → parts_of i ≡ p → IsRegister i → q.number ≡ length i.book + 1 → is_live q.mark ≡ true
+    → q.trip.truck < length p.base.fleet → All (λ s. s < length p.base.roads.segments) q.trip.route → first_on p.base (state_now p) q.trip.truck q.trip.route ≡ None
+    → IsAdded i.index q.number q.trip.route index → book ≡ i.book ++ q ∷ [] → IsRegister (record i { book = book; index = index })
+issue_keeps i p book index q seen inv number live there within meets added entered =
     let base : BaseLists = arc_value i.base in
     let m : Machine = machine_at i.store.postings i.book i.day in
-    let fits : truck < length base.fleet = subst (λ (r : RegisterParts). truck < length r.base.fleet) (sym seen) there in
-    let on : All (λ s. s < length base.roads.segments) route = subst (λ (r : RegisterParts). All (λ s. s < length r.base.roads.segments) route) (sym seen) within in
-    let fine : first_on base (state_now (parts_of i)) truck route ≡ None = subst (λ (r : RegisterParts). first_on r.base (state_now r) truck route ≡ None) (sym seen) meets in
-    let inside : All (λ s. s < length base.roads.segments) q.route = subst (All (λ s. s < length base.roads.segments)) (sym along) on in
-    let ranged : IsRanged base q = record { truck = subst (λ (t : ℕ). t < length base.fleet) (sym is) fits; route = inside } in
-    let passes : first_on base (state_now (parts_of i)) q.truck q.route ≡ None = rw (is, along) fine in
-    let adds : IsAdded i.index n q.route index = subst (λ l. IsAdded i.index n l index) (sym along) added in
+    let fits : q.trip.truck < length base.fleet = subst (λ (r : RegisterParts). q.trip.truck < length r.base.fleet) (sym seen) there in
+    let inside : All (λ s. s < length base.roads.segments) q.trip.route = subst (λ (r : RegisterParts). All (λ s. s < length r.base.roads.segments) q.trip.route) (sym seen) within in
+    let passes : first_on base (state_now (parts_of i)) q.trip.truck q.trip.route ≡ None = subst (λ (r : RegisterParts). first_on r.base (state_now r) q.trip.truck q.trip.route ≡ None) (sym seen) meets in
+    let ranged : IsRanged base q = record { truck = fits; route = inside } in
     record {
       roads = inv.roads;
-      good = rw entered (good_entered base m q (number ∙ next) ranged passes inv.good);
+      good = rw entered (good_entered base m q number ranged passes inv.good);
       store = inv.store;
       follower = inv.follower;
       later = inv.later;
-      index = rw entered (index_issued (length base.roads.segments) i.book i.index inv.index inv.good.numbered index n q adds number live inside);
+      index = rw entered (index_issued (length base.roads.segments) i.book i.index inv.index inv.good.numbered index q.number q added refl live inside);
     }
 
 -- with no permit more, and its route out of the index again

@@ -7,18 +7,19 @@ ghost use Rattle.trip_analysis.specs.Findings.{InRange, first_on as first_in, is
 ghost use Rattle.office_words.specs.declared.entry.Call.TheVariants.{Held, Submit};
 ghost use Rattle.office_words.specs.declared.entry.Reply.TheVariants as reply;
 ghost use Rattle.office_core.specs.Replies.{early_reply};
-ghost use Rattle.office_core.specs.Machine.{HasRoom, IsFound, version_of};
-ghost use Rattle.office_core.specs.Registers.{AreUnchanged, Gives, HeldAt, IsFoundNow, IsReplyTo, IsRetested, Issues, Leaves, MayLack, Permits, changed_out, found_reply, has_changed, least_out, next_issue, state_now, state_seen};
+ghost use Rattle.office_core.specs.Machine.{HasRoom, IsFound, trip_for, version_of};
+ghost use Rattle.office_core.specs.Registers.{AreUnchanged, Enters, Gives, HeldAt, IsFoundNow, IsReplyTo, IsRetested, Issues, Leaves, MayLack, Permits, changed_out, found_reply, has_changed, least_out, next_issue, state_now, state_seen};
 
 use crate::answer::Answer;
 use crate::register::Register;
 use clearance_rules::{Limit, Steps};
 use names::NoMemory;
 use office_words::{Cause, Reply};
-use permit_book::BookRefusal;
+use permit_book::{BookRefusal, Trip};
 use permit_days::Day;
 use road_graph::Numbers;
 use shared_route::SharedRoute;
+use std::alloc::Global;
 use std::sync::ledger::Ledger;
 use trip_analysis::{Application, Base, Failing, NodeSet, Proposal, What, is_passable};
 
@@ -294,43 +295,34 @@ impl Register {
         ensures after { IfOk result (Permits self.old caller application.now seen self.new) }
         ensures unchanged { OnErr result (self.new ≡ self.old) }
     {
+        let trip = trip_along(self.alloc, caller, application, route)?;
         let (number, version) = (self.book.len() + 1, self.store.version());
-        let own = SharedRoute::along(self.alloc, route.try_clone(self.alloc)?)?;
         let answer = Answer::new(Reply::Issued {
             number,
             version,
-            route: own.clone()?,
+            route: trip.route.clone()?,
         })?;
-        self.enter_permit(caller, application, seen, &own)?;
+        self.enter_permit(trip, seen)?;
         Ok(answer)
     }
 
-    // Enters the next permit into the book and the index, for a route that meets now and was found at the version seen.
-    fn enter_permit(
-        &mut self,
-        caller: u32,
-        application: &Application,
-        seen: u32,
-        route: &SharedRoute,
-    ) -> Result<(), NoMemory>
-        requires truck { application.now.truck < length self.old.base.fleet }
-        requires segments { All (λ s. s < length self.old.base.roads.segments) route.now }
-        requires meets { first_in self.old.base (state_now self.old) application.now.truck route.now ≡ None }
+    // Enters the next permit into the book and the index, for a trip that meets now and whose route was found at the version
+    // seen.
+    fn enter_permit(&mut self, trip: Trip, seen: u32) -> Result<(), NoMemory>
+        requires truck { trip.truck < length self.old.base.fleet }
+        requires segments { All (λ s. s < length self.old.base.roads.segments) trip.route }
+        requires meets { first_in self.old.base (state_now self.old) trip.truck trip.route ≡ None }
         requires room { HasRoom self.old.machine }
         ensures base { self.new.base ≡ self.old.base }
-        ensures after { OnOk result (Permits self.old caller application.now seen self.new (next_issue self.old route.now)) }
+        ensures after { OnOk result (Enters self.old trip seen self.new) }
         ensures unchanged { OnErr result (self.new ≡ self.old) }
     {
         let number = self.book.len() + 1;
         let version = self.store.version();
-        let own = route.clone()?;
+        let route = trip.route.clone()?;
         let segments = route.as_slice();
         self.index.add(number, segments)?;
-        let (truck, first, last) = (application.truck(), application.first(), application.last());
-        match self
-            .book
-            .issue(caller, truck, own, first, last, version, seen)
-        {
+        match self.book.issue(trip, version, seen) {
             Ok(_number) => Ok(()),
             Err(BookRefusal::NoMemory) => {
                 self.index.remove(number, segments);
@@ -339,6 +331,25 @@ impl Register {
             Err(BookRefusal::Full) => unreachable!(),
         }
     }
+}
+
+// The trip of a caller's application along a route, which is copied.
+fn trip_along(
+    alloc: Global,
+    caller: u32,
+    application: &Application,
+    route: &Numbers,
+) -> Result<Trip, NoMemory>
+    ensures { IfOk result (λ trip. trip ≡ trip_for caller application.now route.now) }
+{
+    let route = SharedRoute::along(alloc, route.try_clone(alloc)?)?;
+    Ok(Trip {
+        caller,
+        truck: application.truck(),
+        route,
+        first: application.first(),
+        last: application.last(),
+    })
 }
 
 // What is answered before the roads are looked at. Takes no memory.

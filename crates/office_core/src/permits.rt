@@ -46,14 +46,14 @@ impl Register {
         let Some(permit) = self.book.get(number) else {
             return Answer::plain(Reply::Unknown);
         };
-        if permit.caller != caller {
+        if permit.trip.caller != caller {
             return Answer::plain(Reply::NotYours);
         }
         let status = permit.status(self.day);
         if !status.is_in_force() {
             return Answer::plain(Reply::NotInForce { status });
         }
-        self.index.remove(number, permit.route.as_slice());
+        self.index.remove(number, permit.trip.route.as_slice());
         self.book.surrender(number);
         Answer::plain(Reply::Surrendered)
     }
@@ -65,10 +65,10 @@ fn shown(permit: &Permit, number: u32, day: Day) -> Reply
 {
     Reply::Shown {
         number,
-        caller: permit.caller,
-        truck: permit.truck,
-        first: permit.first,
-        last: permit.last,
+        caller: permit.trip.caller,
+        truck: permit.trip.truck,
+        first: permit.trip.first,
+        last: permit.trip.last,
         version: permit.version,
         seen: permit.seen,
         status: permit.status(day),

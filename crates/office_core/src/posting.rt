@@ -115,7 +115,7 @@ impl Register {
     {
         let permit = &self.permits()[number as usize - 1];
         permit.status(self.today()).is_in_force()
-            && !self.meets(state, segment, permit.truck, verdicts, steps)
+            && !self.meets(state, segment, permit.trip.truck, verdicts, steps)
     }
 
     // Whether a truck may pass a segment in a state. A truck is judged but once, however many permits it has there.
@@ -183,6 +183,6 @@ fn recall(book: &mut Book, index: &mut Index, number: u32, version: u32)
     ensures index { IsIndexed (length index.old) book.new index.new }
 {
     let permit = &book.permits()[number as usize - 1];
-    index.remove(number, permit.route.as_slice());
+    index.remove(number, permit.trip.route.as_slice());
     book.recall(number, version);
 }
