@@ -8,6 +8,7 @@ use Rattle.std.specs.List.{All}
 use Rattle.std.specs.Arc.{arc_value}
 use Rattle.road_graph.specs.Roads.{Roads}
 use Rattle.restriction_log.specs.declared.change.Change.{Change}
+use Rattle.restriction_log.specs.Changes.{touched}
 use Rattle.restriction_log.specs.States.{InForce, state_of}
 use Rattle.snapshot_store.specs.Stores.{IsNextOf, NextState, Stored, version_of, with_change, state_now as store_state}
 use Rattle.permit_book.specs.declared.permit.Permit.{Permit}
@@ -24,7 +25,7 @@ use Rattle.trip_analysis.specs.Followers.{GoesOn}
 use Rattle.trip_analysis.proofs.Following.{goes_on_posted}
 use Rattle.office_core.specs.declared.register.Register.TheInside.{Inside}
 use Rattle.office_words.specs.declared.entry.Reply.TheVariants as reply
-use Rattle.office_core.specs.Recalls.{AreLive, AreVerdicts, IsRanged, marked_all, recalled_by, recalled_now}
+use Rattle.office_core.specs.Recalls.{AreLive, AreVerdicts, InForceMeet, IsRanged, marked_all, recalled_by, recalled_now}
 use Rattle.office_core.specs.Users.{IsIndexed, IsUser, users_of}
 use Rattle.office_core.specs.Machine.{IsGood, Machine, machine_at, posted_reply, state_with, with_posting}
 use Rattle.office_core.specs.Registers.{HeldAt, IsNext, IsRegister, MeetElsewhere, RegisterParts, is_recalled_in, parts_of, posting_reply, recalls_of, state_now, stored_now}
@@ -32,6 +33,7 @@ use Rattle.office_core.proofs.Founds.{found_in_range, holds_now}
 use Rattle.office_core.proofs.Goods.{good_entered, good_posted}
 use Rattle.office_core.proofs.ByNumber.{recalled_live, recalled_marked}
 use Rattle.office_core.proofs.Indexing.{are_users, index_issued, index_undone}
+use Rattle.office_core.proofs.Touching.{met_elsewhere}
 use Rattle.office_core.proofs.Among.{recalled_among, recalled_if_failing}
 
 -- the state of the store is that of the postings
@@ -42,8 +44,22 @@ kept_state i inv = ap (λ (r : Roads). state_of r i.store.postings) inv.store
 pub stored_is : (i : Inside) (p : RegisterParts) → parts_of i ≡ p → IsRegister i → i.store ≡ stored_now p
 stored_is i p seen inv = ap (λ (r : Roads). let s : Stored = record { roads = r; postings = i.store.postings } in s) inv.store ∙ ap stored_now seen
 
-pub next_here : (i : Inside) (p : RegisterParts) (next : NextState) → parts_of i ≡ p → IsRegister i → IsNextOf i.store next → IsNext p next
+next_here : (i : Inside) (p : RegisterParts) (next : NextState) → parts_of i ≡ p → IsRegister i → IsNextOf i.store next → IsNext p next
 next_here i p next seen inv is = subst (λ (s : Stored). IsNextOf s next) (stored_is i p seen inv) is
+
+pub next_if_made : {E : Type 0} (i : Inside) (p : RegisterParts) (r : Result NextState E) → parts_of i ≡ p → IsRegister i → IfOk r (IsNextOf i.store) → IfOk r (IsNext p)
+next_if_made i p (Ok next) seen inv is = next_here i p next seen inv is
+next_if_made i p (Err e) seen inv is = tt
+
+-- in the state that a posting would make, each permit in force meets its truck but where the change touches
+pub elsewhere_if_made : {E : Type 0} (i : Inside) (p : RegisterParts) (change : Change) (r : Result NextState E) → parts_of i ≡ p → IsRegister i → IfOk r (IsNextOf i.store) → IfOk r (λ next. next.change ≡ change)
+    → IfOk r (λ next. MeetElsewhere p next.state (touched p.base.roads change))
+elsewhere_if_made i p change (Ok next) seen inv is same =
+    let its : IsNext p next = next_here i p next seen inv is in
+    let made : next.state ≡ state_with p.base p.machine change = its.state ∙ ap (λ (c : Change). state_with p.base p.machine c) same in
+    let meet : InForceMeet p.base (state_now p) p.machine.day p.machine.permits = subst (λ (q : RegisterParts). InForceMeet q.base (state_now q) q.machine.day q.machine.permits) seen inv.good.meets in
+    met_elsewhere p.base p.machine.postings next.state change (touched p.base.roads change) p.machine.day p.machine.permits made refl meet
+elsewhere_if_made i p change (Err e) seen inv is same = tt
 
 -- the index tells which permits use a segment
 pub users_are : (i : Inside) (p : RegisterParts) (s : ℕ) (list : List ℕ) → parts_of i ≡ p → IsRegister i → s < length p.base.roads.segments → list ≡ using_in i.index s → All (IsUser p.machine.permits s) list
@@ -53,10 +69,9 @@ users_are i p s list seen inv low is =
     (subst (All (IsUser i.book s)) (sym (is ∙ inv.index.users s here)) (are_users s i.book inv.good.numbered))
 
 -- those that were told among them are those that a state recalls
-pub recalled_whole : (i : Inside) (p : RegisterParts) (state : InForce) (segment k : ℕ) (numbers users : List ℕ) → parts_of i ≡ p → IsRegister i → MeetElsewhere p state segment → users ≡ users_of segment p.machine.permits → length users ≤ k
+pub recalled_whole : (p : RegisterParts) (state : InForce) (segment k : ℕ) (numbers users : List ℕ) → AreNumbered 0 p.machine.permits → MeetElsewhere p state segment → users ≡ users_of segment p.machine.permits → length users ≤ k
     → numbers ++ filter (is_recalled_in p state) (drop k users) ≡ filter (is_recalled_in p state) users → numbers ≡ recalls_of p state
-recalled_whole i p state segment k numbers users seen inv elsewhere are done is =
-    let numbered : AreNumbered 0 p.machine.permits = subst (λ (q : RegisterParts). AreNumbered 0 q.machine.permits) seen inv.good.numbered in
+recalled_whole p state segment k numbers users numbered elsewhere are done is =
     sym (append-nil numbers) ∙ (ap (λ l. numbers ++ filter (is_recalled_in p state) l) (sym (drop_all k users done))
     ∙ (is ∙ (ap (filter (is_recalled_in p state)) are ∙ recalled_among p.base state segment p.machine.day p.machine.permits numbered elsewhere)))
 

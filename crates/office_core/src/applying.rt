@@ -1,6 +1,6 @@
 // Answers to an application: by what was proposed for it, or by what the office finds itself.
 
-ghost use Rattle.std.specs.Prelude.{◌≡◌, ◌+◌, ◌<◌, ◌≤◌, ◌&&◌, length, All, IfOk, OnOk, IfSome, IfNone, OnErr, None, true, if◌then◌else◌};
+ghost use Rattle.std.specs.Prelude.{◌≡◌, ◌+◌, ◌<◌, ◌≤◌, ◌&&◌, length, All, IfOk, OnErr, None, if◌then◌else◌};
 ghost use Rattle.trip_analysis.specs.declared.finding.What.TheVariants as what;
 ghost use Rattle.trip_analysis.specs.Applications.{Sound};
 ghost use Rattle.trip_analysis.specs.Findings.{InRange, first_on as first_in, is_passable, leaves, limit_for};
@@ -8,14 +8,14 @@ ghost use Rattle.office_words.specs.declared.entry.Call.TheVariants.{Held, Submi
 ghost use Rattle.office_words.specs.declared.entry.Reply.TheVariants as reply;
 ghost use Rattle.office_core.specs.Replies.{early_reply};
 ghost use Rattle.office_core.specs.Machine.{HasRoom, IsFound, trip_for, version_of};
-ghost use Rattle.office_core.specs.Registers.{AreUnchanged, Enters, Gives, HeldAt, IsFoundNow, IsReplyTo, IsRetested, Issues, Leaves, MayLack, Permits, changed_out, found_reply, has_changed, least_out, next_issue, state_now, state_seen};
+ghost use Rattle.office_core.specs.Registers.{Gives, HeldAt, IsReplyTo, IsRetested, Issues, Leaves, MayLack, Permits, changed_out, found_reply, has_changed, least_out, next_issue, state_now, state_seen};
 
 use crate::answer::Answer;
 use crate::register::Register;
 use clearance_rules::{Limit, Steps};
 use names::NoMemory;
 use office_words::{Cause, Reply};
-use permit_book::{BookRefusal, Trip};
+use permit_book::Trip;
 use permit_days::Day;
 use road_graph::Numbers;
 use shared_route::SharedRoute;
@@ -70,20 +70,6 @@ impl Register {
                 self.answer_found(caller, application, &proposal, steps)
             }
         }
-    }
-
-    // What the office finds itself, at the current version.
-    fn find(&mut self, application: &Application) -> Result<Proposal, NoMemory>
-        requires { Sound self.old.base application.now }
-        ensures same { self.new ≡ self.old }
-        ensures seen { IfOk result (λ proposal. proposal.seen ≡ version_of self.old.machine) }
-        ensures found { IfOk result (λ proposal. IsFoundNow self.old application.now proposal.what) }
-        ensures within { IfOk result (λ proposal. InRange self.old.base proposal.what) }
-        ensures held { IfOk result (λ found. HeldAt self.old found.seen application.now.truck found.what) }
-    {
-        let snapshot = self.store.snapshot()?;
-        self.follower
-            .analyse(self.alloc, &self.base, snapshot, application)
     }
 
     // Answers what was found for an application.
@@ -208,27 +194,6 @@ impl Register {
             && is_passable(self.base(), self.state(), truck, segment, steps)
     }
 
-    // The first segment from a number on that a posting above the version seen names, it or one of its spans. Takes no memory.
-    #[tactic(auto, using(crate::proofs::Registers::stored_is))]
-    fn next_changed(&self, seen: u32, from: u32) -> Option<u32>
-        ensures changed { IfSome result (λ s. has_changed self.now seen s ≡ true) }
-        ensures within { IfSome result (λ s. (from ≤ s) × (s < length self.now.base.roads.segments)) }
-        ensures few { IfSome result (λ s. s < 16384) }
-        ensures first { IfSome result (λ s. AreUnchanged self.now seen from s) }
-        ensures none { IfNone result (AreUnchanged self.now seen from (length self.now.base.roads.segments)) }
-    {
-        self.store.next_changed(seen, from)
-    }
-
-    // Whether a posting above the version seen names the segment or one of its spans. Takes no memory.
-    #[tactic(auto, using(crate::proofs::Registers::stored_is))]
-    fn changed(&self, segment: u32, seen: u32) -> bool
-        requires { segment < length self.now.base.roads.segments }
-        ensures { result ≡ has_changed self.now seen segment }
-    {
-        self.store.changed(self.base.network(), segment, seen)
-    }
-
     // Answers that a segment fails. Takes no memory.
     fn answer_fails<L: Ledger>(&self, truck: u32, segment: u32, steps: &mut Steps<L>) -> Answer
         requires truck { truck < length self.now.base.fleet }
@@ -295,8 +260,8 @@ impl Register {
         ensures after { IfOk result (Permits self.old caller application.now seen self.new) }
         ensures unchanged { OnErr result (self.new ≡ self.old) }
     {
-        let trip = trip_along(self.alloc, caller, application, route)?;
-        let (number, version) = (self.book.len() + 1, self.store.version());
+        let trip = trip_along(self.alloc(), caller, application, route)?;
+        let (number, version) = (self.next_number(), self.version());
         let answer = Answer::new(Reply::Issued {
             number,
             version,
@@ -304,32 +269,6 @@ impl Register {
         })?;
         self.enter_permit(trip, seen)?;
         Ok(answer)
-    }
-
-    // Enters the next permit into the book and the index, for a trip that meets now and whose route was found at the version
-    // seen.
-    fn enter_permit(&mut self, trip: Trip, seen: u32) -> Result<(), NoMemory>
-        requires truck { trip.truck < length self.old.base.fleet }
-        requires segments { All (λ s. s < length self.old.base.roads.segments) trip.route }
-        requires meets { first_in self.old.base (state_now self.old) trip.truck trip.route ≡ None }
-        requires room { HasRoom self.old.machine }
-        ensures base { self.new.base ≡ self.old.base }
-        ensures after { OnOk result (Enters self.old trip seen self.new) }
-        ensures unchanged { OnErr result (self.new ≡ self.old) }
-    {
-        let number = self.book.len() + 1;
-        let version = self.store.version();
-        let route = trip.route.clone()?;
-        let segments = route.as_slice();
-        self.index.add(number, segments)?;
-        match self.book.issue(trip, version, seen) {
-            Ok(_number) => Ok(()),
-            Err(BookRefusal::NoMemory) => {
-                self.index.remove(number, segments);
-                Err(NoMemory)
-            }
-            Err(BookRefusal::Full) => unreachable!(),
-        }
     }
 }
 

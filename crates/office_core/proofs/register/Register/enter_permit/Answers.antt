@@ -1,4 +1,4 @@
-use Rattle.std.proofs.Common.{◌≡◌, ◌+◌, ◌<◌, ℕ, List, length, refl, ap, sym, subst, ◌∙◌}
+use Rattle.std.proofs.Common.{◌+◌, ◌<◌, length, refl, ap, sym, subst}
 use Rattle.std.specs.Arc.{arc_value}
 use Rattle.std.specs.List.{All}
 use Rattle.permit_book.specs.Permits.{next_permit}

@@ -2,7 +2,7 @@ use Rattle.std.proofs.Common.{◌≡◌, drop, length}
 use Rattle.permit_book.specs.declared.permit.Mark.TheVariants as mark
 use Rattle.office_core.specs.Recalls.{marked_all}
 use Rattle.office_core.specs.Users.{IsIndexed}
-use Rattle.office_core.proofs.posting.recall_each.Given as goal
+use Rattle.office_core.proofs.recall_marks.recall_each.Given as goal
 
 abbrev pub invariant-loop-i : goal.invariant-loop-i
 invariant-loop-i l = record {

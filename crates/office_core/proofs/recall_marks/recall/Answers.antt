@@ -1,7 +1,7 @@
 use Rattle.std.proofs.Common.{length, refl}
 use Rattle.permit_book.specs.declared.permit.Mark.TheVariants as mark
 use Rattle.office_core.proofs.Indexing.{found_at, index_marked, index_there}
-use Rattle.office_core.proofs.posting.recall.Goals as goal
+use Rattle.office_core.proofs.recall_marks.recall.Goals as goal
 
 pub remove-requires-clause-there : goal.remove-requires-clause-there
 remove-requires-clause-there c =

@@ -2,7 +2,7 @@ use Rattle.std.proofs.Common.{refl, subst}
 use Rattle.permit_book.specs.declared.permit.Mark.TheVariants as mark
 use Rattle.office_core.specs.Users.{IsIndexed}
 use Rattle.office_core.proofs.Falling.{next}
-use Rattle.office_core.proofs.posting.recall_each.Goals as goal
+use Rattle.office_core.proofs.recall_marks.recall_each.Goals as goal
 
 pub recall-requires-clause-issued : goal.recall-requires-clause-issued
 recall-requires-clause-issued c = rw c.loop-i.invariant.marked
