@@ -2,13 +2,13 @@
 use Rattle.std.proofs.Common.{◌≡◌, ◌∷◌, ◌++◌, [], List, ℕ, zero, suc, ◌+◌, ◌-◌, ◌<◌, ◌≤◌, Bool, cond, true, false, nat_eq, not, ◌&&◌, map, filter, set, length, get_or, refl, ap, sym, subst, ◌∙◌, arith}
 use Rattle.std.specs.List.{All, AllByRecursion as ByRecursion}
 use Rattle.std.proofs.lemmas.Bool.Decides.{nat_tests}
-use Rattle.std.proofs.lemmas.List.{get_or-replicate, get_or_default, length-replicate, map-append}
+use Rattle.std.proofs.lemmas.List.{get_or_default, map-append}
 use Rattle.std.proofs.lemmas.List.Elements.{All-append, All-cons, All-nil, All-set, All-weaker, filter-append}
 use Rattle.std.proofs.lemmas.Option.{slice_get-get_or}
 use Rattle.permit_book.specs.declared.permit.Permit.{Permit}
 use Rattle.permit_book.specs.declared.permit.Mark.{Mark}
 use Rattle.permit_book.specs.Permits.{AreNumbered, is_issued, is_live, marked, no_permit, permit_of}
-use Rattle.recall_index.specs.Uses.{AreBelow, IsAdded, IsRemoved, IsThere, Lists, unused, using_in, without}
+use Rattle.recall_index.specs.Uses.{AreBelow, IsAdded, IsRemoved, IsThere, Lists, using_in, without}
 use Rattle.recall_index.proofs.Lists.{end_gone}
 use Rattle.trip_analysis.specs.Findings.{is_in}
 use Rattle.trip_analysis.proofs.Found.{is_in_from_among}
@@ -73,13 +73,6 @@ are_users s ps h = λ k d low.
       issued = (let some : 1 ≤ n = there.0 in let few : n ≤ length ps = there.1 in grind (arith, nat_tests, some, few));
       uses = sym (in_numbers (uses s) ps n h there.0 there.1) ∙ on;
     }
-
-pub index_opened : (segments : ℕ) → IsIndexed segments [] (unused segments)
-index_opened segments = record {
-  many = length-replicate {A = List ℕ} segments [];
-  users = λ s low. get_or-replicate segments s [] [] low;
-  within = All-nil (IsOnRoads segments);
-}
 
 module _ (segments : ℕ) (ps : List Permit) (index : Lists) (is : IsIndexed segments ps index) (h : AreNumbered 0 ps) where
   -- the next number is above all that are there

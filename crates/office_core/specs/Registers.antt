@@ -48,8 +48,8 @@ IsRegister r = IsKept r (parts_of r)
 abbrev pub state_now : RegisterParts → InForce
 state_now r = state_in r.base r.machine
 
-abbrev pub state_seen : RegisterParts → ℕ → InForce
-state_seen r seen = state_at r.base r.machine seen
+abbrev pub state_then : RegisterParts → ℕ → InForce
+state_then r seen = state_at r.base r.machine seen
 
 -- what is posted, and on which roads
 abbrev pub stored_now : RegisterParts → Stored
@@ -87,7 +87,7 @@ abbrev pub IsFoundNow : RegisterParts → Application → What → Type 0
 IsFoundNow r a w = IsFinding r.base (state_now r) a w
 
 abbrev pub HeldAt : RegisterParts → ℕ → ℕ → What → Type 0
-HeldAt r seen truck w = HoldsIn r.base (state_seen r seen) truck w
+HeldAt r seen truck w = HoldsIn r.base (state_then r seen) truck w
 
 -- the answer that issues the next permit
 abbrev pub next_issue : RegisterParts → List ℕ → Reply

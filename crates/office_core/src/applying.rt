@@ -8,7 +8,7 @@ ghost use Rattle.office_words.specs.declared.entry.Call.TheVariants.{Held, Submi
 ghost use Rattle.office_words.specs.declared.entry.Reply.TheVariants as reply;
 ghost use Rattle.office_core.specs.Replies.{early_reply};
 ghost use Rattle.office_core.specs.Machine.{HasRoom, IsFound, trip_for, version_of};
-ghost use Rattle.office_core.specs.Registers.{Gives, HeldAt, IsReplyTo, IsRetested, Issues, Leaves, MayLack, Permits, changed_out, found_reply, has_changed, least_out, next_issue, state_now, state_seen};
+ghost use Rattle.office_core.specs.Registers.{Gives, HeldAt, IsReplyTo, IsRetested, Issues, Leaves, MayLack, Permits, changed_out, found_reply, has_changed, least_out, next_issue, state_now, state_then};
 
 use crate::answer::Answer;
 use crate::register::Register;
@@ -116,7 +116,7 @@ impl Register {
     ) -> Option<Failing>
         requires truck { truck < length self.now.base.fleet }
         requires segments { All (λ s. s < length self.now.base.roads.segments) route.now }
-        requires met { first_in self.now.base (state_seen self.now seen) truck route.now ≡ None }
+        requires met { first_in self.now.base (state_then self.now seen) truck route.now ≡ None }
         ensures value { result ≡ first_in self.now.base (state_now self.now) truck route.now }
         ensures steps { IsRetested self.now seen (what.Route route.now) steps.old steps.new }
     {
@@ -162,7 +162,7 @@ impl Register {
         steps: &mut Steps<L>,
     ) -> Option<u32>
         requires truck { truck < length self.now.base.fleet }
-        requires met { least_out self.now.base (state_seen self.now seen) truck nodes.now ≡ None }
+        requires met { least_out self.now.base (state_then self.now seen) truck nodes.now ≡ None }
         ensures value { result ≡ least_out self.now.base (state_now self.now) truck nodes.now }
         ensures steps { steps.new ≤ steps.old + changed_out self.now seen nodes.now }
     {
@@ -217,7 +217,7 @@ impl Register {
         steps: &mut Steps<L>,
     ) -> Answer
         requires truck { truck < length self.now.base.fleet }
-        requires met { least_out self.now.base (state_seen self.now seen) truck nodes.now ≡ None }
+        requires met { least_out self.now.base (state_then self.now seen) truck nodes.now ≡ None }
         ensures reply { result ≡ found_reply self.now truck (what.Cut nodes.now) }
         ensures steps { IsRetested self.now seen (what.Cut nodes.now) steps.old steps.new }
     {

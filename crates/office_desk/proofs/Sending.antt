@@ -11,7 +11,7 @@ use denote.Struct.Tuple.{Tuple}
 use Rattle.permit_days.specs.contracts.day.Day as Day
 use Rattle.trip_analysis.specs.contracts.base.Base as Base
 use Rattle.office_words.specs.contracts.entry.Entry as Entry
-use Rattle.office_core.proofs.Crosses.{office_send}
+use Rattle.office_core.proofs.Sending.{office_send}
 use Rattle.office_turn.proofs.pass.Pass.TheSendSync as pass
 use Rattle.office_turn.proofs.turn.Turn.TheSendSync as turn
 use Rattle.office_turn.specs.contracts.pass.Pass as Pass
