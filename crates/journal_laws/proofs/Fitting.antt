@@ -37,7 +37,7 @@ use Rattle.office_words.specs.declared.entry.Call.TheVariants as call
 use Rattle.office_words.specs.declared.entry.Entry.{Entry}
 use Rattle.office_words.specs.declared.entry.Reply.{Reply}
 use Rattle.office_words.specs.declared.entry.Reply.TheVariants as reply
-use Rattle.office_core.specs.Machine.{IsAnswer, IsGood, IsLegalFrom, Machine, MayAsk, after, after_entry, opened, posted_reply, recalled_with, reply_in, state_at, state_in, state_with, version_of, with_day, with_permit, with_posting, with_surrender}
+use Rattle.office_core.specs.Machine.{IsAnswer, IsGood, IsLegalFrom, Machine, MayAsk, after, after_entry, opened, posted_reply, recalled_with, reply_in, state_at, state_in, state_with, trip_for, version_of, with_day, with_permit, with_posting, with_surrender}
 use Rattle.office_core.specs.Recalls.{is_recalled, recalled_if}
 use Rattle.office_core.specs.Replies.{day_reply, early_reply, show_reply, shown, surrender_reply}
 use Rattle.office_core.proofs.Cases.{apply_found, none_early}
@@ -64,10 +64,10 @@ FitsMark (mark.Recalled version) = FitsNumber version
 FitsMark mark.Surrendered = Unit {0}
 
 pub record FitsPermit (p : Permit) : Type 0 where
-  pub caller : FitsIndex p.caller
-  pub truck : FitsIndex p.truck
-  pub first : FitsDay p.first
-  pub last : FitsDay p.last
+  pub caller : FitsIndex p.trip.caller
+  pub truck : FitsIndex p.trip.truck
+  pub first : FitsDay p.trip.first
+  pub last : FitsDay p.trip.last
   pub version : FitsNumber p.version
   pub seen : FitsNumber p.seen
   pub mark : FitsMark p.mark
@@ -213,8 +213,8 @@ module _ (base : BaseLists) (roads : IsRoads base.roads) (fleet : IsBase base) (
     surrender_fits caller number =
         let p = permit_of m.permits number in
         pick FitsReply (not (is_issued m.permits number)) reply.Unknown _ (λ _. tt)
-        (λ _. pick FitsReply (not (nat_eq p.caller caller)) reply.NotYours _ (λ _. tt)
-        (λ _. pick FitsReply (not (in_force m.day p)) (reply.NotInForce (status_of p m.day)) reply.Surrendered (λ _. status_fits p.mark p.last m.day (mark_at number)) (λ _. tt)))
+        (λ _. pick FitsReply (not (nat_eq p.trip.caller caller)) reply.NotYours _ (λ _. tt)
+        (λ _. pick FitsReply (not (in_force m.day p)) (reply.NotInForce (status_of p m.day)) reply.Surrendered (λ _. status_fits p.mark p.trip.last m.day (mark_at number)) (λ _. tt)))
 
     show_fits : (number : ℕ) → FitsReply (show_reply m.permits m.day number)
     show_fits number = by (is_issued m.permits number) refl
@@ -224,7 +224,7 @@ module _ (base : BaseLists) (roads : IsRoads base.roads) (fleet : IsBase base) (
         by true e =
             let (some, within) = numbers_of m.permits number e in
             let p = h.each (number - 1) no_permit (omega (arith, some, within)) in
-            (omega (arith, within, h.permits), p.caller, p.truck, p.first, p.last, p.version, p.seen, status_fits (permit_of m.permits number).mark (permit_of m.permits number).last m.day p.mark)
+            (omega (arith, within, h.permits), p.caller, p.truck, p.first, p.last, p.version, p.seen, status_fits (permit_of m.permits number).mark (permit_of m.permits number).trip.last m.day p.mark)
 
     answered : {N : Type 0} (x r : Reply) → FitsReply x → (r ≡ x) ⊎ ((r ≡ reply.NoMemory) × N) → FitsReply r
     answered x r fits (inl e) = subst FitsReply (sym e) fits
@@ -263,7 +263,7 @@ module _ (base : BaseLists) (roads : IsRoads base.roads) (fleet : IsBase base) (
     issue_fits : (caller : ℕ) (a : Application) (seen : ℕ) (r : Reply) → FitsIndex caller → FitsIndex a.truck → FitsDay a.first × FitsDay a.last → FitsNumber seen → FitsReply r
         → FitsMachine (n + 1) (with_permit m caller a seen r)
     issue_fits caller a seen (reply.Issued number version route) who truck days since fits =
-        let p = new_permit number caller a.truck route a.first a.last version seen in record {
+        let p = new_permit number (trip_for caller a route) version seen in record {
           postings = omega (arith, h.postings);
           permits = omega (arith, length-append m.permits (p ∷ []), h.permits);
           day = h.day;

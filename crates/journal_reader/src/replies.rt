@@ -14,6 +14,7 @@ use crate::numbers::is;
 use crate::words::{day, named_number, named_numbers, named_place, named_places, number, word};
 use office_words::Reply;
 use permit_book::Status;
+use shared_route::SharedRoute;
 use std::alloc::{AllocError, Global};
 
 /// A reply.
@@ -46,9 +47,10 @@ fn issued(alloc: Global, rest: &[u8]) -> Result<Option<(Reply, &[u8])>, AllocErr
     let Some((version, rest)) = named_number(rest, "at") else {
         return Ok(None);
     };
-    let Some((route, rest)) = named_places(alloc, rest, "route")? else {
+    let Some((segments, rest)) = named_places(alloc, rest, "route")? else {
         return Ok(None);
     };
+    let route = SharedRoute::along(alloc, segments)?;
     Ok(Some((
         Reply::Issued {
             number,

@@ -1,8 +1,8 @@
 -- The permits that a posting recalls are among those that use the segment it touches.
-use Rattle.std.proofs.Common.{◌≡◌, ◌∷◌, ◌++◌, [], List, ℕ, ◌+◌, ◌<◌, Bool, cond, true, false, ◌&&◌, not, map, filter, drop, length, get_or, refl, ap, sym, subst, ◌∙◌, append_assoc, arith}
+use Rattle.std.proofs.Common.{◌≡◌, ◌∷◌, ◌++◌, [], List, ℕ, ◌+◌, Bool, cond, true, false, ◌&&◌, not, map, filter, length, get_or, refl, ap, sym, subst, ◌∙◌, append_assoc, arith}
 use Rattle.std.specs.List.{All}
 use Rattle.std.proofs.lemmas.Bool.{and_from, and_parts}
-use Rattle.std.proofs.lemmas.List.{at_drop_more, length-append}
+use Rattle.std.proofs.lemmas.List.{length-append}
 use Rattle.std.proofs.lemmas.List.Elements.{All-head, All-tail}
 use Rattle.restriction_log.specs.States.{InForce}
 use Rattle.permit_book.specs.declared.permit.Permit.{Permit}
@@ -14,17 +14,6 @@ use Rattle.office_core.specs.Users.{users_of, uses}
 use Rattle.office_core.proofs.ByNumber.{found_seam}
 use Rattle.office_core.proofs.Forces.{live_in_force}
 use Rattle.office_core.proofs.Touching.{fails_there}
-
--- one number more of those that pass
-pub hit_more : (test : ℕ → Bool) (numbers users : List ℕ) (i n : ℕ) (b : Bool) → i < length users → n ≡ get_or users i 0 → b ≡ test n → (numbers ++ cond b (n ∷ []) []) ++ filter test (drop (i + 1) users) ≡ numbers ++ filter test (drop i users)
-hit_more test numbers users i n b h at e = head b e ∙ ap (λ l. numbers ++ l) (ap (λ k. filter test (k ∷ drop (i + 1) users)) at ∙ sym (at_drop_more (filter test) users i 0 h))
-  where
-    rest : List ℕ
-    rest = filter test (drop (i + 1) users)
-
-    head : (b : Bool) → b ≡ test n → (numbers ++ cond b (n ∷ []) []) ++ rest ≡ numbers ++ cond (test n) (n ∷ rest) rest
-    head true e = append_assoc numbers (n ∷ []) rest ∙ ap (λ b. numbers ++ cond b (n ∷ rest) rest) e
-    head false e = append_assoc numbers [] rest ∙ ap (λ b. numbers ++ cond b (n ∷ rest) rest) e
 
 module _ (test keep : Permit → Bool) where
   -- a filter of those that another one keeps
@@ -61,8 +50,8 @@ module _ (test keep : Permit → Bool) where
 recalled_uses : (base : BaseLists) (state : InForce) (segment : ℕ) (day : List ℕ) (p : Permit) → MeetsElsewhereIfInForce base state segment day p → is_recalled base state day p ≡ true → uses segment p ≡ true
 recalled_uses base state segment day p elsewhere is =
     let both = and_parts (in_force day p) (fails base state p) is in
-    let on = and_parts (is_in segment p.route) (not (is_passable base state p.truck segment)) (sym (fails_there base state segment p (elsewhere both.0)) ∙ both.1) in
-    and_from (is_live p.mark) (is_in segment p.route) (live_in_force p day both.0) on.0
+    let on = and_parts (is_in segment p.trip.route) (not (is_passable base state p.trip.truck segment)) (sym (fails_there base state segment p (elsewhere both.0)) ∙ both.1) in
+    and_from (is_live p.mark) (is_in segment p.trip.route) (live_in_force p day both.0) on.0
 
 -- so those that it recalls are found among the permits that use the segment
 pub recalled_among : (base : BaseLists) (state : InForce) (segment : ℕ) (day : List ℕ) (ps : List Permit) → AreNumbered 0 ps → InForceMeetElsewhere base state segment day ps
@@ -73,7 +62,7 @@ recalled_among base state segment day ps numbered elsewhere =
 
 -- the test of that segment decides
 pub recalled_if_failing : (base : BaseLists) (state : InForce) (segment : ℕ) (day : List ℕ) (p : Permit) → MeetsElsewhereIfInForce base state segment day p → uses segment p ≡ true
-    → in_force day p ≡ true → not (is_passable base state p.truck segment) ≡ is_recalled base state day p
+    → in_force day p ≡ true → not (is_passable base state p.trip.truck segment) ≡ is_recalled base state day p
 recalled_if_failing base state segment day p elsewhere use' on =
-    let holds = (and_parts (is_live p.mark) (is_in segment p.route) use').1 in
-    sym (ap (λ b. b && fails base state p) on ∙ (fails_there base state segment p (elsewhere on) ∙ ap (λ b. b && not (is_passable base state p.truck segment)) holds))
+    let holds = (and_parts (is_live p.mark) (is_in segment p.trip.route) use').1 in
+    sym (ap (λ b. b && fails base state p) on ∙ (fails_there base state segment p (elsewhere on) ∙ ap (λ b. b && not (is_passable base state p.trip.truck segment)) holds))

@@ -1,9 +1,8 @@
 -- What the calls of one caller leave to the next.
-use Rattle.std.proofs.Common.{◌≡◌, ◌∷◌, ◌++◌, inl, inr, [], List, ℕ, Bool, true, false, None, ap, sym, subst, refl, ◌∙◌, append_assoc, arith}
+use Rattle.std.proofs.Common.{◌≡◌, ◌∷◌, ◌++◌, inl, inr, [], List, ℕ, Bool, true, false, ap, sym, subst, refl, ◌∙◌, append_assoc, arith}
 use Rattle.std.proofs.lemmas.List.{append-nil}
 use Rattle.road_graph.specs.Roads.{IsRoads}
 use Rattle.trip_analysis.specs.declared.application.Application.{Application}
-use Rattle.trip_analysis.specs.declared.finding.Proposal.{Proposal}
 use Rattle.trip_analysis.specs.Applications.{Sound}
 use Rattle.office_words.specs.declared.entry.Call.{Call}
 use Rattle.office_words.specs.declared.entry.Call.TheVariants as call
@@ -14,9 +13,9 @@ use Rattle.office_core.specs.Replies.{is_full, is_outdated}
 use Rattle.office_core.specs.Machine.{IsAnswer, IsLegal, Machine, MayAsk, Step, machine_of, version_of}
 use Rattle.office_core.specs.Offices.{entry}
 use Rattle.office_core.specs.Calls.{Added, Answered, Calling, Who, machine_seen}
-use Rattle.office_core.proofs.Currents.{held_current, submit_current}
+use Rattle.office_core.proofs.Currents.{held_current}
 use Rattle.office_core.proofs.Histories.{last_step}
-use Rattle.office_core.proofs.Later.{GoOn, asked_later, postings_on}
+use Rattle.office_core.proofs.Later.{asked_later}
 
 bool_cases : {A : Type 0} (b : Bool) → (b ≡ true → A) → (b ≡ false → A) → A
 bool_cases true f g = f refl
@@ -43,12 +42,6 @@ module _ {P : Type 0} where
       (λ open'. let sees = (answered.entry open').sees in
       (sees.between ++ entry v.who.caller c r ∷ [], sees.seen ∙ append_assoc v.seen sees.between (entry v.who.caller c r ∷ [])))
 
-  -- what is posted goes on
-  pub posted_on : (v w : Calling P) (c : Call) (r : Reply) → Answered v c r w → GoOn (machine_seen v) (machine_seen w)
-  posted_on v w c r answered = let (more, is) = seen_on v w c r answered in
-      subst (λ (k : Who P). GoOn (machine_seen v) (machine_of k.base k.opening w.seen)) (sym answered.who)
-      (subst (λ (l : List Entry). GoOn (machine_seen v) (machine_of v.who.base v.who.opening l)) (sym is) (postings_on v.who.base v.who.opening v.seen more))
-
   -- what may be asked may be asked after a call
   pub asked_still : (v w : Calling P) (c d : Call) (r : Reply) → Answered v c r w → MayAsk v.who.base (machine_seen v) d → MayAsk w.who.base (machine_seen w) d
   asked_still v w c d r answered ask = let (more, is) = seen_on v w c r answered in
@@ -62,17 +55,6 @@ module _ {P : Type 0} where
       (λ open'. let added = answered.entry open' in let e = entry v.who.caller (call.Held a) r in
       held_current w.who.base (machine_met v w e added) v.who.caller a r
       (subst (λ (k : Who P). IsRoads k.base.roads) (sym answered.who) roads) (subst (λ (k : Who P). Sound k.base a) (sym answered.who) sound) (entered v w e added).answer)
-
-  -- where nobody else calls, neither is a proposal of the version that was seen last
-  pub submit_in_date : (v w : Calling P) (a : Application) (p : Proposal) (r : Reply) → IsRoads v.who.base.roads → v.who.place ≡ None → p.seen ≡ version_of (machine_seen v) → Answered v (call.Submit a p) r w → is_outdated r ≡ false
-  submit_in_date v w a p r roads alone now answered = bool_cases (is_full r)
-      (λ full. let (most, is) = full_is r full in ap is_outdated is)
-      (λ open'. let added = answered.entry open' in let e = entry v.who.caller (call.Submit a p) r in let step = entered v w e added in
-      let same : v.seen ++ added.sees.between ≡ v.seen = ap (λ l. v.seen ++ l) (added.sees.alone alone) ∙ append-nil v.seen in
-      let met : machine_met v w e added ≡ machine_seen v =
-      ap (λ (k : Who P). machine_of k.base k.opening (v.seen ++ added.sees.between)) answered.who ∙ ap (machine_of v.who.base v.who.opening) same in
-      submit_current w.who.base (machine_met v w e added) v.who.caller a p r
-      (subst (λ (k : Who P). IsRoads k.base.roads) (sym answered.who) roads) step.asked (now ∙ ap (λ (m : Machine). version_of m) (sym met)) step.answer)
 
   -- a look that is answered by an entry is answered by the version that was then seen
   pub looked_at : (v w : Calling P) (r : Reply) → Answered v call.Snapshot r w → is_full r ≡ false → Answered v call.Snapshot (reply.SnapshotAt (version_of (machine_seen w))) w

@@ -101,8 +101,8 @@ held_open base m caller a r (inl g) = ap is_full g.2 ∙ apply_open base (state_
 held_open base m caller a r (inr e) = ap is_full e.0
 
 surrender_open : (permits : List Permit) (day : List ℕ) (caller number : ℕ) → NotFull (surrender_reply permits day caller number)
-surrender_open permits day caller number = pick NotFull (not (is_issued permits number)) reply.Unknown (if not (nat_eq (permit_of permits number).caller caller) then reply.NotYours else if not (in_force day (permit_of permits number)) then reply.NotInForce (status_of (permit_of permits number) day) else reply.Surrendered) (λ _. refl)
-    (λ _. pick NotFull (not (nat_eq (permit_of permits number).caller caller)) reply.NotYours (if not (in_force day (permit_of permits number)) then reply.NotInForce (status_of (permit_of permits number) day) else reply.Surrendered) (λ _. refl)
+surrender_open permits day caller number = pick NotFull (not (is_issued permits number)) reply.Unknown (if not (nat_eq (permit_of permits number).trip.caller caller) then reply.NotYours else if not (in_force day (permit_of permits number)) then reply.NotInForce (status_of (permit_of permits number) day) else reply.Surrendered) (λ _. refl)
+    (λ _. pick NotFull (not (nat_eq (permit_of permits number).trip.caller caller)) reply.NotYours (if not (in_force day (permit_of permits number)) then reply.NotInForce (status_of (permit_of permits number) day) else reply.Surrendered) (λ _. refl)
     (λ _. pick NotFull (not (in_force day (permit_of permits number))) (reply.NotInForce (status_of (permit_of permits number) day)) reply.Surrendered (λ _. refl) (λ _. refl)))
 
 -- an answer of the machine is never `Full`

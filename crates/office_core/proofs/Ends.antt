@@ -34,7 +34,7 @@ WasInForce m number _ = Unit {0}
 
 was_in_force : (m : Machine) (caller number : ℕ) → WasInForce m number (surrender_reply m.permits m.day caller number)
 was_in_force m caller number = pick (WasInForce m number) (not (is_issued m.permits number)) reply.Unknown _ (λ _. tt)
-    (λ _. pick (WasInForce m number) (not (nat_eq (permit_of m.permits number).caller caller)) reply.NotYours _ (λ _. tt)
+    (λ _. pick (WasInForce m number) (not (nat_eq (permit_of m.permits number).trip.caller caller)) reply.NotYours _ (λ _. tt)
     (λ _. pick (WasInForce m number) (not (in_force m.day (permit_of m.permits number))) (reply.NotInForce _) reply.Surrendered (λ _. tt) (λ e. grind (arith, e))))
 
 answered_in_force : (base : BaseLists) (m : Machine) (caller number : ℕ) (r : Reply) → IsAnswer base m caller (call.Surrender number) r → WasInForce m number r
@@ -75,7 +75,7 @@ status_on (mark.Recalled v) last kept day h off = refl
 status_on mark.Surrendered last kept day h off = refl
 
 day_ends : (k : ℕ) (m : Machine) (r : Reply) → Advances m.day r → Ends k m (with_day m r)
-day_ends k m (reply.DayIs day) h = (omega arith, λ off. (refl, status_on (get_or m.permits k no_permit).mark (get_or m.permits k no_permit).last m.day day h off))
+day_ends k m (reply.DayIs day) h = (omega arith, λ off. (refl, status_on (get_or m.permits k no_permit).mark (get_or m.permits k no_permit).trip.last m.day day h off))
 day_ends k m _ h = same k m
 
 surrender_ends : (k : ℕ) (m : Machine) (number : ℕ) (r : Reply) → WasInForce m number r → Ends k m (with_surrender m number r)

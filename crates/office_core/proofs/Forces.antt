@@ -63,7 +63,7 @@ advances : (kept day : List ℕ) → Advances kept (day_reply kept day)
 advances kept day = pick (Advances kept) (is_before day kept) (reply.DayBack kept) (reply.DayIs day) (λ _. tt) (λ e. e)
 
 pub day_meets : (base : BaseLists) (m : Machine) (r : Reply) → MeetNow base m → Advances m.day r → MeetNow base (with_day m r)
-day_meets base m (reply.DayIs day) had h = All-weaker (MeetsIfInForce base (state_in base m) m.day) (MeetsIfInForce base (state_in base m) day) (λ p f on. f (earlier p.mark p.last m.day day h on)) m.permits had
+day_meets base m (reply.DayIs day) had h = All-weaker (MeetsIfInForce base (state_in base m) m.day) (MeetsIfInForce base (state_in base m) day) (λ p f on. f (earlier p.mark p.trip.last m.day day h on)) m.permits had
 day_meets base m _ had h = had
 
 pub surrender_meets : (base : BaseLists) (m : Machine) (number : ℕ) (r : Reply) → MeetNow base m → MeetNow base (with_surrender m number r)
@@ -99,4 +99,4 @@ mark_in_force (mark.Recalled v) last day e = absurd (grind (arith, e))
 mark_in_force mark.Surrendered last day e = absurd (grind (arith, e))
 
 pub live_in_force : (p : Permit) (day : List ℕ) → is_in_force (status_of p day) ≡ true → is_live p.mark ≡ true
-live_in_force p day e = mark_in_force p.mark p.last day e
+live_in_force p day e = mark_in_force p.mark p.trip.last day e

@@ -1,9 +1,9 @@
 -- What is known of findings, from below.
-use Rattle.std.proofs.Common.{◌≡◌, ℕ, List, [], ◌∷◌, ◌++◌, true, length, take, ap, sym, subst, ◌∙◌, arith, Option, None}
+use Rattle.std.proofs.Common.{◌≡◌, ℕ, List, true, length, take, ap, sym, subst, ◌∙◌, arith}
 use Rattle.std.proofs.lemmas.List.{take_all}
 use Rattle.road_graph.specs.Roads.{Roads, IsRoads}
 use Rattle.restriction_log.specs.declared.change.Change.{Change}
-use Rattle.restriction_log.specs.States.{InForce, state_of, state_after, is_named, AreOf}
+use Rattle.restriction_log.specs.States.{InForce, state_of, is_named, AreOf}
 use Rattle.restriction_log.specs.Changes.{takes, AreTaken}
 use Rattle.snapshot_store.specs.Stores.{Stored, state_now}
 use Rattle.trip_analysis.specs.declared.application.Application.{Application}
@@ -14,8 +14,7 @@ use Rattle.trip_analysis.specs.Applications.{Sound}
 use Rattle.trip_analysis.specs.Findings.{IsFinding, IsFoundAt, HoldsIn}
 use Rattle.office_core.specs.Machine.{Machine, version_of, state_at, state_in, stored_of, IsFound}
 use Rattle.restriction_log.proofs.Standing.{named_by_count}
-use Rattle.restriction_log.proofs.Elsewhere.{state-posted}
-use Rattle.restriction_log.proofs.Standing.{state_is_of, stays_of}
+use Rattle.restriction_log.proofs.Standing.{state_is_of}
 use Rattle.trip_analysis.proofs.Found as found
 pub use Rattle.trip_analysis.proofs.Found.{found_in_range, found_holds}
 
@@ -27,14 +26,6 @@ holds_now base postings n state a w roads same now sound is = subst (λ (s : InF
 -- the state has what the network takes
 pub named_of : (roads : Roads) (state : InForce) (change : Change) → AreOf roads state → takes roads change ≡ true → is_named state change ≡ true
 named_of roads state change is taken = named_by_count roads state change is.values is.ratings taken
-
--- the state is of the network after a change that it takes
-pub of_after : (roads : Roads) (state : InForce) (change : Change) → AreOf roads state → takes roads change ≡ true → AreOf roads (state_after state change)
-of_after roads state change is taken = stays_of roads state change is taken
-
--- a posting leaves the state that its change makes of the one before
-pub state_posted : (roads : Roads) (postings : List Change) (change : Change) → state_of roads (postings ++ change ∷ []) ≡ state_after (state_of roads postings) change
-state_posted roads postings change = state-posted roads postings change
 
 -- the state of postings that the network takes is of the network
 pub of_base : (roads : Roads) (postings : List Change) → IsRoads roads → AreTaken roads postings → AreOf roads (state_of roads postings)
@@ -51,7 +42,3 @@ found_for base m s a p is sound seen found = let now : p.seen ≡ version_of m =
 -- at the current version the state seen is the state
 pub seen_now : (base : BaseLists) (m : Machine) (seen : ℕ) → seen ≡ version_of m → state_at base m seen ≡ state_in base m
 seen_now base m seen now = ap (state_of base.roads) (take_all seen m.postings (omega (arith, now)))
-
--- so what was none then is none now
-pub still_none : {A : Type 0} (f : InForce → Option A) (base : BaseLists) (m : Machine) (seen : ℕ) → seen ≡ version_of m → f (state_at base m seen) ≡ None → None ≡ f (state_in base m)
-still_none f base m seen now none = sym none ∙ ap f (seen_now base m seen now)

@@ -155,13 +155,13 @@ good_opened base day = record {
   meets = All-nil (MeetsIfInForce base (state_in base (opened day)) day);
 }
 
-pub good_entered : (base : BaseLists) (m : Machine) (p : Permit) → p.number ≡ length m.permits + 1 → IsRanged base p → first_on base (state_in base m) p.truck p.route ≡ None → IsGood base m → IsGood base (record m { permits = m.permits ++ p ∷ [] })
+pub good_entered : (base : BaseLists) (m : Machine) (p : Permit) → p.number ≡ length m.permits + 1 → IsRanged base p → first_on base (state_in base m) p.trip.truck p.trip.route ≡ None → IsGood base m → IsGood base (record m { permits = m.permits ++ p ∷ [] })
 good_entered base m p number ranged meets good = record {
   taken = good.taken;
   numbered = numbered-append 0 m.permits p good.numbered (omega (arith, number));
   ranged = All-append (IsRanged base) m.permits (p ∷ []) good.ranged (All-cons (IsRanged base) p [] ranged (All-nil (IsRanged base)));
   meets = All-append (MeetsIfInForce base (state_in base m) m.day) m.permits (p ∷ []) good.meets
-      (All-cons (MeetsIfInForce base (state_in base m) m.day) p [] (λ _. none_fails base (state_in base m) p.truck p.route meets) (All-nil (MeetsIfInForce base (state_in base m) m.day)));
+      (All-cons (MeetsIfInForce base (state_in base m) m.day) p [] (λ _. none_fails base (state_in base m) p.trip.truck p.trip.route meets) (All-nil (MeetsIfInForce base (state_in base m) m.day)));
 }
 
 pub good_posted : (base : BaseLists) (m : Machine) (change : Change) (v : ℕ) (recalled : List ℕ) → takes base.roads change ≡ true → IsGood base m → IsGood base (with_posting base m change (reply.Posted v recalled))

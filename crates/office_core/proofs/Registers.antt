@@ -8,6 +8,7 @@ use Rattle.std.specs.List.{All}
 use Rattle.std.specs.Arc.{arc_value}
 use Rattle.road_graph.specs.Roads.{Roads}
 use Rattle.restriction_log.specs.declared.change.Change.{Change}
+use Rattle.restriction_log.specs.Changes.{touched}
 use Rattle.restriction_log.specs.States.{InForce, state_of}
 use Rattle.snapshot_store.specs.Stores.{IsNextOf, NextState, Stored, version_of, with_change, state_now as store_state}
 use Rattle.permit_book.specs.declared.permit.Permit.{Permit}
@@ -24,7 +25,7 @@ use Rattle.trip_analysis.specs.Followers.{GoesOn}
 use Rattle.trip_analysis.proofs.Following.{goes_on_posted}
 use Rattle.office_core.specs.declared.register.Register.TheInside.{Inside}
 use Rattle.office_words.specs.declared.entry.Reply.TheVariants as reply
-use Rattle.office_core.specs.Recalls.{AreLive, AreVerdicts, IsRanged, marked_all, recalled_by, recalled_now}
+use Rattle.office_core.specs.Recalls.{AreLive, AreVerdicts, InForceMeet, IsRanged, marked_all, recalled_by, recalled_now}
 use Rattle.office_core.specs.Users.{IsIndexed, IsUser, users_of}
 use Rattle.office_core.specs.Machine.{IsGood, Machine, machine_at, posted_reply, state_with, with_posting}
 use Rattle.office_core.specs.Registers.{HeldAt, IsNext, IsRegister, MeetElsewhere, RegisterParts, is_recalled_in, parts_of, posting_reply, recalls_of, state_now, stored_now}
@@ -32,6 +33,7 @@ use Rattle.office_core.proofs.Founds.{found_in_range, holds_now}
 use Rattle.office_core.proofs.Goods.{good_entered, good_posted}
 use Rattle.office_core.proofs.ByNumber.{recalled_live, recalled_marked}
 use Rattle.office_core.proofs.Indexing.{are_users, index_issued, index_undone}
+use Rattle.office_core.proofs.Touching.{met_elsewhere}
 use Rattle.office_core.proofs.Among.{recalled_among, recalled_if_failing}
 
 -- the state of the store is that of the postings
@@ -42,8 +44,22 @@ kept_state i inv = ap (λ (r : Roads). state_of r i.store.postings) inv.store
 pub stored_is : (i : Inside) (p : RegisterParts) → parts_of i ≡ p → IsRegister i → i.store ≡ stored_now p
 stored_is i p seen inv = ap (λ (r : Roads). let s : Stored = record { roads = r; postings = i.store.postings } in s) inv.store ∙ ap stored_now seen
 
-pub next_here : (i : Inside) (p : RegisterParts) (next : NextState) → parts_of i ≡ p → IsRegister i → IsNextOf i.store next → IsNext p next
+next_here : (i : Inside) (p : RegisterParts) (next : NextState) → parts_of i ≡ p → IsRegister i → IsNextOf i.store next → IsNext p next
 next_here i p next seen inv is = subst (λ (s : Stored). IsNextOf s next) (stored_is i p seen inv) is
+
+pub next_if_made : {E : Type 0} (i : Inside) (p : RegisterParts) (r : Result NextState E) → parts_of i ≡ p → IsRegister i → IfOk r (IsNextOf i.store) → IfOk r (IsNext p)
+next_if_made i p (Ok next) seen inv is = next_here i p next seen inv is
+next_if_made i p (Err e) seen inv is = tt
+
+-- in the state that a posting would make, each permit in force meets its truck but where the change touches
+pub elsewhere_if_made : {E : Type 0} (i : Inside) (p : RegisterParts) (change : Change) (r : Result NextState E) → parts_of i ≡ p → IsRegister i → IfOk r (IsNextOf i.store) → IfOk r (λ next. next.change ≡ change)
+    → IfOk r (λ next. MeetElsewhere p next.state (touched p.base.roads change))
+elsewhere_if_made i p change (Ok next) seen inv is same =
+    let its : IsNext p next = next_here i p next seen inv is in
+    let made : next.state ≡ state_with p.base p.machine change = its.state ∙ ap (λ (c : Change). state_with p.base p.machine c) same in
+    let meet : InForceMeet p.base (state_now p) p.machine.day p.machine.permits = subst (λ (q : RegisterParts). InForceMeet q.base (state_now q) q.machine.day q.machine.permits) seen inv.good.meets in
+    met_elsewhere p.base p.machine.postings next.state change (touched p.base.roads change) p.machine.day p.machine.permits made refl meet
+elsewhere_if_made i p change (Err e) seen inv is same = tt
 
 -- the index tells which permits use a segment
 pub users_are : (i : Inside) (p : RegisterParts) (s : ℕ) (list : List ℕ) → parts_of i ≡ p → IsRegister i → s < length p.base.roads.segments → list ≡ using_in i.index s → All (IsUser p.machine.permits s) list
@@ -53,21 +69,20 @@ users_are i p s list seen inv low is =
     (subst (All (IsUser i.book s)) (sym (is ∙ inv.index.users s here)) (are_users s i.book inv.good.numbered))
 
 -- those that were told among them are those that a state recalls
-pub recalled_whole : (i : Inside) (p : RegisterParts) (state : InForce) (segment k : ℕ) (numbers users : List ℕ) → parts_of i ≡ p → IsRegister i → MeetElsewhere p state segment → users ≡ users_of segment p.machine.permits → length users ≤ k
+pub recalled_whole : (p : RegisterParts) (state : InForce) (segment k : ℕ) (numbers users : List ℕ) → AreNumbered 0 p.machine.permits → MeetElsewhere p state segment → users ≡ users_of segment p.machine.permits → length users ≤ k
     → numbers ++ filter (is_recalled_in p state) (drop k users) ≡ filter (is_recalled_in p state) users → numbers ≡ recalls_of p state
-recalled_whole i p state segment k numbers users seen inv elsewhere are done is =
-    let numbered : AreNumbered 0 p.machine.permits = subst (λ (q : RegisterParts). AreNumbered 0 q.machine.permits) seen inv.good.numbered in
+recalled_whole p state segment k numbers users numbered elsewhere are done is =
     sym (append-nil numbers) ∙ (ap (λ l. numbers ++ filter (is_recalled_in p state) l) (sym (drop_all k users done))
     ∙ (is ∙ (ap (filter (is_recalled_in p state)) are ∙ recalled_among p.base state segment p.machine.day p.machine.permits numbered elsewhere)))
 
 -- of a permit in force that uses the segment it decides whether the state fails its truck there
 pub recalled_so : (p : RegisterParts) (state : InForce) (segment n : ℕ) (q : Permit) → IsUser p.machine.permits segment n → MeetElsewhere p state segment → q ≡ permit_of p.machine.permits n
-    → in_force p.machine.day q ≡ true → not (is_passable p.base state q.truck segment) ≡ is_recalled_in p state n
+    → in_force p.machine.day q ≡ true → not (is_passable p.base state q.trip.truck segment) ≡ is_recalled_in p state n
 recalled_so p state segment n q user elsewhere same on =
     let issued = user.issued in
     let low : n - 1 < length p.machine.permits = grind (arith, nat_tests, issued) in
     let own = permit_of p.machine.permits n in
-    ap (λ (r : Permit). not (is_passable p.base state r.truck segment)) same
+    ap (λ (r : Permit). not (is_passable p.base state r.trip.truck segment)) same
     ∙ recalled_if_failing p.base state segment p.machine.day own (elsewhere (n - 1) no_permit low) user.uses (ap (in_force p.machine.day) (sym same) ∙ on)
 
 no_verdict : (trucks t : ℕ) (b : Bool) (empty : Option Bool) → empty ≡ None → slice_get (replicate trucks empty) t ≡ Some (Some b) → ⊥
@@ -117,26 +132,23 @@ pub route_there : (i : Inside) (p : RegisterParts) (route : List ℕ) → parts_
 route_there i p route seen inv inside = subst (λ k. All (λ s. s < k) route) (sym inv.index.many) (subst (λ (q : RegisterParts). All (λ s. s < length q.base.roads.segments) route) (sym seen) inside)
 
 -- with one permit more, whose route meets, and its route in the index
-pub issue_keeps : (i : Inside) (p : RegisterParts) (book : List Permit) (index : Lists) (q : Permit) (truck n : ℕ) (route : List ℕ) → parts_of i ≡ p → IsRegister i → n ≡ length i.book + 1 → q.number ≡ n → q.truck ≡ truck → q.route ≡ route → is_live q.mark ≡ true
-    → truck < length p.base.fleet → All (λ s. s < length p.base.roads.segments) route → first_on p.base (state_now p) truck route ≡ None
-    → IsAdded i.index n route index → book ≡ i.book ++ q ∷ [] → IsRegister (record i { book = book; index = index })
-issue_keeps i p book index q truck n route seen inv next number is along live there within meets added entered =
+pub issue_keeps : (i : Inside) (p : RegisterParts) (book : List Permit) (index : Lists) (q : Permit) → parts_of i ≡ p → IsRegister i → q.number ≡ length i.book + 1 → is_live q.mark ≡ true
+    → q.trip.truck < length p.base.fleet → All (λ s. s < length p.base.roads.segments) q.trip.route → first_on p.base (state_now p) q.trip.truck q.trip.route ≡ None
+    → IsAdded i.index q.number q.trip.route index → book ≡ i.book ++ q ∷ [] → IsRegister (record i { book = book; index = index })
+issue_keeps i p book index q seen inv number live there within meets added entered =
     let base : BaseLists = arc_value i.base in
     let m : Machine = machine_at i.store.postings i.book i.day in
-    let fits : truck < length base.fleet = subst (λ (r : RegisterParts). truck < length r.base.fleet) (sym seen) there in
-    let on : All (λ s. s < length base.roads.segments) route = subst (λ (r : RegisterParts). All (λ s. s < length r.base.roads.segments) route) (sym seen) within in
-    let fine : first_on base (state_now (parts_of i)) truck route ≡ None = subst (λ (r : RegisterParts). first_on r.base (state_now r) truck route ≡ None) (sym seen) meets in
-    let inside : All (λ s. s < length base.roads.segments) q.route = subst (All (λ s. s < length base.roads.segments)) (sym along) on in
-    let ranged : IsRanged base q = record { truck = subst (λ (t : ℕ). t < length base.fleet) (sym is) fits; route = inside } in
-    let passes : first_on base (state_now (parts_of i)) q.truck q.route ≡ None = rw (is, along) fine in
-    let adds : IsAdded i.index n q.route index = subst (λ l. IsAdded i.index n l index) (sym along) added in
+    let fits : q.trip.truck < length base.fleet = subst (λ (r : RegisterParts). q.trip.truck < length r.base.fleet) (sym seen) there in
+    let inside : All (λ s. s < length base.roads.segments) q.trip.route = subst (λ (r : RegisterParts). All (λ s. s < length r.base.roads.segments) q.trip.route) (sym seen) within in
+    let passes : first_on base (state_now (parts_of i)) q.trip.truck q.trip.route ≡ None = subst (λ (r : RegisterParts). first_on r.base (state_now r) q.trip.truck q.trip.route ≡ None) (sym seen) meets in
+    let ranged : IsRanged base q = record { truck = fits; route = inside } in
     record {
       roads = inv.roads;
-      good = rw entered (good_entered base m q (number ∙ next) ranged passes inv.good);
+      good = rw entered (good_entered base m q number ranged passes inv.good);
       store = inv.store;
       follower = inv.follower;
       later = inv.later;
-      index = rw entered (index_issued (length base.roads.segments) i.book i.index inv.index inv.good.numbered index n q adds number live inside);
+      index = rw entered (index_issued (length base.roads.segments) i.book i.index inv.index inv.good.numbered index q.number q added refl live inside);
     }
 
 -- with no permit more, and its route out of the index again

@@ -11,7 +11,7 @@ use Rattle.trip_analysis.specs.Findings.{is_passable}
 
 -- whether one of the permit's segments fails its truck
 abbrev pub fails : BaseLists → InForce → Permit → Bool
-fails base state p = list_any (λ s. not (is_passable base state p.truck s)) p.route
+fails base state p = list_any (λ s. not (is_passable base state p.trip.truck s)) p.trip.route
 
 -- whether a state recalls the permit: it is in force, and fails
 abbrev pub is_recalled : BaseLists → InForce → List ℕ → Permit → Bool
@@ -27,7 +27,7 @@ InForceMeet base state day permits = All (MeetsIfInForce base state day) permits
 
 -- the permit meets its truck at each of its segments but this one
 abbrev pub MeetsElsewhere : BaseLists → InForce → ℕ → Permit → Type 0
-MeetsElsewhere base state segment p = All (λ s. s ≢ segment → is_passable base state p.truck s ≡ true) p.route
+MeetsElsewhere base state segment p = All (λ s. s ≢ segment → is_passable base state p.trip.truck s ≡ true) p.trip.route
 
 abbrev pub MeetsElsewhereIfInForce : BaseLists → InForce → ℕ → List ℕ → Permit → Type 0
 MeetsElsewhereIfInForce base state segment day p = in_force day p ≡ true → MeetsElsewhere base state segment p
@@ -64,5 +64,5 @@ pub record AreVerdicts (base : BaseLists) (state : InForce) (segment : ℕ) (ver
 
 -- the truck and the segments of the permit are there
 pub record IsRanged (base : BaseLists) (p : Permit) : Type 0 where
-  pub truck : p.truck < length base.fleet
-  pub route : All (λ s. s < length base.roads.segments) p.route
+  pub truck : p.trip.truck < length base.fleet
+  pub route : All (λ s. s < length base.roads.segments) p.trip.route

@@ -5,6 +5,7 @@ use Rattle.road_graph.specs.Roads.{IsRoads}
 use Rattle.restriction_log.specs.declared.change.Change.{Change}
 use Rattle.restriction_log.specs.States.{InForce}
 use Rattle.snapshot_store.specs.Stores.{IsNextOf, NextState, Stored}
+use Rattle.permit_book.specs.declared.trip.Trip.{Trip}
 use Rattle.permit_book.specs.Permits.{permit_of}
 use Rattle.trip_analysis.specs.declared.application.Application.{Application}
 use Rattle.trip_analysis.specs.declared.finding.What.{What}
@@ -20,7 +21,7 @@ use Rattle.office_core.specs.Replies.{is_issue, what_reply}
 use Rattle.office_core.specs.Retests.{IsWithin, changed_on, is_changed}
 use Rattle.office_core.specs.Costs.{IsCost}
 use Rattle.office_core.specs.Users.{IsIndexed}
-use Rattle.office_core.specs.Machine.{IsGiven, IsGood, Machine, after, machine_at, may_lack, posted_reply, state_at, state_in, stored_of, version_of, with_permit, with_posting}
+use Rattle.office_core.specs.Machine.{IsGiven, IsGood, Machine, after, machine_at, may_lack, posted_reply, state_at, state_in, stored_of, version_of, with_next, with_permit, with_posting}
 
 -- what the office is about, and the machine
 pub record RegisterParts : Type 0 where
@@ -47,8 +48,8 @@ IsRegister r = IsKept r (parts_of r)
 abbrev pub state_now : RegisterParts → InForce
 state_now r = state_in r.base r.machine
 
-abbrev pub state_seen : RegisterParts → ℕ → InForce
-state_seen r seen = state_at r.base r.machine seen
+abbrev pub state_then : RegisterParts → ℕ → InForce
+state_then r seen = state_at r.base r.machine seen
 
 -- what is posted, and on which roads
 abbrev pub stored_now : RegisterParts → Stored
@@ -86,7 +87,7 @@ abbrev pub IsFoundNow : RegisterParts → Application → What → Type 0
 IsFoundNow r a w = IsFinding r.base (state_now r) a w
 
 abbrev pub HeldAt : RegisterParts → ℕ → ℕ → What → Type 0
-HeldAt r seen truck w = HoldsIn r.base (state_seen r seen) truck w
+HeldAt r seen truck w = HoldsIn r.base (state_then r seen) truck w
 
 -- the answer that issues the next permit
 abbrev pub next_issue : RegisterParts → List ℕ → Reply
@@ -95,6 +96,10 @@ next_issue r route = reply.Issued (length r.machine.permits + 1) (version_of r.m
 -- this is what an answer to an application leaves, for which something was found at this version
 abbrev pub Permits : RegisterParts → ℕ → Application → ℕ → RegisterParts → Reply → Type 0
 Permits r caller a seen next given = next.machine ≡ with_permit r.machine caller a seen given
+
+-- this is left where the next permit is issued for a trip, whose route was found at this version
+abbrev pub Enters : RegisterParts → Trip → ℕ → RegisterParts → Type 0
+Enters r trip seen next = next.machine ≡ with_next r.machine trip seen
 
 -- the answer to a posting, and what it leaves
 abbrev pub posting_reply : RegisterParts → Change → Reply

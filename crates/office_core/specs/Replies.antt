@@ -72,13 +72,13 @@ day_reply kept day = if is_before day kept then reply.DayBack kept else reply.Da
 abbrev pub surrender_reply : List Permit → List ℕ → ℕ → ℕ → Reply
 surrender_reply permits day caller number =
     if not (is_issued permits number) then reply.Unknown
-    else (if not (nat_eq (permit_of permits number).caller caller) then reply.NotYours
+    else (if not (nat_eq (permit_of permits number).trip.caller caller) then reply.NotYours
     else (if not (in_force day (permit_of permits number)) then reply.NotInForce (status_of (permit_of permits number) day)
     else reply.Surrendered))
 
 -- what a permit says on a day
 abbrev pub shown : Permit → ℕ → List ℕ → Reply
-shown p number day = reply.Shown number p.caller p.truck p.first p.last p.version p.seen (status_of p day)
+shown p number day = reply.Shown number p.trip.caller p.trip.truck p.trip.first p.trip.last p.version p.seen (status_of p day)
 
 -- the answer to a look at a permit on a day
 abbrev pub show_reply : List Permit → List ℕ → ℕ → Reply

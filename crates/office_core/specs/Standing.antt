@@ -8,7 +8,7 @@ use Rattle.trip_analysis.specs.declared.application.Application.{Application}
 use Rattle.trip_analysis.specs.Findings.{AreRising, is_in}
 use Rattle.office_words.specs.declared.entry.Call.{Call}
 use Rattle.office_words.specs.declared.entry.Call.TheVariants as call
-use Rattle.office_core.specs.Machine.{machine_of}
+use Rattle.office_core.specs.Machine.{machine_of, trip_for}
 use Rattle.office_core.specs.Clearances.{MeetsTruck}
 use Rattle.office_core.specs.Happened.{Day, History, Numbers, Route}
 use Rattle.office_core.specs.Happened.{application_in, day_after, seen_by, state_after, version_after}
@@ -59,11 +59,7 @@ pub record IsAsIssued (at front : History) (by : ℕ) (c : Call) (n v : ℕ) (ro
     pub asked : application_in c ≡ Some trip
     pub same : p ≡ record {
       number = n;
-      caller = by;
-      truck = trip.truck;
-      route = route;
-      first = trip.first;
-      last = trip.last;
+      trip = trip_for by trip route;
       version = v;
       seen = seen_by at c;
       mark = p.mark;

@@ -7,7 +7,7 @@ use Rattle.trip_analysis.specs.Findings.{is_in}
 
 -- whether a permit uses a segment: it is live, and its route holds the segment
 abbrev pub uses : ℕ → Permit → Bool
-uses segment p = is_live p.mark && is_in segment p.route
+uses segment p = is_live p.mark && is_in segment p.trip.route
 
 -- the numbers of the permits that use a segment
 abbrev pub users_of : ℕ → List Permit → List ℕ
@@ -20,7 +20,7 @@ pub record IsUser (permits : List Permit) (segment n : ℕ) : Type 0 where
 
 -- each segment of the permit's route is one of so many
 abbrev pub IsOnRoads : ℕ → Permit → Type 0
-IsOnRoads segments p = All (λ s. s < segments) p.route
+IsOnRoads segments p = All (λ s. s < segments) p.trip.route
 
 -- the index has at each segment the permits that use it
 pub record IsIndexed (segments : ℕ) (permits : List Permit) (index : Lists) : Type 0 where

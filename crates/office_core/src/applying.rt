@@ -1,23 +1,25 @@
 // Answers to an application: by what was proposed for it, or by what the office finds itself.
 
-ghost use Rattle.std.specs.Prelude.{◌≡◌, ◌+◌, ◌<◌, ◌≤◌, ◌&&◌, length, All, IfOk, OnOk, IfSome, IfNone, OnErr, None, true, if◌then◌else◌};
+ghost use Rattle.std.specs.Prelude.{◌≡◌, ◌+◌, ◌<◌, ◌≤◌, ◌&&◌, length, All, IfOk, OnErr, None, if◌then◌else◌};
 ghost use Rattle.trip_analysis.specs.declared.finding.What.TheVariants as what;
 ghost use Rattle.trip_analysis.specs.Applications.{Sound};
 ghost use Rattle.trip_analysis.specs.Findings.{InRange, first_on as first_in, is_passable, leaves, limit_for};
 ghost use Rattle.office_words.specs.declared.entry.Call.TheVariants.{Held, Submit};
 ghost use Rattle.office_words.specs.declared.entry.Reply.TheVariants as reply;
 ghost use Rattle.office_core.specs.Replies.{early_reply};
-ghost use Rattle.office_core.specs.Machine.{HasRoom, IsFound, version_of};
-ghost use Rattle.office_core.specs.Registers.{AreUnchanged, Gives, HeldAt, IsFoundNow, IsReplyTo, IsRetested, Issues, Leaves, MayLack, Permits, changed_out, found_reply, has_changed, least_out, next_issue, state_now, state_seen};
+ghost use Rattle.office_core.specs.Machine.{HasRoom, IsFound, trip_for, version_of};
+ghost use Rattle.office_core.specs.Registers.{Gives, HeldAt, IsReplyTo, IsRetested, Issues, Leaves, MayLack, Permits, changed_out, found_reply, has_changed, least_out, next_issue, state_now, state_then};
 
 use crate::answer::Answer;
 use crate::register::Register;
 use clearance_rules::{Limit, Steps};
 use names::NoMemory;
 use office_words::{Cause, Reply};
-use permit_book::BookRefusal;
+use permit_book::Trip;
 use permit_days::Day;
 use road_graph::Numbers;
+use shared_route::SharedRoute;
+use std::alloc::Global;
 use std::sync::ledger::Ledger;
 use trip_analysis::{Application, Base, Failing, NodeSet, Proposal, What, is_passable};
 
@@ -70,20 +72,6 @@ impl Register {
         }
     }
 
-    // What the office finds itself, at the current version.
-    fn find(&mut self, application: &Application) -> Result<Proposal, NoMemory>
-        requires { Sound self.old.base application.now }
-        ensures same { self.new ≡ self.old }
-        ensures seen { IfOk result (λ proposal. proposal.seen ≡ version_of self.old.machine) }
-        ensures found { IfOk result (λ proposal. IsFoundNow self.old application.now proposal.what) }
-        ensures within { IfOk result (λ proposal. InRange self.old.base proposal.what) }
-        ensures held { IfOk result (λ found. HeldAt self.old found.seen application.now.truck found.what) }
-    {
-        let snapshot = self.store.snapshot()?;
-        self.follower
-            .analyse(self.alloc, &self.base, snapshot, application)
-    }
-
     // Answers what was found for an application.
     fn answer_found<L: Ledger>(
         &mut self,
@@ -128,7 +116,7 @@ impl Register {
     ) -> Option<Failing>
         requires truck { truck < length self.now.base.fleet }
         requires segments { All (λ s. s < length self.now.base.roads.segments) route.now }
-        requires met { first_in self.now.base (state_seen self.now seen) truck route.now ≡ None }
+        requires met { first_in self.now.base (state_then self.now seen) truck route.now ≡ None }
         ensures value { result ≡ first_in self.now.base (state_now self.now) truck route.now }
         ensures steps { IsRetested self.now seen (what.Route route.now) steps.old steps.new }
     {
@@ -174,7 +162,7 @@ impl Register {
         steps: &mut Steps<L>,
     ) -> Option<u32>
         requires truck { truck < length self.now.base.fleet }
-        requires met { least_out self.now.base (state_seen self.now seen) truck nodes.now ≡ None }
+        requires met { least_out self.now.base (state_then self.now seen) truck nodes.now ≡ None }
         ensures value { result ≡ least_out self.now.base (state_now self.now) truck nodes.now }
         ensures steps { steps.new ≤ steps.old + changed_out self.now seen nodes.now }
     {
@@ -206,27 +194,6 @@ impl Register {
             && is_passable(self.base(), self.state(), truck, segment, steps)
     }
 
-    // The first segment from a number on that a posting above the version seen names, it or one of its spans. Takes no memory.
-    #[tactic(auto, using(crate::proofs::Registers::stored_is))]
-    fn next_changed(&self, seen: u32, from: u32) -> Option<u32>
-        ensures changed { IfSome result (λ s. has_changed self.now seen s ≡ true) }
-        ensures within { IfSome result (λ s. (from ≤ s) × (s < length self.now.base.roads.segments)) }
-        ensures few { IfSome result (λ s. s < 16384) }
-        ensures first { IfSome result (λ s. AreUnchanged self.now seen from s) }
-        ensures none { IfNone result (AreUnchanged self.now seen from (length self.now.base.roads.segments)) }
-    {
-        self.store.next_changed(seen, from)
-    }
-
-    // Whether a posting above the version seen names the segment or one of its spans. Takes no memory.
-    #[tactic(auto, using(crate::proofs::Registers::stored_is))]
-    fn changed(&self, segment: u32, seen: u32) -> bool
-        requires { segment < length self.now.base.roads.segments }
-        ensures { result ≡ has_changed self.now seen segment }
-    {
-        self.store.changed(self.base.network(), segment, seen)
-    }
-
     // Answers that a segment fails. Takes no memory.
     fn answer_fails<L: Ledger>(&self, truck: u32, segment: u32, steps: &mut Steps<L>) -> Answer
         requires truck { truck < length self.now.base.fleet }
@@ -250,7 +217,7 @@ impl Register {
         steps: &mut Steps<L>,
     ) -> Answer
         requires truck { truck < length self.now.base.fleet }
-        requires met { least_out self.now.base (state_seen self.now seen) truck nodes.now ≡ None }
+        requires met { least_out self.now.base (state_then self.now seen) truck nodes.now ≡ None }
         ensures reply { result ≡ found_reply self.now truck (what.Cut nodes.now) }
         ensures steps { IsRetested self.now seen (what.Cut nodes.now) steps.old steps.new }
     {
@@ -293,49 +260,35 @@ impl Register {
         ensures after { IfOk result (Permits self.old caller application.now seen self.new) }
         ensures unchanged { OnErr result (self.new ≡ self.old) }
     {
-        let (number, version) = (self.book.len() + 1, self.store.version());
+        let trip = trip_along(self.alloc(), caller, application, route)?;
+        let (number, version) = (self.next_number(), self.version());
         let answer = Answer::new(Reply::Issued {
             number,
             version,
-            route: route.try_clone(self.alloc)?,
+            route: trip.route.clone()?,
         })?;
-        self.enter_permit(caller, application, seen, route)?;
+        self.enter_permit(trip, seen)?;
         Ok(answer)
     }
+}
 
-    // Enters the next permit into the book and the index, for a route that meets now and was found at the version seen.
-    fn enter_permit(
-        &mut self,
-        caller: u32,
-        application: &Application,
-        seen: u32,
-        route: &Numbers,
-    ) -> Result<(), NoMemory>
-        requires truck { application.now.truck < length self.old.base.fleet }
-        requires segments { All (λ s. s < length self.old.base.roads.segments) route.now }
-        requires meets { first_in self.old.base (state_now self.old) application.now.truck route.now ≡ None }
-        requires room { HasRoom self.old.machine }
-        ensures base { self.new.base ≡ self.old.base }
-        ensures after { OnOk result (Permits self.old caller application.now seen self.new (next_issue self.old route.now)) }
-        ensures unchanged { OnErr result (self.new ≡ self.old) }
-    {
-        let number = self.book.len() + 1;
-        let version = self.store.version();
-        let own = route.try_clone(self.alloc)?;
-        self.index.add(number, route)?;
-        let (truck, first, last) = (application.truck(), application.first(), application.last());
-        match self
-            .book
-            .issue(caller, truck, own, first, last, version, seen)
-        {
-            Ok(_number) => Ok(()),
-            Err(BookRefusal::NoMemory) => {
-                self.index.remove(number, route);
-                Err(NoMemory)
-            }
-            Err(BookRefusal::Full) => unreachable!(),
-        }
-    }
+// The trip of a caller's application along a route, which is copied.
+fn trip_along(
+    alloc: Global,
+    caller: u32,
+    application: &Application,
+    route: &Numbers,
+) -> Result<Trip, NoMemory>
+    ensures { IfOk result (λ trip. trip ≡ trip_for caller application.now route.now) }
+{
+    let route = SharedRoute::along(alloc, route.try_clone(alloc)?)?;
+    Ok(Trip {
+        caller,
+        truck: application.truck(),
+        route,
+        first: application.first(),
+        last: application.last(),
+    })
 }
 
 // What is answered before the roads are looked at. Takes no memory.

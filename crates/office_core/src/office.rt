@@ -10,7 +10,7 @@ ghost use Rattle.office_core.specs.Machine.{IsLegal, MayAsk, state_in, version_o
 ghost use Rattle.office_core.specs.Costs.{IsCost};
 ghost use Rattle.office_core.specs.Offices.{HasPlace, IsFull, IsStep, entry, grown, machine_in, newly_opened, stored_in_office};
 ghost use Rattle.office_core.specs.Promises.{KeepsPromises};
-ghost use Rattle.office_core.specs.RecallLists.{RecalledWereIssued};
+ghost use Rattle.office_core.specs.Recalled.{RecalledWereIssued};
 
 use crate::register::Register;
 use clearance_rules::Steps;

@@ -19,10 +19,11 @@ impl Register {
         ensures given { result ≡ day_reply self.old.machine.day day }
         ensures after { self.new.machine ≡ with_day self.old.machine result }
     {
-        if day < self.day {
-            return Answer::plain(Reply::DayBack { day: self.day });
+        let today = self.today();
+        if day < today {
+            return Answer::plain(Reply::DayBack { day: today });
         }
-        self.day = day;
+        self.keep_day(day);
         Answer::plain(Reply::DayIs { day })
     }
 
@@ -43,18 +44,17 @@ impl Register {
         ensures given { Gives self.old caller (call.Surrender number) result }
         ensures after { Leaves self.old caller (call.Surrender number) self.new result }
     {
-        let Some(permit) = self.book.get(number) else {
+        let Some(permit) = self.permit(number) else {
             return Answer::plain(Reply::Unknown);
         };
-        if permit.caller != caller {
+        if permit.trip.caller != caller {
             return Answer::plain(Reply::NotYours);
         }
-        let status = permit.status(self.day);
+        let status = permit.status(self.today());
         if !status.is_in_force() {
             return Answer::plain(Reply::NotInForce { status });
         }
-        self.index.remove(number, &permit.route);
-        self.book.surrender(number);
+        self.take_back(number);
         Answer::plain(Reply::Surrendered)
     }
 }
@@ -65,10 +65,10 @@ fn shown(permit: &Permit, number: u32, day: Day) -> Reply
 {
     Reply::Shown {
         number,
-        caller: permit.caller,
-        truck: permit.truck,
-        first: permit.first,
-        last: permit.last,
+        caller: permit.trip.caller,
+        truck: permit.trip.truck,
+        first: permit.trip.first,
+        last: permit.trip.last,
         version: permit.version,
         seen: permit.seen,
         status: permit.status(day),

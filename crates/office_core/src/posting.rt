@@ -4,24 +4,19 @@ ghost use Rattle.std.specs.Prelude.{◌≡◌, ◌+◌, ◌<◌, ◌≤◌, ◌+
 ghost use Rattle.restriction_log.specs.Changes.{takes};
 ghost use Rattle.restriction_log.specs.States.{AreOf};
 ghost use Rattle.trip_analysis.specs.Findings.{is_passable};
-ghost use Rattle.permit_book.specs.Permits.{is_issued, is_live, marked, permit_of};
-ghost use Rattle.permit_book.specs.declared.permit.Mark.TheVariants as mark;
 ghost use Rattle.office_words.specs.declared.entry.Call.TheVariants as call;
-ghost use Rattle.office_core.specs.Recalls.{AreLive, AreVerdicts, marked_all};
-ghost use Rattle.office_core.specs.Users.{IsIndexed, IsUser, users_of};
+ghost use Rattle.office_core.specs.Recalls.{AreVerdicts};
+ghost use Rattle.office_core.specs.Users.{IsUser, users_of};
 ghost use Rattle.office_core.specs.Machine.{HasRoom};
-ghost use Rattle.office_core.specs.Registers.{Costs, IsNext, MeetElsewhere, Posts, is_recalled_in, posting_reply, recalls_of};
+ghost use Rattle.office_core.specs.Registers.{Costs, MeetElsewhere, Posts, is_recalled_in, posting_reply, recalls_of};
 
 use crate::answer::Answer;
 use crate::register::Register;
 use clearance_rules::Steps;
 use names::NoMemory;
 use office_words::Reply;
-use permit_book::Book;
-use recall_index::Index;
 use restriction_log::{Change, PostRefusal, State, touched};
 use road_graph::Numbers;
-use snapshot_store::Next;
 use std::alloc::{AllocError, Global};
 use std::sync::ledger::Ledger;
 use trip_analysis::is_passable;
@@ -41,31 +36,18 @@ impl Register {
         ensures lack { OnErr result (takes self.old.base.roads change.now ≡ true) }
         ensures cost { Costs self.old (call.Post change.now) steps.old steps.new }
     {
-        let next = match self.store.next(self.base.network(), *change) {
+        let next = match self.next(change) {
             Ok(next) => next,
             Err(PostRefusal::Range) => return Ok(Answer::plain(Reply::OutOfRange)),
             Err(PostRefusal::NoMemory) => return Err(NoMemory),
             Err(PostRefusal::Full) => unreachable!(),
         };
-        let segment = touched(self.base.network(), change);
+        let segment = touched(self.base().network(), change);
         let recalled = Numbers::of(self.recalled_by(next.state(), segment, steps)?);
         let version = self.version() + 1;
         let answer = Answer::new(Reply::Posted { version, recalled })?;
         self.enter(next, answer.numbers())?;
         Ok(answer)
-    }
-
-    // Goes on to the state that a change makes, and recalls these permits.
-    fn enter(&mut self, next: Next, recalled: &[u32]) -> Result<(), NoMemory>
-        requires next { IsNext self.old next }
-        requires recalled { recalled.now ≡ recalls_of self.old next.state }
-        ensures base { self.new.base ≡ self.old.base }
-        ensures after { OnOk result (Posts self.old next.change self.new (posting_reply self.old next.change)) }
-        ensures unchanged { OnErr result (self.new ≡ self.old) }
-    {
-        let version = self.store.commit(self.base.network(), next)?;
-        recall_each(&mut self.book, &mut self.index, recalled, version);
-        Ok(())
     }
 
     // The numbers of the permits that a state recalls, where each in force is known to meet it but at one segment: those
@@ -82,12 +64,12 @@ impl Register {
         ensures numbers { IfOk result (λ numbers. numbers.items ≡ recalls_of self.now state.now) }
         ensures steps { steps.new ≤ steps.old + length (users_of segment self.now.machine.permits) }
     {
-        let mut numbers = Vec::new(self.alloc);
+        let mut numbers = Vec::new(self.alloc());
         let users = self.users(segment);
         if users.is_empty() {
             return Ok(numbers);
         }
-        let mut verdicts = none_judged(self.alloc, self.base().fleet().len())?;
+        let mut verdicts = none_judged(self.alloc(), self.base().fleet().len())?;
         for i in 0..users.len() {
             let is_one = self.is_recalled(state, segment, users[i], &mut verdicts, steps);
             push_if(&mut numbers, is_one, users[i])?;
@@ -115,7 +97,7 @@ impl Register {
     {
         let permit = &self.permits()[number as usize - 1];
         permit.status(self.today()).is_in_force()
-            && !self.meets(state, segment, permit.truck, verdicts, steps)
+            && !self.meets(state, segment, permit.trip.truck, verdicts, steps)
     }
 
     // Whether a truck may pass a segment in a state. A truck is judged but once, however many permits it has there.
@@ -159,30 +141,4 @@ fn push_if(numbers: &mut Vec<u32>, is_one: bool, number: u32) -> Result<(), Allo
         numbers.push(number)?;
     }
     Ok(())
-}
-
-// Recalls these permits, which are live, and takes them out of the index. The last comes first: numbers rise, so each stands at
-// the end of its lists.
-fn recall_each(book: &mut Book, index: &mut Index, numbers: &[u32], version: u32)
-    requires live { AreLive (mark.Recalled version) book.old numbers.now }
-    requires index { IsIndexed (length index.old) book.old index.old }
-    ensures marked { book.new ≡ marked_all (mark.Recalled version) book.old numbers.now }
-    ensures index { IsIndexed (length index.old) book.new index.new }
-{
-    for i in (0..numbers.len()).rev() {
-        recall(book, index, numbers[i], version);
-    }
-}
-
-// Recalls a permit, which is live, and takes it out of the index.
-fn recall(book: &mut Book, index: &mut Index, number: u32, version: u32)
-    requires issued { is_issued book.old number ≡ true }
-    requires live { is_live (permit_of book.old number).mark ≡ true }
-    requires index { IsIndexed (length index.old) book.old index.old }
-    ensures marked { book.new ≡ marked book.old number (mark.Recalled version) }
-    ensures index { IsIndexed (length index.old) book.new index.new }
-{
-    let permit = &book.permits()[number as usize - 1];
-    index.remove(number, &permit.route);
-    book.recall(number, version);
 }

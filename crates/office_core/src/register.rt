@@ -1,46 +1,51 @@
-// What a permit office keeps, and how it answers a call.
+// What a permit office keeps, and what may be done with it.
 
-ghost use Rattle.std.specs.Prelude.{◌≡◌, ◌+◌, ◌<◌, length, All, IfOk, IfSome, OnErr, is_some};
+ghost use Rattle.std.specs.Prelude.{◌≡◌, ◌+◌, ◌<◌, ◌≤◌, length, All, IfErr, IfNone, IfOk, IfSome, None, OnErr, OnOk, false, is_some, true};
 ghost use Rattle.std.specs.Arc.{arc_value};
 ghost use Rattle.road_graph.specs.Roads.{IsRoads};
+ghost use Rattle.restriction_log.specs.Changes.{touched};
+ghost use Rattle.restriction_log.specs.Logs.{IsPostCause, post_refusal};
 ghost use Rattle.restriction_log.specs.States.{AreOf};
-ghost use Rattle.trip_analysis.specs.Findings.{limit_for};
-ghost use Rattle.permit_book.specs.Permits.{is_issued, permit_of};
+ghost use Rattle.permit_days.specs.Days.{is_before};
+ghost use Rattle.trip_analysis.specs.Applications.{Sound};
+ghost use Rattle.trip_analysis.specs.Findings.{InRange, first_on as first_in, limit_for};
+ghost use Rattle.permit_book.specs.Permits.{AreNumbered, in_force, is_issued, permit_of};
+ghost use Rattle.office_words.specs.declared.entry.Reply.TheVariants as reply;
 ghost use Rattle.office_core.specs.Recalls.{IsRanged};
 ghost use Rattle.office_core.specs.Users.{IsUser, users_of};
-ghost use Rattle.office_core.specs.Machine.{HasRoom, IsAnswer, MayAsk, opened, version_of};
-ghost use Rattle.office_core.specs.Registers.{Costs, Gives, Leaves, MayLack, state_now, stored_now};
+ghost use Rattle.office_core.specs.Machine.{HasRoom, opened, version_of, with_day, with_surrender};
+ghost use Rattle.office_core.specs.Registers.{AreUnchanged, Enters, HeldAt, IsFoundNow, IsNext, MeetElsewhere, Posts, has_changed, posting_reply, recalls_of, state_now, stored_now};
 
-use crate::answer::Answer;
+use crate::recall_marks::recall_each;
 use clearance_rules::{Limit, Steps};
 use names::NoMemory;
-use office_words::{Call, Reply};
-use permit_book::{Book, Permit};
+use permit_book::{Book, BookRefusal, Permit, Trip};
 use permit_days::Day;
 use recall_index::Index;
-use restriction_log::State;
-use snapshot_store::{Snapshot, Store};
+use restriction_log::{Change, PostRefusal, State};
+use snapshot_store::{Next, Snapshot, Store};
 use std::alloc::Global;
 use std::marker::Model;
 use std::sync::Arc;
 use std::sync::ledger::Ledger;
-use trip_analysis::{Base, Follower, failing_limit};
+use trip_analysis::{Application, Base, Follower, Proposal, failing_limit};
 
 /// What a permit office keeps: what it is about, what is posted and in force on the roads, the permits, the day, and what is
 /// known of each truck.
 ///
-/// Contracts see what it is about, and the machine: the postings, the permits and the day. The rest follows from these.
+/// Contracts see what it is about, and the machine: the postings, the permits and the day. The rest follows from these. Its
+/// fields are written here alone, each by a method that says what it leaves.
 #[derive(Drop)]
 pub(crate) struct Register {
-    pub(crate) alloc: Global,
-    pub(crate) base: Arc<Base, Global>,
-    pub(crate) day: Day,
-    pub(crate) store: Store,
-    pub(crate) book: Book,
+    alloc: Global,
+    base: Arc<Base, Global>,
+    day: Day,
+    store: Store,
+    book: Book,
     // the live permits by segment
-    pub(crate) index: Index,
+    index: Index,
     // finds what is asked for without a proposal, and goes on to the current version only then
-    pub(crate) follower: Follower,
+    follower: Follower,
 }
 
 impl Model for Register {
@@ -137,6 +142,7 @@ impl Register {
         requires { segment < length self.now.base.roads.segments }
         ensures value { result.now ≡ users_of segment self.now.machine.permits }
         ensures each { All (IsUser self.now.machine.permits segment) result.now }
+        ensures numbered { AreNumbered 0 self.now.machine.permits }
     {
         self.index.using(segment)
     }
@@ -156,56 +162,123 @@ impl Register {
         failing_limit(self.base(), self.state(), truck, segment, steps)
     }
 
-    /// Answers a call. Where memory was wanting, the answer says so and nothing has changed.
-    pub(crate) fn answer<L: Ledger>(
-        &mut self,
-        caller: u32,
-        call: &Call,
-        steps: &mut Steps<L>,
-    ) -> Answer
-        requires asked { MayAsk self.old.base self.old.machine call.now }
+    /// The number of the next permit. Takes no memory.
+    pub(crate) fn next_number(&self) -> u32
+        ensures { result ≡ length self.now.machine.permits + 1 }
+    {
+        self.book.len() + 1
+    }
+
+    /// The allocator of what it makes.
+    pub(crate) fn alloc(&self) -> Global {
+        self.alloc
+    }
+
+    /// The first segment from a number on that a posting above the version seen names, it or one of its spans. Takes no memory.
+    #[tactic(auto, using(crate::proofs::Registers::stored_is))]
+    pub(crate) fn next_changed(&self, seen: u32, from: u32) -> Option<u32>
+        ensures changed { IfSome result (λ s. has_changed self.now seen s ≡ true) }
+        ensures within { IfSome result (λ s. (from ≤ s) × (s < length self.now.base.roads.segments)) }
+        ensures few { IfSome result (λ s. s < 16384) }
+        ensures first { IfSome result (λ s. AreUnchanged self.now seen from s) }
+        ensures none { IfNone result (AreUnchanged self.now seen from (length self.now.base.roads.segments)) }
+    {
+        self.store.next_changed(seen, from)
+    }
+
+    /// Whether a posting above the version seen names the segment or one of its spans. Takes no memory.
+    #[tactic(auto, using(crate::proofs::Registers::stored_is))]
+    pub(crate) fn changed(&self, segment: u32, seen: u32) -> bool
+        requires { segment < length self.now.base.roads.segments }
+        ensures { result ≡ has_changed self.now seen segment }
+    {
+        self.store.changed(self.base.network(), segment, seen)
+    }
+
+    /// What the posting of a change would make of the roads. Refusals, in this order: `Range`, `Full`, `NoMemory`.
+    #[tactic(auto, using(crate::proofs::Registers::stored_is))]
+    pub(crate) fn next(&self, change: &Change) -> Result<Next, PostRefusal>
+        ensures change { IfOk result (λ next. next.change ≡ change.now) }
+        ensures next { IfOk result (IsNext self.now) }
+        ensures of_roads { IfOk result (λ next. AreOf self.now.base.roads next.state) }
+        ensures elsewhere { IfOk result (λ next. MeetElsewhere self.now next.state (touched self.now.base.roads change.now)) }
+        ensures refused { IfErr result (IsPostCause (post_refusal self.now.base.roads self.now.machine.postings change.now)) }
+    {
+        self.store.next(self.base.network(), *change)
+    }
+
+    /// What the office finds itself, at the current version.
+    pub(crate) fn find(&mut self, application: &Application) -> Result<Proposal, NoMemory>
+        requires { Sound self.old.base application.now }
+        ensures same { self.new ≡ self.old }
+        ensures seen { IfOk result (λ proposal. proposal.seen ≡ version_of self.old.machine) }
+        ensures found { IfOk result (λ proposal. IsFoundNow self.old application.now proposal.what) }
+        ensures within { IfOk result (λ proposal. InRange self.old.base proposal.what) }
+        ensures held { IfOk result (λ found. HeldAt self.old found.seen application.now.truck found.what) }
+    {
+        let snapshot = self.store.snapshot()?;
+        self.follower
+            .analyse(self.alloc, &self.base, snapshot, application)
+    }
+
+    /// Enters the next permit into the book and the index, for a trip that meets now and whose route was found at the version
+    /// seen.
+    pub(crate) fn enter_permit(&mut self, trip: Trip, seen: u32) -> Result<(), NoMemory>
+        requires truck { trip.truck < length self.old.base.fleet }
+        requires segments { All (λ s. s < length self.old.base.roads.segments) trip.route }
+        requires meets { first_in self.old.base (state_now self.old) trip.truck trip.route ≡ None }
         requires room { HasRoom self.old.machine }
         ensures base { self.new.base ≡ self.old.base }
-        ensures answer { IsAnswer self.old.base self.old.machine caller call.now result }
-        ensures after { Leaves self.old caller call.now self.new result }
-        ensures cost { Costs self.old call.now steps.old steps.new }
+        ensures after { OnOk result (Enters self.old trip seen self.new) }
+        ensures unchanged { OnErr result (self.new ≡ self.old) }
     {
-        match self.given(caller, call, steps) {
-            Ok(answer) => answer,
-            Err(NoMemory) => Answer::plain(Reply::NoMemory),
+        let number = self.book.len() + 1;
+        let version = self.store.version();
+        let route = trip.route.clone()?;
+        let segments = route.as_slice();
+        self.index.add(number, segments)?;
+        match self.book.issue(trip, version, seen) {
+            Ok(_number) => Ok(()),
+            Err(BookRefusal::NoMemory) => {
+                self.index.remove(number, segments);
+                Err(NoMemory)
+            }
+            Err(BookRefusal::Full) => unreachable!(),
         }
     }
 
-    // Answers a call, where memory suffices.
-    fn given<L: Ledger>(
-        &mut self,
-        caller: u32,
-        call: &Call,
-        steps: &mut Steps<L>,
-    ) -> Result<Answer, NoMemory>
-        requires asked { MayAsk self.old.base self.old.machine call.now }
-        requires room { HasRoom self.old.machine }
+    /// Goes on to the state that a change makes, and recalls these permits.
+    pub(crate) fn enter(&mut self, next: Next, recalled: &[u32]) -> Result<(), NoMemory>
+        requires next { IsNext self.old next }
+        requires recalled { recalled.now ≡ recalls_of self.old next.state }
         ensures base { self.new.base ≡ self.old.base }
-        ensures given { IfOk result (Gives self.old caller call.now) }
-        ensures after { IfOk result (Leaves self.old caller call.now self.new) }
+        ensures after { OnOk result (Posts self.old next.change self.new (posting_reply self.old next.change)) }
         ensures unchanged { OnErr result (self.new ≡ self.old) }
-        ensures lack { OnErr result (MayLack self.old call.now) }
-        ensures cost { Costs self.old call.now steps.old steps.new }
     {
-        match call {
-            Call::Snapshot => {
-                let version = self.version();
-                Ok(Answer::plain(Reply::SnapshotAt { version }))
-            }
-            Call::Submit {
-                application,
-                proposal,
-            } => self.submit(caller, application, proposal, steps),
-            Call::Held { application } => self.held(caller, application, steps),
-            Call::Post { change } => self.post(change, steps),
-            Call::Day { day } => Ok(self.set_day(*day)),
-            Call::Surrender { number } => Ok(self.surrender(caller, *number)),
-            Call::Show { number } => Ok(self.show(*number)),
-        }
+        let version = self.store.commit(self.base.network(), next)?;
+        recall_each(&mut self.book, &mut self.index, recalled, version);
+        Ok(())
+    }
+
+    /// Keeps a day that is not before the kept one. Takes no memory.
+    pub(crate) fn keep_day(&mut self, day: Day)
+        requires { is_before day self.old.machine.day ≡ false }
+        ensures base { self.new.base ≡ self.old.base }
+        ensures after { self.new.machine ≡ with_day self.old.machine (reply.DayIs day) }
+    {
+        self.day = day;
+    }
+
+    /// Takes back a permit in force. Takes no memory.
+    #[tactic(auto, using(crate::proofs::Forces::live_in_force))]
+    pub(crate) fn take_back(&mut self, number: u32)
+        requires issued { is_issued self.old.machine.permits number ≡ true }
+        requires in_force { in_force self.old.machine.day (permit_of self.old.machine.permits number) ≡ true }
+        ensures base { self.new.base ≡ self.old.base }
+        ensures after { self.new.machine ≡ with_surrender self.old.machine number reply.Surrendered }
+    {
+        let permit = &self.book.permits()[number as usize - 1];
+        self.index.remove(number, permit.trip.route.as_slice());
+        self.book.surrender(number);
     }
 }

@@ -1,4 +1,4 @@
 pub mod Turns
 pub mod Looking
 pub mod Answering
-pub mod Crosses
+pub mod Sending

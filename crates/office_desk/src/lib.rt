@@ -12,7 +12,7 @@
 //! what a step answers is that of the office. Nothing is said of waiting: not that a turn ever comes, nor when.
 //!
 //! A desk may be shared by threads, and a pass or a seat may go to one. An office has too many parts for a search to find
-//! that by itself, so a call that starts threads cites `desk_sync`, `pass_send` or `seat_send` of `proofs/Crosses.antt`.
+//! that by itself, so a call that starts threads cites `desk_sync`, `pass_send` or `seat_send` of `proofs/Sending.antt`.
 #![tactic(auto)]
 
 mod desk;

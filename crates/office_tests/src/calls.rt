@@ -10,8 +10,9 @@ use crate::fixtures::{ALONE, AROUND, application, base, day, full_at, named, off
 use clearance_rules::Steps;
 use journal_text::print;
 use notice_desk::Recall;
-use office_core::{Looked, Office, OfficeCalls, OneSeat, recalls};
+use office_core::{Looked, Office, OfficeCalls, OneSeat};
 use office_words::{Call, Reply};
+use recall_list::recalls;
 use restriction_log::Change;
 use std::alloc::Global;
 use std::marker::Brand;

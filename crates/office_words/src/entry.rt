@@ -5,6 +5,7 @@ use permit_book::Status;
 use permit_days::Day;
 use restriction_log::Change;
 use road_graph::Numbers;
+use shared_route::SharedRoute;
 use trip_analysis::{Application, Proposal};
 
 /// What is asked of the office.
@@ -59,7 +60,7 @@ pub enum Reply {
     Issued {
         number: u32,
         version: u32,
-        route: Numbers,
+        route: SharedRoute,
     },
     /// At this version the trip fails this limit.
     Refused {

@@ -2,33 +2,33 @@
 use Rattle.std.specs.Prelude.{◌≡◌, ◌+◌, ◌-◌, ◌∷◌, [], List, ℕ, Bool, true, false, get_or, set, length, Option, Some, None, if◌then◌else◌, nat_le, ◌&&◌}
 use Rattle.permit_days.specs.Days.{is_before}
 use Rattle.permit_book.specs.declared.permit.Permit.{Permit}
+use Rattle.permit_book.specs.declared.trip.Trip.{Trip}
 use Rattle.permit_book.specs.declared.permit.Mark.{Mark}
 use Rattle.permit_book.specs.declared.permit.Mark.TheVariants as mark
 use Rattle.permit_book.specs.declared.permit.Status.{Status}
 use Rattle.permit_book.specs.declared.permit.Status.TheVariants as status
 
+-- the trip of a caller's truck along a route, from a first day to a last one
+abbrev pub trip_of : ℕ → ℕ → List ℕ → List ℕ → List ℕ → Trip
+trip_of caller truck route first last = record { caller = caller; truck = truck; route = route; first = first; last = last }
+
 -- what stands where no permit does
 abbrev pub no_permit : Permit
-no_permit = record { number = 0; caller = 0; truck = 0; route = []; first = []; last = []; version = 0; seen = 0; mark = mark.Surrendered }
+no_permit = record { number = 0; trip = trip_of 0 0 [] [] []; version = 0; seen = 0; mark = mark.Surrendered }
 
 -- a permit as it is issued: live
-abbrev pub new_permit : ℕ → ℕ → ℕ → List ℕ → List ℕ → List ℕ → ℕ → ℕ → Permit
-new_permit number caller truck route first last version seen = record {
+abbrev pub new_permit : ℕ → Trip → ℕ → ℕ → Permit
+new_permit number trip version seen = record {
   number = number;
-  caller = caller;
-  truck = truck;
-  route = route;
-  first = first;
-  last = last;
+  trip = trip;
   version = version;
   seen = seen;
   mark = mark.Live;
 }
 
 -- the next one after these permits
-abbrev pub next_permit : List Permit → ℕ → ℕ → List ℕ → List ℕ → List ℕ → ℕ → ℕ → Permit
-next_permit permits caller truck route first last version seen =
-    new_permit (length permits + 1) caller truck route first last version seen
+abbrev pub next_permit : List Permit → Trip → ℕ → ℕ → Permit
+next_permit permits trip version seen = new_permit (length permits + 1) trip version seen
 
 -- the permit of a number, counted from 1
 abbrev pub permit_of : List Permit → ℕ → Permit
@@ -56,7 +56,7 @@ status_by mark.Surrendered last day = status.Surrendered
 
 -- what a permit is on a day
 abbrev pub status_of : Permit → List ℕ → Status
-status_of p day = status_by p.mark p.last day
+status_of p day = status_by p.mark p.trip.last day
 
 -- what the permit of a number is on a day, if there is one
 abbrev pub status_in : List Permit → ℕ → List ℕ → Option Status

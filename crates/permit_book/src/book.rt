@@ -2,8 +2,8 @@
 
 use crate::permit::{Mark, Permit, Status};
 use crate::refusal::BookRefusal;
+use crate::trip::Trip;
 use permit_days::Day;
-use road_graph::Numbers;
 use std::alloc::Global;
 use std::marker::Model;
 
@@ -48,19 +48,10 @@ impl Book {
     /// Issues the next permit, live, and answers its number.
     ///
     /// Refusals, in this order: `Full` at 1,000,000 permits, `NoMemory`. After each the book is as it was.
-    pub fn issue(
-        &mut self,
-        caller: u32,
-        truck: u32,
-        route: Numbers,
-        first: Day,
-        last: Day,
-        version: u32,
-        seen: u32,
-    ) -> Result<u32, BookRefusal>
+    pub fn issue(&mut self, trip: Trip, version: u32, seen: u32) -> Result<u32, BookRefusal>
         ensures number { IfOk result (λ number. number ≡ length self.old + 1) }
         ensures issued { OnOk result
-            (self.new ≡ self.old ++ next_permit self.old caller truck route first last version seen ∷ []) }
+            (self.new ≡ self.old ++ next_permit self.old trip version seen ∷ []) }
         ensures room { OnOk result (issue_refusal self.old ≡ None) }
         ensures refused { IfErr result (λ refusal. IsIssueCause (issue_refusal self.old) refusal) }
         ensures unchanged { OnErr result (self.new ≡ self.old) }
@@ -73,11 +64,7 @@ impl Book {
         self.permits.reserve(1)?;
         self.permits.push_reserved(Permit {
             number,
-            caller,
-            truck,
-            route,
-            first,
-            last,
+            trip,
             version,
             seen,
             mark: Mark::Live,

@@ -11,7 +11,9 @@
 mod book;
 mod permit;
 mod refusal;
+mod trip;
 
 pub use book::Book;
 pub use permit::{Mark, Permit, Status};
 pub use refusal::BookRefusal;
+pub use trip::Trip;

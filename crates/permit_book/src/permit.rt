@@ -3,8 +3,8 @@
 ghost use Rattle.std.specs.Prelude.{◌≡◌};
 ghost use Rattle.permit_book.specs.Permits.{is_in_force, is_live, status_of};
 
+use crate::trip::Trip;
 use permit_days::Day;
-use road_graph::Numbers;
 
 /// What became of a permit.
 #[derive(Clone, Copy, Debug, PartialEq, Eq)]
@@ -35,16 +35,8 @@ pub enum Status {
 pub struct Permit {
     /// Its number, from 1 on.
     pub number: u32,
-    /// Who asked for it.
-    pub caller: u32,
-    /// The truck, by its place in the fleet.
-    pub truck: u32,
-    /// The segments that it allows, in the order of the trip.
-    pub route: Numbers,
-    /// The first day on which it holds.
-    pub first: Day,
-    /// The last day on which it holds.
-    pub last: Day,
+    /// Whom it allows what, and on which days it holds.
+    pub trip: Trip,
     /// The number of the last posting when it was issued.
     pub version: u32,
     /// The number of the last posting when its route was found.
@@ -83,7 +75,7 @@ impl Permit {
         ensures { result ≡ status_of self.now today }
     {
         match self.mark {
-            Mark::Live if self.last < today => Status::Expired,
+            Mark::Live if self.trip.last < today => Status::Expired,
             Mark::Live => Status::InForce,
             Mark::Recalled { version } => Status::Recalled { version },
             Mark::Surrendered => Status::Surrendered,

@@ -5,7 +5,7 @@ use Rattle.notice_desk.specs.Notices.{recalls_for}
 use Rattle.notice_desk.specs.Standings.{Standing, new_standing}
 use Rattle.notice_desk.specs.declared.notice.Recall.{Recall}
 use Rattle.notice_desk.specs.declared.notice.Whom.TheVariants as whom
-use Rattle.office_core.specs.RecallLists.{recalls_in}
+use Rattle.recall_list.specs.RecallLists.{recalls_in}
 use Rattle.permit_program.specs.Laws.{ListenersHearAll}
 use Rattle.permit_program.specs.Laws.{HasListener, HeardAll}
 use Rattle.permit_program.specs.Runs.{Outside, WroteAll}

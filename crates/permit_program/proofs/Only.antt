@@ -14,7 +14,7 @@ use Rattle.journal_text.specs.Journals.{journal_of}
 use Rattle.office_words.specs.declared.entry.Entry.{Entry}
 use Rattle.day_run.specs.Served.{IsServed, LoneActorsAreOne}
 use Rattle.notice_desk.specs.declared.notice.Recall.{Recall}
-use Rattle.office_core.specs.RecallLists.{recalls_in}
+use Rattle.recall_list.specs.RecallLists.{recalls_in}
 use Rattle.day_maker.specs.Made.{made_day}
 use Rattle.day_trial.specs.Serial.{IsSerial, SerialHistoriesAreOne}
 use Rattle.day_trial.specs.Summaries.{summary_of}

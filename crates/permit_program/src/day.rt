@@ -11,7 +11,7 @@ use day_text::{DayFile, read_day};
 use journal_text::print;
 use names::NoMemory;
 use notice_desk::Recall;
-use office_core::recalls;
+use recall_list::recalls;
 use std::alloc::Global;
 use std::sync::Wait;
 use std::thread::Threads;

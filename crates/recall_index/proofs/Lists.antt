@@ -1,9 +1,9 @@
 -- The lists of an index, while a number is added to those of a route or taken out of them.
-use Rattle.std.proofs.Common.{◌≡◌, ◌≢◌, ◌∷◌, ◌++◌, [], List, ℕ, ◌+◌, ◌<◌, ◌≤◌, ◌⊎◌, inl, inr, Bool, true, false, nat_eq, not, ◌||◌, cond, length, get_or, set, take, refl, ap, sym, subst, ◌∙◌, arith}
+use Rattle.std.proofs.Common.{◌≡◌, ◌≢◌, ◌∷◌, ◌++◌, [], List, ℕ, ◌+◌, ◌<◌, ◌⊎◌, inl, inr, Bool, true, false, nat_eq, not, ◌||◌, cond, length, get_or, set, take, refl, ap, sym, ◌∙◌, arith}
 use Rattle.std.specs.List.{All}
 use Rattle.std.proofs.lemmas.Bool.{cases_eq, eq-eqb, ne_eqb, or_right, true≢false}
 use Rattle.std.proofs.lemmas.List.{append-nil, ext_get_or, get_or-set_other, get_or-set_same, length-set, set-get_or}
-use Rattle.std.proofs.lemmas.List.Elements.{All-append, All-cons, All-nil, All-weaker, filter-append, filter_passes}
+use Rattle.std.proofs.lemmas.List.Elements.{filter-append, filter_passes}
 use Rattle.std.proofs.lemmas.List.Folds.{list_any-append, list_any_more}
 use Rattle.recall_index.specs.Uses.{AreBelow, IsAdded, IsRemoved, IsTakenOut, IsThere, Lists, is_in, using_in, with_last, without}
 use Rattle.recall_index.proofs.Rising.{absent, without_absent}
@@ -57,12 +57,6 @@ taken_again : (n : ℕ) (xs : List ℕ) (b : Bool) → without n (taken n xs b) 
 taken_again n xs true = without_twice n xs
 taken_again n xs false = refl
 
-pub none_taken : (old : Lists) (n : ℕ) → IsTakenOut old n [] old
-none_taken old n = record { many = refl; using = λ s low. refl }
-
-pub none_added : (old : Lists) (n : ℕ) → IsAdded old n [] old
-none_added old n = record { many = refl; using = λ s low. sym (append-nil (using_in old s)) }
-
 -- one list is another
 at_one : (lists : Lists) (at s : ℕ) (xs : List ℕ) → at ≡ s → at < length lists → using_in (set lists at xs) s ≡ xs
 at_one lists at s xs e here = ap (λ k. using_in (set lists at xs) k) (sym e) ∙ get_or-set_same lists at xs [] here
@@ -97,16 +91,6 @@ module _ (old lists new : Lists) (n at : ℕ) (route : List ℕ) (i : ℕ) (low 
       by s within (inr ne) = at_others lists at s (with_last n (using_in lists at)) ne ∙ (had.using s within
           ∙ ap (λ b. using_in old s ++ end n b) (sym (ap (λ b. is_in s (take i route) || b) (ne_eqb at s ne) ∙ either (is_in s (take i route)))))
 
-  -- the numbers where the next one is put are not above it
-  pub may_add : AreBelow n old → IsAdded old n (take i route) lists → All (λ k. k ≤ n) (using_in lists at)
-  may_add below had = let within : at < length old = omega (arith, here, had.many) in
-      subst (All (λ k. k ≤ n)) (sym (had.using at within))
-      (All-append (λ k. k ≤ n) (using_in old at) (end n (is_in at (take i route))) (All-weaker (λ k. k < n) (λ k. k ≤ n) (λ k h. omega (arith, h)) (using_in old at) (below at within)) (at_end (is_in at (take i route))))
-    where
-      at_end : (b : Bool) → All (λ k. k ≤ n) (end n b)
-      at_end true = All-cons (λ k. k ≤ n) n [] (omega arith) (All-nil (λ k. k ≤ n))
-      at_end false = All-nil (λ k. k ≤ n)
-
 -- what was added is taken out again
 pub undone : (old lists new : Lists) (n : ℕ) (route : List ℕ) → AreBelow n old → IsAdded old n route lists → IsTakenOut lists n route new → new ≡ old
 undone old lists new n route below had gone = ext_get_or [] new old (gone.many ∙ had.many) (λ s low.
@@ -128,12 +112,6 @@ gone_from_all old new n route there gone = record {
     by : (s : ℕ) → s < length old → (b : Bool) → is_in s route ≡ b → taken n (using_in old s) b ≡ without n (using_in old s)
     by s low true e = refl
     by s low false e = sym (without_absent n (using_in old s) (there s low ∙ e))
-
--- each place of a route is one of the lists
-pub place_there : (old lists : Lists) (n : ℕ) (route list : List ℕ) (i : ℕ) → All (λ s. s < length old) route → list ≡ route → i < length list → IsAdded old n (take i list) lists → get_or list i 0 < length lists
-place_there old lists n route list i inside same low had =
-    let within : i < length route = omega (arith, low, ap length same) in
-    omega (arith, inside i 0 within, ap (λ l. get_or l i 0) same, had.many)
 
 -- a list that is put back leaves all as they were
 pub put_back : (lists : Lists) (at : ℕ) (found put : List ℕ) → found ≡ get_or lists at found → put ≡ found → set lists at put ≡ lists

@@ -6,7 +6,6 @@ ghost use Rattle.recall_index.specs.Uses.{AreBelow, IsAdded, IsRemoved, IsTakenO
 
 use crate::users::Users;
 use names::NoMemory;
-use road_graph::Numbers;
 use std::alloc::Global;
 use std::marker::Model;
 
@@ -40,16 +39,15 @@ impl Index {
 
     /// Adds a number, which is above all that are there, at each segment that its route holds. `NoMemory` where no memory
     /// was left, and then the index is as it was.
-    pub fn add(&mut self, number: u32, route: &Numbers) -> Result<(), NoMemory>
+    pub fn add(&mut self, number: u32, route: &[u32]) -> Result<(), NoMemory>
         requires segments { All (λ s. s < length self.old) route.now }
         requires above { AreBelow number self.old }
         ensures added { OnOk result (IsAdded self.old number route.now self.new) }
         ensures unchanged { OnErr result (self.new ≡ self.old) }
     {
-        let segments = route.as_slice();
-        for i in 0..segments.len() {
-            if let Err(NoMemory) = self.users[segments[i] as usize].add(number) {
-                self.take_out(number, &segments[..i]);
+        for i in 0..route.len() {
+            if let Err(NoMemory) = self.users[route[i] as usize].add(number) {
+                self.take_out(number, &route[..i]);
                 return Err(NoMemory);
             }
         }
@@ -57,12 +55,12 @@ impl Index {
     }
 
     /// Takes out a number, which was added with this route. Takes no memory.
-    pub fn remove(&mut self, number: u32, route: &Numbers)
+    pub fn remove(&mut self, number: u32, route: &[u32])
         requires segments { All (λ s. s < length self.old) route.now }
         requires there { IsThere self.old number route.now }
         ensures { IsRemoved self.old number self.new }
     {
-        self.take_out(number, route.as_slice());
+        self.take_out(number, route);
     }
 
     /// The numbers whose route holds the segment, rising and each once. Takes no memory.

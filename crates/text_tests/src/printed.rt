@@ -9,6 +9,7 @@ use permit_book::Status;
 use permit_days::Day;
 use restriction_log::Change;
 use road_graph::Numbers;
+use shared_route::SharedRoute;
 use std::alloc::Global;
 use std::process::Abort;
 use trip_analysis::{Application, Proposal, What};
@@ -109,7 +110,7 @@ fn writes_what_is_submitted(rt: HostRuntime) {
             Reply::Issued {
                 number: 1,
                 version: 0,
-                route: one(&rt, alloc, 0),
+                route: SharedRoute::along(alloc, one(&rt, alloc, 0)).expect(&rt, "memory"),
             },
         ),
         "submit truck 1 from 1 to 2 asked none days 2026-03-02 2026-03-06 seen 0 route 1 = issued 1 at 0 route 1",

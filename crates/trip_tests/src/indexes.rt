@@ -1,21 +1,11 @@
-ghost use Rattle.std.specs.Prelude.{◌≡◌, IfOk};
-
 use recall_index::Index;
-use road_graph::Numbers;
-use std::alloc::{AllocError, Global};
 use std::test::Fail;
-
-fn route(alloc: Global, segments: &[u32]) -> Result<Numbers, AllocError>
-    ensures { IfOk result (λ route. route ≡ segments.now) }
-{
-    Ok(Numbers::of(Vec::from_slice(alloc, segments)?))
-}
 
 // Two routes over three segments, of which the first holds a segment twice.
 #[test]
 fn lists_those_whose_route_holds_a_segment(rt: HostRuntime) -> Result<(), Fail> {
     let alloc = rt.alloc();
-    let (first, second) = (route(alloc, &[0, 2, 0])?, route(alloc, &[2])?);
+    let (first, second) = ([0, 2, 0], [2]);
     let mut index = Index::new(alloc, 3)?;
     index.add(1, &first)?;
     assert_eq!(rt; index.using(0), [1].as_slice());

@@ -1,9 +1,10 @@
 ghost use Rattle.std.specs.Prelude.{◌≡◌, true};
 ghost use Rattle.permit_book.specs.Permits.{is_issued, is_live, permit_of};
 
-use permit_book::{Book, Mark, Status};
+use permit_book::{Book, Mark, Status, Trip};
 use permit_days::Day;
 use road_graph::Numbers;
+use shared_route::SharedRoute;
 use std::alloc::Global;
 use std::process::Abort;
 use std::test::Fail;
@@ -13,29 +14,23 @@ fn day(rt: &impl Abort, text: &[u8]) -> Day {
     Day::read(text).expect(rt, "a day")
 }
 
+// A trip along no segment, from the second day of a month to this one.
+fn trip(rt: &impl Abort, alloc: Global, caller: u32, truck: u32, last: &[u8]) -> Trip {
+    Trip {
+        caller,
+        truck,
+        route: SharedRoute::along(alloc, Numbers::of(Vec::new(alloc))).expect(rt, "memory"),
+        first: day(rt, b"2026-03-02"),
+        last: day(rt, last),
+    }
+}
+
 // A book with two permits of one route, for the days 2 to 10 and 2 to 20 of a month.
 fn two(rt: &impl Abort, alloc: Global) -> Book {
     let mut book = Book::new(alloc);
-    let first = day(rt, b"2026-03-02");
     let numbers = [
-        book.issue(
-            7,
-            1,
-            Numbers::of(Vec::new(alloc)),
-            first,
-            day(rt, b"2026-03-10"),
-            3,
-            2,
-        ),
-        book.issue(
-            9,
-            0,
-            Numbers::of(Vec::new(alloc)),
-            first,
-            day(rt, b"2026-03-20"),
-            4,
-            4,
-        ),
+        book.issue(trip(rt, alloc, 7, 1, b"2026-03-10"), 3, 2),
+        book.issue(trip(rt, alloc, 9, 0, b"2026-03-20"), 4, 4),
     ];
     assert_eq!(rt; numbers, [Ok(1), Ok(2)]);
     book

@@ -5,7 +5,7 @@ use Rattle.office_desk.specs.Desks.{calls_of}
 use Rattle.analyst_pool.specs.Ran.{IsReady}
 use Rattle.analyst_pool.specs.declared.worker.Worker.{Worker}
 use Rattle.day_run.proofs.Fresh.{all_run, are_ready, stays_at}
-use Rattle.office_desk.proofs.Crosses.{seat_send}
+use Rattle.office_desk.proofs.Sending.{seat_send}
 use Rattle.day_run.proofs.Lists.{item}
 use Rattle.day_run.specs.Workers.{AreFresh}
 use denote.Param.Send.{IsSync, sendable}

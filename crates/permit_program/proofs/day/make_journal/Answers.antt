@@ -2,7 +2,7 @@ use Rattle.std.proofs.Common.{List, ◌∙◌, ap}
 use Rattle.trip_analysis.specs.Bases.{BaseLists}
 use Rattle.journal_text.specs.Journals.{journal_of}
 use Rattle.office_words.specs.declared.entry.Entry.{Entry}
-use Rattle.office_core.specs.RecallLists.{recalls_in}
+use Rattle.recall_list.specs.RecallLists.{recalls_in}
 use Rattle.permit_program.proofs.Only.{journal_made}
 use Rattle.permit_program.proofs.day.make_journal.Goals as goal
 

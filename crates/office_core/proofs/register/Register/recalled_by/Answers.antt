@@ -6,7 +6,7 @@ use Rattle.office_core.proofs.register.Register.recalled_by.Goals as goal
 
 pub returns-then-is_empty-clause-numbers : goal.returns-then-is_empty-clause-numbers
 returns-then-is_empty-clause-numbers g c =
-    recalled_whole c.self.inside c.args.self.now c.args.state.now c.args.segment 0 c.new-numbers.result.items c.users-users.result.now c.self.view_is c.self.invariant c.requires.elsewhere c.users-users.ensures.value
+    recalled_whole c.args.self.now c.args.state.now c.args.segment 0 c.new-numbers.result.items c.users-users.result.now c.users-users.ensures.numbered c.requires.elsewhere c.users-users.ensures.value
     (grind (arith, c.is_empty.ensures, c.if-is_empty.ensures, c.if-is_empty.true)) (ap (λ l. l ++ filter (is_recalled_in c.args.self.now c.args.state.now) c.users-users.result.now) c.new-numbers.ensures.items)
 
 pub loop-i-init : goal.loop-i-init
@@ -19,4 +19,4 @@ loop-i-init g c = record {
 
 pub returns-clause-numbers : goal.returns-clause-numbers
 returns-clause-numbers g c =
-    recalled_whole c.self.inside c.args.self.now c.args.state.now c.args.segment c.loop-i.i c.loop-i.numbers.items c.users-users.result.now c.self.view_is c.self.invariant c.requires.elsewhere c.users-users.ensures.value c.loop-i-test.false c.loop-i.invariant.numbers
+    recalled_whole c.args.self.now c.args.state.now c.args.segment c.loop-i.i c.loop-i.numbers.items c.users-users.result.now c.users-users.ensures.numbered c.requires.elsewhere c.users-users.ensures.value c.loop-i-test.false c.loop-i.invariant.numbers

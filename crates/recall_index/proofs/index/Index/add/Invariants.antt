@@ -3,4 +3,4 @@ use Rattle.recall_index.specs.Uses.{IsAdded}
 use Rattle.recall_index.proofs.index.Index.add.Given as goal
 
 abbrev pub invariant-loop-i : goal.invariant-loop-i
-invariant-loop-i l = IsAdded l.fn.self l.number (take l.i l.segments) l.self
+invariant-loop-i l = IsAdded l.fn.self l.number (take l.i l.route) l.self

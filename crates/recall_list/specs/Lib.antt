@@ -1,0 +1,2 @@
+pub mod RecallLists
+pub use Rattle.office_core.specs.Recalled

@@ -1,0 +1,50 @@
+-- The recalls of a history: which permits its postings recall, and the carriers of their trucks.
+use Rattle.std.specs.Prelude.{ℕ, ◌<◌, ◌==◌, if◌then◌else◌, List, [], length, map, fold, Option, Some, None, option_map, All}
+use Rattle.std.specs.List.{flat_map}
+use Rattle.std.specs.Option.{option_or}
+use Rattle.notice_desk.specs.declared.notice.Recall.{Recall}
+use Rattle.trip_analysis.specs.Bases.{BaseLists, truck_of}
+use Rattle.office_words.specs.declared.entry.Call.{Call}
+use Rattle.office_words.specs.declared.entry.Reply.{Reply}
+use Rattle.office_words.specs.declared.entry.Reply.TheVariants as reply
+use Rattle.office_core.specs.Happened.{History, Numbers, application_in}
+
+-- the truck for which a call and its answer issue the permit of a number, where they do
+abbrev pub truck_by : ℕ → Call → Reply → Option ℕ
+truck_by n c (reply.Issued k v route) = if k == n then option_map (λ a. a.truck) (application_in c) else None
+truck_by n c _ = None
+
+-- the truck of a permit: that for which the last entry that issued it did so; in the history of an office there is just one
+abbrev pub truck_in : History → ℕ → Option ℕ
+truck_in es n = fold (λ found e. option_or (truck_by n e.call e.reply) found) None es
+
+-- the carrier of a truck
+abbrev pub carrier_of : BaseLists → Option ℕ → List ℕ
+carrier_of base (Some truck) = (truck_of base truck).carrier
+carrier_of base None = []
+
+-- the recall of a permit by the posting of a version, and those of a posting's answer, in order, by what the trucks are
+abbrev pub recall_of : BaseLists → (ℕ → Option ℕ) → ℕ → ℕ → Recall
+recall_of base trucks v n = record { permit = n; version = v; carrier = carrier_of base (trucks n) }
+
+abbrev pub recalls_by : BaseLists → (ℕ → Option ℕ) → Reply → List Recall
+recalls_by base trucks (reply.Posted v ns) = map (recall_of base trucks v) ns
+recalls_by base trucks _ = []
+
+-- every number that a posting recalls, in order, with its version and the carrier of the permit's truck
+abbrev pub recalls_in : BaseLists → History → List Recall
+recalls_in base es = flat_map (λ e. recalls_by base (truck_in es) e.reply) es
+
+-- what is known of a permit's truck is the number of one that is there
+abbrev pub IsThere : BaseLists → Option ℕ → Type 0
+IsThere base (Some truck) = truck < length base.fleet
+IsThere base None = ⊥
+
+-- the numbers that an answer recalls
+abbrev pub recalled_numbers : Reply → Numbers
+recalled_numbers (reply.Posted v ns) = ns
+recalled_numbers _ = []
+
+-- the truck of each permit that an answer recalls is known and there
+abbrev pub HasTrucks : BaseLists → (ℕ → Option ℕ) → Reply → Type 0
+HasTrucks base trucks r = All (λ n. IsThere base (trucks n)) (recalled_numbers r)
