@@ -8,6 +8,7 @@ ghost use Rattle.office_words.specs.declared.entry.Call.TheVariants.{Held, Submi
 ghost use Rattle.office_words.specs.declared.entry.Reply.TheVariants as reply;
 ghost use Rattle.office_core.specs.Replies.{early_reply};
 ghost use Rattle.office_core.specs.Machine.{HasRoom, IsFound, version_of};
+ghost use Rattle.office_core.specs.Costs.{tests_held};
 ghost use Rattle.office_core.specs.Registers.{AreUnchanged, Gives, HeldAt, IsFoundNow, IsReplyTo, IsRetested, Issues, Leaves, MayLack, Permits, changed_out, found_reply, has_changed, least_out, next_issue, state_now, state_seen};
 
 use crate::answer::Answer;
@@ -60,28 +61,34 @@ impl Register {
         ensures after { IfOk result (Leaves self.old caller (Held application.now) self.new) }
         ensures unchanged { OnErr result (self.new ≡ self.old) }
         ensures lack { OnErr result (MayLack self.old (Held application.now)) }
+        ensures cost { steps.new ≤ steps.old + tests_held self.old.base application.now }
     {
         match early_answer(self.base(), self.today(), application) {
             Some(answer) => Ok(answer),
             None => {
-                let proposal = self.find(application)?;
+                let proposal = self.find(application, steps)?;
                 self.answer_found(caller, application, &proposal, steps)
             }
         }
     }
 
     // What the office finds itself, at the current version.
-    fn find(&mut self, application: &Application) -> Result<Proposal, NoMemory>
+    fn find<L: Ledger>(
+        &mut self,
+        application: &Application,
+        steps: &mut Steps<L>,
+    ) -> Result<Proposal, NoMemory>
         requires { Sound self.old.base application.now }
         ensures same { self.new ≡ self.old }
         ensures seen { IfOk result (λ proposal. proposal.seen ≡ version_of self.old.machine) }
         ensures found { IfOk result (λ proposal. IsFoundNow self.old application.now proposal.what) }
         ensures within { IfOk result (λ proposal. InRange self.old.base proposal.what) }
         ensures held { IfOk result (λ found. HeldAt self.old found.seen application.now.truck found.what) }
+        ensures cost { steps.new + 1 ≤ steps.old + tests_held self.old.base application.now }
     {
         let snapshot = self.store.snapshot()?;
         self.follower
-            .analyse(self.alloc, &self.base, snapshot, application)
+            .analyse(self.alloc, &self.base, snapshot, application, steps)
     }
 
     // Answers what was found for an application.

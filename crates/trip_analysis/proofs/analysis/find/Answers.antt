@@ -1,7 +1,7 @@
 use Rattle.std.proofs.Common.{◌∙◌, sym, ap}
 use Rattle.std.specs.Prelude.{option_map}
 use Rattle.trip_analysis.proofs.Flags.{asked_there}
-use Rattle.trip_analysis.proofs.analyst.Analyst.find_counted.Goals as goal
+use Rattle.trip_analysis.proofs.analysis.find.Goals as goal
 
 pub find_asked-requires-clause-segments : goal.find_asked-requires-clause-segments
 find_asked-requires-clause-segments g c =
