@@ -1,5 +1,5 @@
 -- Counters that rise with a history.
-use Rattle.std.proofs.Common.{◌≡◌, ◌∷◌, ◌++◌, [], List, ℕ, refl, sym, subst}
+use Rattle.std.proofs.Common.{◌∷◌, ◌++◌, [], List, ℕ, refl, subst}
 use Rattle.trip_analysis.specs.Bases.{BaseLists}
 use Rattle.office_words.specs.declared.entry.Entry.{Entry}
 use Rattle.office_core.specs.Costs.{Counts, CountsFrom, IsCost}

@@ -1,5 +1,5 @@
 -- What did not change after a version is as it was then: along a route that met, and out of a cut that failed.
-use Rattle.std.proofs.Common.{◌≡◌, [], ◌∷◌, List, ℕ, zero, suc, ◌+◌, ◌-◌, ◌<◌, ◌≤◌, ◌&&◌, Bool, cond, true, false, length, get_or, take, drop, filter, inl, inr, refl, ap, sym, subst, ◌∙◌, arith}
+use Rattle.std.proofs.Common.{◌≡◌, [], ◌∷◌, List, ℕ, zero, suc, ◌+◌, ◌-◌, ◌<◌, ◌≤◌, ◌&&◌, Bool, cond, true, false, length, get_or, take, drop, filter, inl, inr, refl, ap, sym, subst, ◌∙◌, zero-add, arith}
 use Rattle.std.specs.Prelude.{Option, Some, None, is_none}
 use Rattle.std.proofs.lemmas.Bool.{and_parts, cases_Bool}
 use Rattle.std.proofs.lemmas.List.{drop_more}
@@ -207,7 +207,7 @@ none_changed base postings [] = refl
 none_changed base postings (s ∷ rest) =
     counted base postings (length postings) s rest
     ∙ (ap (λ (c : List Change). cond (is_touched base.roads s c) 1 0 + changed_on base postings (length postings) rest) (drop-length postings)
-    ∙ none_changed base postings rest)
+    ∙ (zero-add (changed_on base postings (length postings) rest) ∙ none_changed base postings rest))
 
 pub within_now : (base : BaseLists) (postings : List Change) (w : What) (before now : ℕ)
     → IsWithin base postings (length postings) w before now → now ≤ before + 1

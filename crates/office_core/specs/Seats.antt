@@ -1,5 +1,4 @@
 -- What contracts see of one seat.
-use Rattle.std.specs.Prelude.{ℕ}
 use Rattle.office_words.specs.declared.entry.Call.{Call}
 use Rattle.office_core.specs.declared.seat.OneSeat.{OneSeat}
 use Rattle.office_core.specs.Calls.{Calling, one_seat}
@@ -7,9 +6,9 @@ use Rattle.office_core.specs.Costs.{IsCost}
 use Rattle.office_core.specs.Offices.{machine_in}
 
 -- the calls of its caller, of the office to which it holds the one reference
-abbrev pub calls_of : OneSeat → Calling (Unit {0})
+abbrev pub calls_of : {L : Type 0} → OneSeat L → Calling (Unit {0})
 calls_of s = one_seat s.office.ghost_name s.caller s.office.now
 
 -- the counter to which the seat holds the reference rose by what a call of its office may cost
-abbrev pub IsCostOf : OneSeat → Call → OneSeat → Type 0
+abbrev pub IsCostOf : {L : Type 0} → OneSeat L → Call → OneSeat L → Type 0
 IsCostOf s c next = IsCost s.office.now.base (machine_in s.office.now) c s.steps.now next.steps.now
