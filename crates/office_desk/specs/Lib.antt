@@ -1,4 +1,5 @@
 pub mod Desks
+pub mod Counted
 pub use Rattle.office_core.specs.Calls
 pub use Rattle.office_core.specs.Machine
 pub use Rattle.office_core.specs.Offices
