@@ -1,16 +1,16 @@
 use Rattle.std.proofs.Common.{◌+◌, ◌++◌, length, get_or, ap, sym, refl, ◌∙◌, arith}
 use Rattle.office_core.specs.Calls.{Who}
 use Rattle.analyst_pool.proofs.Scripts.{grew_to, has_room, through_all, through_more, through_none, went_to}
-use Rattle.analyst_pool.proofs.worker.Worker.work.Goals as goal
+use Rattle.analyst_pool.proofs.worker.Worker.work_counted.Goals as goal
 
 pub loop-asked-init : goal.loop-asked-init
-loop-asked-init g c = record { number = refl; through = through_none _ _; follows = tt }
+loop-asked-init g c = record { number = refl; through = through_none _ _; follows = rw c.new-finder.ensures tt }
 
 pub carry_out-requires-clause-base : goal.carry_out-requires-clause-base
-carry_out-requires-clause-base g c = sym (ap (λ (t : Who g.row.C-Place.Denot). t.base) c.loop-asked.invariant.through.grew.who ∙ c.requires.about)
+carry_out-requires-clause-base g c = sym (ap (λ (t : Who g.row.C-Place.Denot). t.base) c.loop-asked.invariant.through.grew.who ∙ c.requires.ready.about)
 
 pub overflow_add-command : goal.overflow_add-command
-overflow_add-command g c = omega (arith, c.requires.short, ap length c.deref-asked-items.ensures.value, c.loop-asked-test.true, c.loop-asked.invariant.number)
+overflow_add-command g c = omega (arith, c.requires.ready.short, ap length c.deref-asked-items.ensures.value, c.loop-asked-test.true, c.loop-asked.invariant.number)
 
 pub returns-in-NoMemory : goal.returns-in-NoMemory
 returns-in-NoMemory g c = let so_far = c.loop-asked.invariant in let one = c.carry_out.ensures.carried in let items = c.deref-asked-items.ensures.value in
