@@ -23,7 +23,7 @@ use std::thread::Threads;
 /// history is never found. The gate is told how far each actor is.
 ///
 /// It waits until all actors are done.
-pub fn serve<R: Threads + Wait + AllocGlobal + Sync, G: Gate + Sync, L: Ledger>(
+pub fn serve<R: Threads + Wait + AllocGlobal + Sync, G: Gate + Sync, L: Ledger + Send + Sync>(
     rt: &R,
     file: DayFile,
     gate: &G,
@@ -49,7 +49,7 @@ pub fn lone_actors_are_one()
 {}
 
 // The same, whatever the base keeps of its trucks.
-fn serve_actors<R: Threads + Wait + AllocGlobal + Sync, G: Gate + Sync, L: Ledger>(
+fn serve_actors<R: Threads + Wait + AllocGlobal + Sync, G: Gate + Sync, L: Ledger + Send + Sync>(
     rt: &R,
     file: DayFile,
     gate: &G,

@@ -32,6 +32,7 @@ use Rattle.trip_analysis.specs.contracts.analyst.Analyst as Analyst
 use Rattle.trip_analysis.specs.contracts.base.Base as Base
 use Rattle.trip_analysis.specs.contracts.follower.Follower as Follower
 use Rattle.office_words.specs.contracts.entry.Entry as Entry
+use Rattle.office_core.specs.contracts.counted.CountedOffice as CountedOffice
 use Rattle.office_core.specs.contracts.office.Office as Office
 use Rattle.office_core.specs.contracts.register.Register as Register
 use Rattle.office_core.specs.contracts.seat.OneSeat as OneSeat
@@ -66,5 +67,8 @@ office_fields = (register_send, (day.the_send, (search sendable, (Vec-send Entry
 pub office_send : IsSend Office.the_row
 office_send = search (view_send, declared_send, office_fields)
 
+pub counted_send : (L : RattleType) (ledger : Ghosts L.Denot) → IsSend (CountedOffice.the_row L ledger)
+counted_send L ledger = search (view_send, declared_send, office_send, steps.the_send, tt) depth 8
+
 pub seat_send : (κ : NamedLft) (L : RattleType) (ledger : Ghosts L.Denot) → IsSend (OneSeat.the_row κ L ledger)
-seat_send κ L ledger = search (sendable, crosses, office_send, steps.the_send) depth 40 fits 20000
+seat_send κ L ledger = search (sendable, crosses, counted_send) depth 40 fits 20000

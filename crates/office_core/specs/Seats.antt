@@ -7,8 +7,8 @@ use Rattle.office_core.specs.Offices.{machine_in}
 
 -- the calls of its caller, of the office to which it holds the one reference
 abbrev pub calls_of : {L : Type 0} → OneSeat L → Calling (Unit {0})
-calls_of s = one_seat s.office.ghost_name s.caller s.office.now
+calls_of s = one_seat s.office.ghost_name s.caller s.office.now.office
 
--- the counter to which the seat holds the reference rose by what a call of its office may cost
+-- the counter of the office rose by what a call of it may cost
 abbrev pub IsCostOf : {L : Type 0} → OneSeat L → Call → OneSeat L → Type 0
-IsCostOf s c next = IsCost s.office.now.base (machine_in s.office.now) c s.steps.now next.steps.now
+IsCostOf s c next = let o = s.office.now in IsCost o.office.base (machine_in o.office) c o.tests next.office.now.tests

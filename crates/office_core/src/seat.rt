@@ -5,8 +5,7 @@ ghost use Rattle.office_words.specs.declared.entry.Reply.TheVariants as reply;
 ghost use Rattle.office_core.specs.Replies.{is_full};
 
 use crate::calls::{Looked, OfficeCalls};
-use crate::office::Office;
-use clearance_rules::Steps;
+use crate::counted::CountedOffice;
 use names::NoMemory;
 use office_words::{Call, Reply};
 use std::sync::ledger::Ledger;
@@ -16,9 +15,8 @@ use std::sync::ledger::Ledger;
 /// Once the seat is gone, the office's history is the one that the caller has seen. What the office tests meanwhile is counted.
 #[derive(Drop)]
 pub struct OneSeat<'a, L: Ledger> {
-    office: &'a mut Office,
+    office: &'a mut CountedOffice<L>,
     caller: u32,
-    steps: &'a mut Steps<L>,
     ghost few_callers: { caller < 65536 },
 }
 
@@ -30,35 +28,29 @@ impl<'a, L: Ledger> OneSeat<'a, L> {
     ghost use Rattle.office_core.specs.Calls.{Answered};
     ghost use Rattle.office_core.specs.Seats.{IsCostOf, calls_of};
 
-    /// The calls of this caller, who is numbered below 65,536, with the counter of the office's tests.
-    pub fn new(office: &'a mut Office, caller: u32, steps: &'a mut Steps<L>) -> OneSeat<'a, L>
+    /// The calls of this caller, who is numbered below 65,536.
+    pub fn new(office: &'a mut CountedOffice<L>, caller: u32) -> OneSeat<'a, L>
         requires { caller < 65536 }
         ensures reference { result.office.ghost_name ≡ office.entry.ghost_name }
         ensures office { result.office.now ≡ office.old }
         ensures caller { result.caller ≡ caller }
-        ensures counter { result.steps.ghost_name ≡ steps.entry.ghost_name }
-        ensures steps { result.steps.now ≡ steps.old }
     {
-        OneSeat {
-            office,
-            caller,
-            steps,
-        }
+        OneSeat { office, caller }
     }
 
     // Asks a call.
     fn step(&mut self, call: Call) -> Reply
-        requires { MayAsk self.old.office.now.base (machine_in self.old.office.now) call }
+        requires { MayAsk self.old.office.now.office.base (machine_in self.old.office.now.office) call }
         ensures answered { Answered (calls_of self.old) call result (calls_of self.new) }
         ensures cost { IsCostOf self.old call self.new }
     {
-        self.office.step(self.caller, call, self.steps)
+        self.office.step(self.caller, call)
     }
 
     // Looks at the office: that there is an entry of it, or how many the history holds.
     fn look(&mut self) -> Result<(), u32>
         ensures at { OnOk result (Answered (calls_of self.old) call.Snapshot
-            (reply.SnapshotAt (version_of (machine_in self.new.office.now))) (calls_of self.new)) }
+            (reply.SnapshotAt (version_of (machine_in self.new.office.now.office))) (calls_of self.new)) }
         ensures full { IfErr result (λ most.
             Answered (calls_of self.old) call.Snapshot (reply.Full most) (calls_of self.new)) }
         ensures cost { IsCostOf self.old call.Snapshot self.new }
@@ -96,7 +88,7 @@ impl<'a, L: Ledger> OfficeCalls for OneSeat<'a, L> {
         ensures cost { IsCostOf self.old call.Snapshot self.new }
     {
         match self.look() {
-            Ok(()) => match self.office.snapshot() {
+            Ok(()) => match self.office.office().snapshot() {
                 Ok(snapshot) => Looked::At(snapshot),
                 Err(NoMemory) => Looked::NoMemory,
             },

@@ -2,18 +2,17 @@
 -- a seat.
 use Rattle.std.proofs.Common.{[], ◌∷◌}
 use denote.Builtin.{u32}
-use denote.Param.Send.{IsSend, IsSync, shr_send, view_send, view_sync}
+use denote.Param.Send.{IsSend, IsSync, shr_send, view_sync}
 use denote.Param.SendFields.{as_row_send, declared_send, declared_sync}
 use denote.RattleType.{RattleType}
 use denote.Ref.{NamedLft, ShrRef}
 use denote.Struct.Field.{row_field, shr_ref_field}
 use denote.Struct.Tuple.{Tuple}
 use Rattle.std.specs.declared.sync.ledger.Ledger.{Ghosts}
-use Rattle.clearance_rules.proofs.steps.Steps.TheSendSync as steps
 use Rattle.permit_days.specs.contracts.day.Day as Day
 use Rattle.trip_analysis.specs.contracts.base.Base as Base
 use Rattle.office_words.specs.contracts.entry.Entry as Entry
-use Rattle.office_core.proofs.Crosses.{office_send}
+use Rattle.office_core.proofs.Crosses.{counted_send}
 use Rattle.office_turn.proofs.pass.Pass.TheSendSync as pass
 use Rattle.office_turn.proofs.turn.Turn.TheSendSync as turn
 use Rattle.office_turn.specs.contracts.pass.Pass as Pass
@@ -28,7 +27,7 @@ module _ (L : RattleType) (ledger : Ghosts L.Denot) where
   desked = Desked.the_row L ledger
 
   pub desked_send : IsSend desked
-  desked_send = search (view_send, declared_send, office_send, steps.the_send, tt) depth 8
+  desked_send = search (declared_send, counted_send, tt) depth 8
 
   abbrev terms_row : RattleType
   terms_row = Tuple (Base.the_row ∷ Day.the_row ∷ u32 ∷ [])

@@ -12,7 +12,7 @@ ghost use Rattle.office_desk.specs.Desks.{MayAskWith, calls_of, terms_of};
 use crate::desked::Desked;
 use clearance_rules::Steps;
 use names::NoMemory;
-use office_core::{Looked, Office};
+use office_core::{CountedOffice, Looked, Office};
 use office_turn::{Turn, Worn};
 use office_words::{Call, Reply};
 use permit_days::Day;
@@ -51,7 +51,7 @@ impl<L: Ledger> Model for Desk<L> {
 }
 
 impl<L: Ledger> Desk<L> {
-    ghost use Rattle.office_desk.specs.Counted.{AreCounted};
+    ghost use Rattle.office_core.specs.Counted.{AreCounted};
 
     /// A desk of a new office about this base, which opens on this day, with room for so many entries, and its root.
     /// `NoMemory` where no memory was left.
@@ -72,7 +72,8 @@ impl<L: Ledger> Desk<L> {
         ensures root { IfOk result (λ started. started.1 ≡ opening_root started.0) }
     {
         let office = Office::start(alloc, base, day, most)?;
-        match Turn::start(alloc, Desked::new(office, blank), most) {
+        let counted = CountedOffice::new(office, blank);
+        match Turn::start(alloc, Desked { counted }, most) {
             Ok((turn, root)) => Ok((Desk { turn }, root)),
             Err(office_turn::NoMemory) => Err(NoMemory),
         }
@@ -120,7 +121,8 @@ impl<L: Ledger> Desk<L> {
         ensures counted { AreCounted result.0 result.1 }
     {
         let Desk { turn } = self;
-        let (office, steps) = turn.close(root).into_parts();
+        let Desked { counted } = turn.close(root);
+        let (office, steps) = counted.into_parts();
         let _entries = office.history();
         (office, steps)
     }

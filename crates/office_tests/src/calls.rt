@@ -1,5 +1,7 @@
-ghost use Rattle.std.specs.Prelude.{◌≡◌, ◌<◌, ◌++◌, List, IfSome};
+ghost use Rattle.std.specs.Prelude.{◌≡◌, ◌<◌, ◌++◌, List, IfOk, IfSome};
+ghost use Rattle.snapshot_store.specs.Stores.{version_of as postings_of};
 ghost use Rattle.trip_analysis.specs.Applications.{Sound};
+ghost use Rattle.trip_analysis.specs.Findings.{IsFoundAt};
 ghost use Rattle.office_words.specs.declared.entry.Call.{Call};
 ghost use Rattle.office_words.specs.declared.entry.Entry.{Entry};
 ghost use Rattle.office_core.specs.Machine.{MayAsk};
@@ -9,15 +11,17 @@ ghost use Rattle.office_core.specs.Calls.{machine_seen};
 use crate::fixtures::{ALONE, AROUND, application, base, day, full_at, named, office_about};
 use clearance_rules::Steps;
 use journal_text::print;
+use names::NoMemory;
 use notice_desk::Recall;
 use office_core::{Looked, Office, OfficeCalls, OneSeat, recalls};
 use office_words::{Call, Reply};
 use restriction_log::Change;
+use snapshot_store::Snapshot;
 use std::alloc::Global;
 use std::marker::Brand;
 use std::process::Abort;
 use std::sync::ledger::{Blank, Ledger};
-use trip_analysis::{Application, analyse};
+use trip_analysis::{Application, Base, Proposal, analyse};
 
 // Each day is the lines of a journal: the calls that they have are made, and the journal is then these lines. What a submit
 // has is found behind the look before it. Each day is gone through twice, once by calls of the office and once by seats.
@@ -86,8 +90,14 @@ fn call_of(rt: &impl Abort, office: &Office, found: &mut Option<Call>, line: &st
     }
 }
 
-// Makes a call of the office.
-fn step<L: Ledger>(office: &mut Office, caller: u32, call: Call, blank: Blank) -> Reply
+// Makes a call of the office, by a seat or not, with this counter.
+fn step<L: Ledger>(
+    office: &mut Office,
+    caller: u32,
+    call: Call,
+    by_seat: bool,
+    blank: Blank,
+) -> Reply
     requires name { blank.name ≡ L.name }
     requires parts { blank.parts ≡ L.parts }
     requires some { 0 < blank.parts }
@@ -97,18 +107,21 @@ fn step<L: Ledger>(office: &mut Office, caller: u32, call: Call, blank: Blank) -
         → MayAsk office.new.base (machine_in office.new) c }
 {
     let mut steps = Steps::<L>::new(blank);
+    if by_seat {
+        return sit(office, caller, call, &mut steps);
+    }
     office.step(caller, call, &mut steps)
 }
 
 // Makes it by a seat, which is then gone: the office's history is the one that the seat saw.
-fn sit(office: &mut Office, caller: u32, call: Call) -> Reply
+fn sit<L: Ledger>(office: &mut Office, caller: u32, call: Call, steps: &mut Steps<L>) -> Reply
     requires caller { caller < 65536 }
     requires asked { MayAsk office.old.base (machine_in office.old) call }
     ensures grown { (more : List Entry) × (office.new.history ≡ office.old.history ++ more) }
     ensures asked { (c : Call) → MayAsk office.old.base (machine_in office.old) c
         → MayAsk office.new.base (machine_in office.new) c }
 {
-    let mut seat = OneSeat::new(office, caller);
+    let mut seat = OneSeat::new(office, caller, steps);
     ask(&mut seat, call)
 }
 
@@ -149,10 +162,7 @@ pub(crate) fn answer(office: &mut Office, caller: u32, call: Call, by_seat: bool
     ensures { (c : Call) → MayAsk office.old.base (machine_in office.old) c
         → MayAsk office.new.base (machine_in office.new) c }
 {
-    if by_seat {
-        return sit(office, caller, call);
-    }
-    step::<Brand>(office, caller, call, Blank::new(1))
+    step::<Brand>(office, caller, call, by_seat, Blank::new(1))
 }
 
 // The call that submits what is found now for a trip.
@@ -167,12 +177,32 @@ pub(crate) fn submission(
     ensures { MayAsk office.now.base (machine_in office.now) result }
 {
     let snapshot = office.snapshot().expect(rt, "memory");
-    let proposal = analyse(alloc, office.base(), &snapshot, &application);
+    let proposal = look_for::<Brand>(alloc, office.base(), &snapshot, &application, Blank::new(1));
     drop(snapshot);
     Call::Submit {
         application,
         proposal: proposal.expect(rt, "memory"),
     }
+}
+
+// What is found for an application at a snapshot.
+fn look_for<L: Ledger>(
+    alloc: Global,
+    base: &Base,
+    snapshot: &Snapshot,
+    application: &Application,
+    blank: Blank,
+) -> Result<Proposal, NoMemory>
+    requires name { blank.name ≡ L.name }
+    requires parts { blank.parts ≡ L.parts }
+    requires some { 0 < blank.parts }
+    requires roads { snapshot.now.roads ≡ base.now.roads }
+    requires sound { Sound base.now application.now }
+    ensures seen { IfOk result (λ proposal. proposal.seen ≡ postings_of snapshot.now) }
+    ensures found { IfOk result (λ proposal. IsFoundAt base.now snapshot.now application.now proposal.what) }
+{
+    let mut steps = Steps::<L>::new(blank);
+    analyse(alloc, base, snapshot, application, &mut steps)
 }
 
 // What the next submit has, from a line on: what is found now for its trip.

@@ -6,7 +6,7 @@ use Rattle.office_tests.proofs.analysts.post.Goals as goal
 
 -- the seat that is gone was the office's, so the office is what the seat left
 pub returns : goal.returns
-returns c =
+returns g c =
     let reference = Some c.new-seat.result.office.ghost_name in
     let done = touched reference _ _ _ _ (from_seat reference _ _ _ 1 _ _ _ _ _ c.new-seat.ensures.office c.new-seat.ensures.caller c.post.ensures) in
     let held = ap (λ t. t.reference) c.post.ensures.who in
