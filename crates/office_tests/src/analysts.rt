@@ -1,4 +1,4 @@
-ghost use Rattle.std.specs.Prelude.{◌≡◌, ◌<◌, ◌≤◌, All, IfOk, false, vec_len};
+ghost use Rattle.std.specs.Prelude.{◌≡◌, ◌<◌, ◌≤◌, [], All, IfOk, false, vec_len};
 ghost use Rattle.std.specs.Arc.{arc_value};
 ghost use Rattle.office_core.specs.Replies.{is_full};
 ghost use Rattle.office_core.specs.Seats.{calls_of};
@@ -10,8 +10,7 @@ use crate::fixtures::{ALONE, AROUND, application, base, day, full_at, journal_en
 use analyst_pool::{
     Docket, Finder, Gate, OpenGate, Outcome, Worker, carry_out, decide, most_entries, run_actors,
 };
-use clearance_rules::Steps;
-use office_core::{Looked, Office, OfficeCalls, OneSeat};
+use office_core::{CountedOffice, Looked, Office, OfficeCalls, OneSeat};
 use office_words::{Call, Command, Reply};
 use restriction_log::Change;
 use std::alloc::{AllocError, Global};
@@ -58,30 +57,28 @@ impl Gate for Digits {
 #[derive(Drop)]
 struct Interrupted<'a, R: Abort, L: Ledger> {
     rt: &'a R,
-    office: Office,
-    steps: Steps<L>,
+    office: CountedOffice<L>,
     changes: &'a [Change],
 }
 
 // Posts a change as caller 1.
-fn post<L: Ledger>(office: &mut Office, steps: &mut Steps<L>, change: Change)
-    ensures { Interrupts office.old office.new }
+fn post<L: Ledger>(office: &mut CountedOffice<L>, change: Change)
+    ensures { Interrupts office.old.office office.new.office }
 {
-    let mut seat = OneSeat::new(office, 1, steps);
+    let mut seat = OneSeat::new(office, 1);
     drop(seat.post(change));
 }
 
 // Posts the last of these changes as caller 1, if one is left. Those that are left then.
 fn interrupt<'a, L: Ledger>(
-    office: &mut Office,
-    steps: &mut Steps<L>,
+    office: &mut CountedOffice<L>,
     changes: &'a [Change],
 ) -> &'a [Change]
-    ensures { Interrupts office.old office.new }
+    ensures { Interrupts office.old.office office.new.office }
 {
     match changes.split_last() {
         Some((change, left)) => {
-            post(office, steps, *change);
+            post(office, *change);
             left
         }
         None => changes,
@@ -104,16 +101,16 @@ impl<R: Abort, L: Ledger> OfficeCalls for Interrupted<'_, R, L> {
 
     type Place = ();
 
-    ghost view = { λ s. shared 0 s.office };
+    ghost view = { λ s. shared 0 s.office.office };
 
     fn snapshot(&mut self) -> Looked {
-        let mut seat = OneSeat::new(&mut self.office, 0, &mut self.steps);
+        let mut seat = OneSeat::new(&mut self.office, 0);
         seat.snapshot()
     }
 
     fn ask(&mut self, asked: Call) -> Reply {
-        self.changes = interrupt(&mut self.office, &mut self.steps, self.changes);
-        let mut seat = OneSeat::new(&mut self.office, 0, &mut self.steps);
+        self.changes = interrupt(&mut self.office, self.changes);
+        let mut seat = OneSeat::new(&mut self.office, 0);
         let reply = seat.ask(asked);
         unless_full(self.rt, reply)
     }
@@ -253,18 +250,18 @@ fn decides_in<R: Abort, L: Ledger, F: Ledger>(
     requires found_parts { found.parts ≡ F.parts }
     requires found_some { 0 < found.parts }
     requires base { office.base ≡ base.now }
+    requires opened { office.history ≡ [] }
 {
     let &(_, _, changes, told, ends) = row;
     let command = command(rt, base, 0);
     let mut calls = Interrupted {
         rt,
-        office,
-        steps: Steps::<L>::new(tests),
+        office: CountedOffice::<L>::new(office, tests),
         changes,
     };
     let full = tell::<Interrupted<'_, R, L>, F>(rt, alloc, &mut calls, base, &command, told, found);
     drop(command);
-    journal_ends(rt, alloc, &calls.office, ends);
+    journal_ends(rt, alloc, calls.office.office(), ends);
     drop(calls);
     assert_eq!(rt; full, 0);
 }
@@ -310,18 +307,24 @@ fn tells_the_gate_around_each_command(rt: HostRuntime) {
 
 fn asks<R: Abort>(rt: &R, alloc: Global, asked: &Asked) {
     let base = shared_base(rt, alloc, ALONE, 168);
-    let mut office = office(rt, alloc, share(rt, &base), asked.0);
-    asks_of::<R, Brand, Brand>(rt, alloc, &mut office, &base, asked, Blank::new(1), Blank::new(1));
+    let office = office(rt, alloc, share(rt, &base), asked.0);
+    asks_of::<R, Brand, Brand>(
+        rt,
+        alloc,
+        office,
+        &base,
+        asked,
+        Blank::new(1),
+        Blank::new(1),
+    );
     drop(base);
-    journal_ends(rt, alloc, &office, asked.4);
-    drop(office);
 }
 
 // Asks a command of this office by a seat.
 fn asks_of<R: Abort, L: Ledger, F: Ledger>(
     rt: &R,
     alloc: Global,
-    office: &mut Office,
+    office: Office,
     base: &Base,
     asked: &Asked,
     tests: Blank,
@@ -333,14 +336,17 @@ fn asks_of<R: Abort, L: Ledger, F: Ledger>(
     requires found_name { found.name ≡ F.name }
     requires found_parts { found.parts ≡ F.parts }
     requires found_some { 0 < found.parts }
-    requires base { office.old.base ≡ base.now }
+    requires base { office.base ≡ base.now }
+    requires opened { office.history ≡ [] }
 {
-    let &(_, kind, full, told, _) = asked;
+    let &(_, kind, full, told, ends) = asked;
     let command = command(rt, base, kind);
-    let mut steps = Steps::<L>::new(tests);
-    let mut seat = OneSeat::new(office, 0, &mut steps);
+    let mut office = CountedOffice::<L>::new(office, tests);
+    let mut seat = OneSeat::new(&mut office, 0);
     let was_full = tell::<OneSeat<'_, L>, F>(rt, alloc, &mut seat, base, &command, told, found);
     drop(command);
+    journal_ends(rt, alloc, office.office(), ends);
+    drop(office);
     assert_eq!(rt; was_full, full);
 }
 
@@ -349,30 +355,27 @@ fn asks_of<R: Abort, L: Ledger, F: Ledger>(
 fn decides_an_application(rt: HostRuntime) {
     let alloc = rt.alloc();
     let base = shared_base(&rt, alloc, ALONE, 168);
-    let mut office = office(&rt, alloc, share(&rt, &base), 17);
-    let reply = decided::<Brand, Brand>(&rt, alloc, &mut office, &base, Blank::new(1), Blank::new(1));
-    let full = full_at(reply);
+    let office = office(&rt, alloc, share(&rt, &base), 17);
+    decided::<Brand, Brand>(&rt, alloc, office, &base, Blank::new(1), Blank::new(1));
     drop(base);
-    journal_ends(&rt, alloc, &office, "= issued 1 at 0 route 1\nend 2\n");
-    drop(office);
-    assert_eq!(rt; full, 0);
 }
 
 fn decided<L: Ledger, F: Ledger>(
-    rt: &HostRuntime,
+    rt: &impl Abort,
     alloc: Global,
-    office: &mut Office,
+    office: Office,
     base: &Base,
     tests: Blank,
     found: Blank,
-) -> Reply
+)
     requires tests_name { tests.name ≡ L.name }
     requires tests_parts { tests.parts ≡ L.parts }
     requires tests_some { 0 < tests.parts }
     requires found_name { found.name ≡ F.name }
     requires found_parts { found.parts ≡ F.parts }
     requires found_some { 0 < found.parts }
-    requires base { office.old.base ≡ base.now }
+    requires base { office.base ≡ base.now }
+    requires opened { office.history ≡ [] }
 {
     let wanted = application(rt, base, 0, 1, "2026-03-02");
     let docket = Docket {
@@ -381,9 +384,13 @@ fn decided<L: Ledger, F: Ledger>(
         actor: 0,
         command: 0,
     };
-    let mut steps = Steps::<L>::new(tests);
-    let mut seat = OneSeat::new(office, 0, &mut steps);
-    decide::<OneSeat<'_, L>, OpenGate, F>(alloc, &mut seat, wanted, &docket, found)
+    let mut office = CountedOffice::<L>::new(office, tests);
+    let mut seat = OneSeat::new(&mut office, 0);
+    let reply = decide::<OneSeat<'_, L>, OpenGate, F>(alloc, &mut seat, wanted, &docket, found);
+    let full = full_at(reply);
+    journal_ends(rt, alloc, office.office(), "= issued 1 at 0 route 1\nend 2\n");
+    drop(office);
+    assert_eq!(rt; full, 0);
 }
 
 #[test]
@@ -439,29 +446,35 @@ fn script(
 }
 
 // An actor of this number carries out a script of the row's kinds, for an office that nobody else calls.
-fn run_one<R: Threads + Abort + AllocGlobal + Sync, G: Gate + Sync, L: Ledger>(
+fn run_one<R: Threads + Abort + AllocGlobal + Sync, G: Gate + Sync, L: Ledger + Send + Sync>(
     rt: &R,
     base: &Base,
-    office: &mut Office,
-    steps: &mut Steps<L>,
+    office: &mut CountedOffice<L>,
     actor: u32,
     gate: &G,
     scripted: &Scripted,
 )
-    requires { office.old.base ≡ base.now }
+    requires { office.old.office.base ≡ base.now }
 {
-    let &(_, kinds, wanted, _) = scripted;
+    let &(_, kinds, wanted, entries) = scripted;
     let script = script(rt, rt.alloc(), base, kinds).expect(rt, "memory");
-    let mut workers = [Worker::new(OneSeat::new(office, 0, steps), actor, script)];
+    let mut workers = [Worker::new(OneSeat::new(office, 0), actor, script)];
     run_actors(rt, rt.alloc(), base, &mut workers, gate);
     assert!(rt; workers[0].outcome() == wanted);
+    drop(workers);
+    assert!(rt; office.office().history().len() == entries);
 }
 
 // Two actors do so at once, each for an office of its own.
-fn run_each<R: Threads + Abort + AllocGlobal + Sync, G: Gate + Sync, L: Ledger + Send + Sync, F: Ledger + Send + Sync>(
+fn run_each<
+    R: Threads + Abort + AllocGlobal + Sync,
+    G: Gate + Sync,
+    L: Ledger + Send + Sync,
+    F: Ledger + Send + Sync,
+>(
     rt: &R,
     base: &Base,
-    pair: (&mut Office, &mut Office),
+    pair: (Office, Office),
     gate: &G,
     scripted: &Scripted,
     tests: Blank,
@@ -473,16 +486,16 @@ fn run_each<R: Threads + Abort + AllocGlobal + Sync, G: Gate + Sync, L: Ledger +
     requires found_name { found.name ≡ F.name }
     requires found_parts { found.parts ≡ F.parts }
     requires found_some { 0 < found.parts }
-    requires one { pair.entry.0.now.base ≡ base.now }
-    requires two { pair.entry.1.now.base ≡ base.now }
+    requires one { (pair.0.base ≡ base.now) × (pair.0.history ≡ []) }
+    requires two { (pair.1.base ≡ base.now) × (pair.1.history ≡ []) }
 {
     let (one, two) = pair;
-    let mut first = Steps::<L>::new(tests);
-    let mut second = Steps::<F>::new(found);
+    let mut one = CountedOffice::<L>::new(one, tests);
+    let mut two = CountedOffice::<F>::new(two, found);
     join_mut(
         rt,
-        &mut || run_one(rt, base, one, &mut first, 0, gate, scripted),
-        &mut || run_one(rt, base, two, &mut second, 1, gate, scripted),
+        &mut || run_one(rt, base, &mut one, 0, gate, scripted),
+        &mut || run_one(rt, base, &mut two, 1, gate, scripted),
     );
 }
 
@@ -493,24 +506,20 @@ fn carries_out_twice<R: Threads + Abort + AllocGlobal + Sync, G: Gate + Sync>(
     gate: &G,
     scripted: &Scripted,
 ) {
-    let &(most, _, _, entries) = scripted;
+    let most = scripted.0;
     let base = shared_base(rt, alloc, ALONE, 168);
-    let mut one = office(rt, alloc, share(rt, &base), most);
-    let mut two = office(rt, alloc, share(rt, &base), most);
+    let one = office(rt, alloc, share(rt, &base), most);
+    let two = office(rt, alloc, share(rt, &base), most);
     run_each::<R, G, Brand, Brand>(
         rt,
         &base,
-        (&mut one, &mut two),
+        (one, two),
         gate,
         scripted,
         Blank::new(1),
         Blank::new(1),
     );
-    let held = (one.history().len(), two.history().len());
-    drop(one);
-    drop(two);
     drop(base);
-    assert!(rt; held.0 == entries && held.1 == entries);
 }
 
 #[test]

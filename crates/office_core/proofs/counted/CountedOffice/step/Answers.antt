@@ -1,7 +1,7 @@
-use Rattle.std.proofs.Common.{◌⊎◌, inl, inr, sym, subst, ap, ◌∙◌, length}
+use Rattle.std.proofs.Common.{inl, inr, sym, subst, length}
 use Rattle.std.proofs.lemmas.Bool.{cases_lt}
 use Rattle.office_core.specs.Counted.{AreCounted}
-use Rattle.office_core.specs.Offices.{HasPlace, IsFull, Opened, entry}
+use Rattle.office_core.specs.Offices.{Opened, entry}
 use Rattle.office_core.proofs.Counting.{counted_more}
 use Rattle.office_core.proofs.counted.CountedOffice.step.Goals as goal
 
