@@ -1,6 +1,6 @@
 // Commands that are carried out by the calls of an office.
 
-ghost use Rattle.std.specs.Prelude.{◌≡◌, false, IfErr, IfOk, IfSome, MatchOption};
+ghost use Rattle.std.specs.Prelude.{◌≡◌, ◌<◌, false, IfErr, IfOk, IfSome, MatchOption};
 ghost use Rattle.snapshot_store.specs.Stores.{version_of};
 ghost use Rattle.trip_analysis.specs.Applications.{Sound};
 ghost use Rattle.trip_analysis.specs.Findings.{IsFoundAt};
@@ -12,12 +12,14 @@ ghost use Rattle.analyst_pool.specs.Following.{FollowsAt, MayFollow};
 ghost use Rattle.analyst_pool.specs.Leaves.{CarriedOut};
 ghost use Rattle.office_words.specs.Commands.{MayCarryOut};
 
+use crate::finder::Finder;
 use crate::gate::Gate;
 use names::NoMemory;
 use office_core::{Looked, OfficeCalls};
 use office_words::{Command, Reply};
 use snapshot_store::Snapshot;
 use std::alloc::Global;
+use std::sync::ledger::{Blank, Ledger};
 use trip_analysis::{Application, Base, Follower, Proposal};
 
 /// A command of an actor on its way: what the office is about, who is told how far it is, the number of the
@@ -39,26 +41,26 @@ struct Draft {
 
 /// Carries out a command by these calls. The gate is told before it and once it has its reply.
 ///
-/// The analyst finds what applications need, and keeps what is known of the trucks from one snapshot to the next; there is
-/// none before a caller's first application.
+/// The finder finds what applications need, keeps what is known of the trucks from one snapshot to the next, and counts what it
+/// tests.
 ///
 /// The reply is that of its last call. It is `Full` only where the calls are then full with that number, and
 /// `NoMemory` also where, after a snapshot, no memory was left to find what an application needs.
-pub fn carry_out<C: OfficeCalls, G: Gate>(
+pub fn carry_out<C: OfficeCalls, G: Gate, L: Ledger>(
     alloc: Global,
     calls: &mut C,
-    analyst: &mut Option<Follower>,
+    finder: &mut Finder<L>,
     command: &Command,
     docket: &Docket<G>,
 ) -> Reply
     requires base { docket.now.base.now ≡ (C.view calls.old).who.base }
     requires sound { MayCarryOut docket.now.base.now command.now }
-    requires follows { MayFollow analyst.old (C.view calls.old) }
+    requires follows { MayFollow finder.old.follower (C.view calls.old) }
     ensures carried { CarriedOut (C.view calls.old) command.now result (C.view calls.new) }
-    ensures follows { MayFollow analyst.new (C.view calls.new) }
+    ensures follows { MayFollow finder.new.follower (C.view calls.new) }
 {
     docket.gate.before(docket.actor, docket.command);
-    let reply = ask(alloc, calls, analyst, command, docket);
+    let reply = ask(alloc, calls, finder, command, docket);
     docket.gate.answered(docket.actor, docket.command);
     reply
 }
@@ -69,46 +71,41 @@ pub fn carry_out<C: OfficeCalls, G: Gate>(
 /// The reply is the first that does not say that what was proposed is out of date. It is `Full` only where
 /// the calls are then full with that number, and `NoMemory` also where, after a snapshot, no memory was
 /// left to find what is needed.
-pub fn decide<C: OfficeCalls, G: Gate>(
+pub fn decide<C: OfficeCalls, G: Gate, L: Ledger>(
     alloc: Global,
     calls: &mut C,
-    base: &Base,
     application: Application,
-    gate: &G,
-    actor: u32,
-    command: u32,
+    docket: &Docket<G>,
+    blank: Blank,
 ) -> Reply
-    requires base { base.now ≡ (C.view calls.old).who.base }
-    requires sound { Sound base.now application }
+    requires name { blank.name ≡ L.name }
+    requires parts { blank.parts ≡ L.parts }
+    requires counter { 0 < blank.parts }
+    requires base { docket.now.base.now ≡ (C.view calls.old).who.base }
+    requires sound { Sound docket.now.base.now application }
     ensures decided { CarriedOut (C.view calls.old) (asked.Apply application) result (C.view calls.new) }
     ensures settled { is_outdated result ≡ false }
 {
-    let docket = Docket {
-        base,
-        gate,
-        actor,
-        command,
-    };
-    let mut analyst = None;
-    decide_by(alloc, calls, &mut analyst, &application, &docket)
+    let mut finder = Finder::<L>::new(blank);
+    decide_by(alloc, calls, &mut finder, &application, docket)
 }
 
 // Asks a command, in one call or, for an application, as many as it takes.
-fn ask<C: OfficeCalls, G: Gate>(
+fn ask<C: OfficeCalls, G: Gate, L: Ledger>(
     alloc: Global,
     calls: &mut C,
-    analyst: &mut Option<Follower>,
+    finder: &mut Finder<L>,
     command: &Command,
     docket: &Docket<G>,
 ) -> Reply
     requires base { docket.now.base.now ≡ (C.view calls.old).who.base }
     requires sound { MayCarryOut docket.now.base.now command.now }
-    requires follows { MayFollow analyst.old (C.view calls.old) }
+    requires follows { MayFollow finder.old.follower (C.view calls.old) }
     ensures carried { CarriedOut (C.view calls.old) command.now result (C.view calls.new) }
-    ensures follows { MayFollow analyst.new (C.view calls.new) }
+    ensures follows { MayFollow finder.new.follower (C.view calls.new) }
 {
     match command {
-        Command::Apply(application) => decide_by(alloc, calls, analyst, application, docket),
+        Command::Apply(application) => decide_by(alloc, calls, finder, application, docket),
         Command::Post(change) => calls.post(*change),
         Command::Day(day) => calls.day(*day),
         Command::Surrender(number) => calls.surrender(*number),
@@ -117,47 +114,47 @@ fn ask<C: OfficeCalls, G: Gate>(
 }
 
 // Decides an application, which stays with its owner.
-fn decide_by<C: OfficeCalls, G: Gate>(
+fn decide_by<C: OfficeCalls, G: Gate, L: Ledger>(
     alloc: Global,
     calls: &mut C,
-    analyst: &mut Option<Follower>,
+    finder: &mut Finder<L>,
     application: &Application,
     docket: &Docket<G>,
 ) -> Reply
     requires base { docket.now.base.now ≡ (C.view calls.old).who.base }
     requires sound { Sound docket.now.base.now application.now }
-    requires follows { MayFollow analyst.old (C.view calls.old) }
+    requires follows { MayFollow finder.old.follower (C.view calls.old) }
     ensures decided { CarriedOut (C.view calls.old) (asked.Apply application.now) result (C.view calls.new) }
     ensures settled { is_outdated result ≡ false }
-    ensures follows { MayFollow analyst.new (C.view calls.new) }
+    ensures follows { MayFollow finder.new.follower (C.view calls.new) }
 {
     for tries in 0..7 {
-        match attempt(alloc, calls, analyst, application, docket, tries + 1) {
+        match attempt(alloc, calls, finder, application, docket, tries + 1) {
             Some(reply) => return reply,
             None => (),
         }
     }
-    last_attempt(alloc, calls, analyst, application, docket)
+    last_attempt(alloc, calls, finder, application, docket)
 }
 
 // One attempt, which has this number: nothing where it is out of date.
-fn attempt<C: OfficeCalls, G: Gate>(
+fn attempt<C: OfficeCalls, G: Gate, L: Ledger>(
     alloc: Global,
     calls: &mut C,
-    analyst: &mut Option<Follower>,
+    finder: &mut Finder<L>,
     application: &Application,
     docket: &Docket<G>,
     number: u32,
 ) -> Option<Reply>
     requires base { docket.now.base.now ≡ (C.view calls.old).who.base }
     requires sound { Sound docket.now.base.now application.now }
-    requires follows { MayFollow analyst.old (C.view calls.old) }
+    requires follows { MayFollow finder.old.follower (C.view calls.old) }
     ensures attempted { MatchOption result
         (IsAgain (C.view calls.old) application.now (C.view calls.new))
         (λ r. Concluded (C.view calls.old) application.now r (C.view calls.new)) }
-    ensures follows { MayFollow analyst.new (C.view calls.new) }
+    ensures follows { MayFollow finder.new.follower (C.view calls.new) }
 {
-    match prepare(alloc, calls, analyst, docket.base, application) {
+    match prepare(alloc, calls, finder, docket.base, application) {
         Ok(draft) => submit(calls, draft, docket, number),
         Err(reply) => Some(reply),
     }
@@ -165,20 +162,20 @@ fn attempt<C: OfficeCalls, G: Gate>(
 
 // The eighth attempt, and the held call where it is out of date too. The held call takes a copy, which is
 // made before the submit: so want of memory comes after a snapshot, as in every attempt.
-fn last_attempt<C: OfficeCalls, G: Gate>(
+fn last_attempt<C: OfficeCalls, G: Gate, L: Ledger>(
     alloc: Global,
     calls: &mut C,
-    analyst: &mut Option<Follower>,
+    finder: &mut Finder<L>,
     application: &Application,
     docket: &Docket<G>,
 ) -> Reply
     requires base { docket.now.base.now ≡ (C.view calls.old).who.base }
     requires sound { Sound docket.now.base.now application.now }
-    requires follows { MayFollow analyst.old (C.view calls.old) }
+    requires follows { MayFollow finder.old.follower (C.view calls.old) }
     ensures decided { DecidedAfter 7 (C.view calls.old) application.now result (C.view calls.new) }
-    ensures follows { MayFollow analyst.new (C.view calls.new) }
+    ensures follows { MayFollow finder.new.follower (C.view calls.new) }
 {
-    let draft = match prepare(alloc, calls, analyst, docket.base, application) {
+    let draft = match prepare(alloc, calls, finder, docket.base, application) {
         Ok(draft) => draft,
         Err(reply) => return reply,
     };
@@ -193,28 +190,28 @@ fn last_attempt<C: OfficeCalls, G: Gate>(
 }
 
 // A draft at a new snapshot, or the reply where there is none.
-fn prepare<C: OfficeCalls>(
+fn prepare<C: OfficeCalls, L: Ledger>(
     alloc: Global,
     calls: &mut C,
-    analyst: &mut Option<Follower>,
+    finder: &mut Finder<L>,
     base: &Base,
     application: &Application,
 ) -> Result<Draft, Reply>
     requires base { base.now ≡ (C.view calls.old).who.base }
     requires sound { Sound base.now application.now }
-    requires follows { MayFollow analyst.old (C.view calls.old) }
+    requires follows { MayFollow finder.old.follower (C.view calls.old) }
     ensures drafted { IfOk result
         (λ draft. IsDrafted (C.view calls.old) application.now draft (C.view calls.new)) }
     ensures concluded { IfErr result
         (λ r. Concluded (C.view calls.old) application.now r (C.view calls.new)) }
-    ensures follows { MayFollow analyst.new (C.view calls.new) }
+    ensures follows { MayFollow finder.new.follower (C.view calls.new) }
 {
     let snapshot = match calls.snapshot() {
         Looked::At(snapshot) => snapshot,
         Looked::NoMemory => return Err(Reply::NoMemory),
         Looked::Full { entries } => return Err(Reply::Full { entries }),
     };
-    let proposal = match propose(alloc, analyst, base, snapshot, application) {
+    let proposal = match propose(alloc, finder, base, snapshot, application) {
         Ok(proposal) => proposal,
         Err(NoMemory) => return Err(Reply::NoMemory),
     };
@@ -227,27 +224,27 @@ fn prepare<C: OfficeCalls>(
     }
 }
 
-// What the analyst finds for an application at a snapshot. There is none before the first application.
-fn propose(
+// What is found for an application at a snapshot. Nothing is known before the first application.
+fn propose<L: Ledger>(
     alloc: Global,
-    analyst: &mut Option<Follower>,
+    finder: &mut Finder<L>,
     base: &Base,
     snapshot: Snapshot,
     application: &Application,
 ) -> Result<Proposal, NoMemory>
     requires roads { snapshot.roads ≡ base.now.roads }
     requires sound { Sound base.now application.now }
-    requires follows { IfSome analyst.old (FollowsAt base.now snapshot) }
+    requires follows { IfSome finder.old.follower (FollowsAt base.now snapshot) }
     ensures seen { IfOk result (λ proposal. proposal.seen ≡ version_of snapshot) }
     ensures found { IfOk result (λ proposal. IsFoundAt base.now snapshot application.now proposal.what) }
-    ensures follows { IfSome analyst.new (FollowsAt base.now snapshot) }
+    ensures follows { IfSome finder.new.follower (FollowsAt base.now snapshot) }
 {
-    let mut follower = match analyst.take() {
+    let mut follower = match finder.follower.take() {
         Some(follower) => follower,
         None => Follower::new(alloc, base)?,
     };
-    let found = follower.analyse(alloc, base, snapshot, application);
-    *analyst = Some(follower);
+    let found = follower.analyse(alloc, base, snapshot, application, &mut finder.steps);
+    finder.follower = Some(follower);
     found
 }
 

@@ -12,12 +12,14 @@
 #![tactic(auto)]
 
 mod deciding;
+mod finder;
 mod gate;
 mod laws;
 mod room;
 mod worker;
 
 pub use deciding::{Docket, carry_out, decide};
+pub use finder::Finder;
 pub use gate::{Gate, OpenGate};
 pub use laws::{runs_are_one, scripts_are_short, unfoldings_are_short};
 pub use room::most_entries;

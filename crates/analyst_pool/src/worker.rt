@@ -6,10 +6,13 @@ ghost use Rattle.analyst_pool.specs.declared.worker.Worker.{Worker};
 ghost use Rattle.analyst_pool.specs.Ran.{IsReady, Ran};
 
 use crate::deciding::{Docket, carry_out};
+use crate::finder::Finder;
 use crate::gate::Gate;
 use office_core::OfficeCalls;
 use office_words::{Command, Reply};
 use std::alloc::Global;
+use std::marker::Brand;
+use std::sync::ledger::{Blank, Ledger};
 use std::thread::{Threads, for_each_mut};
 use trip_analysis::Base;
 
@@ -71,12 +74,30 @@ impl<C> Worker<C> {
 }
 
 impl<C: OfficeCalls> Worker<C> {
-    // Carries out the script, up to the first command for which memory is wanting or the history is full.
+    // Carries out the script, up to the first command for which memory is wanting or the history is full. What is tested outside
+    // of the office is counted for each worker anew.
     fn work<G: Gate>(&mut self, alloc: Global, base: &Base, gate: &G)
         requires { IsReady base.now C.view self.old }
         ensures { Ran C.view self.old self.new }
     {
-        let mut analyst = None;
+        self.work_counted::<Brand, G>(alloc, base, gate, Blank::new(1));
+    }
+
+    // The same, with this counter.
+    fn work_counted<L: Ledger, G: Gate>(
+        &mut self,
+        alloc: Global,
+        base: &Base,
+        gate: &G,
+        blank: Blank,
+    )
+        requires name { blank.name ≡ L.name }
+        requires parts { blank.parts ≡ L.parts }
+        requires counter { 0 < blank.parts }
+        requires ready { IsReady base.now C.view self.old }
+        ensures { Ran C.view self.old self.new }
+    {
+        let mut finder = Finder::<L>::new(blank);
         let mut command = 0;
         for asked in &self.script {
             let docket = Docket {
@@ -85,7 +106,7 @@ impl<C: OfficeCalls> Worker<C> {
                 actor: self.actor,
                 command,
             };
-            match carry_out(alloc, &mut self.calls, &mut analyst, asked, &docket) {
+            match carry_out(alloc, &mut self.calls, &mut finder, asked, &docket) {
                 Reply::NoMemory => {
                     self.outcome = Outcome::NoMemory { command };
                     return;

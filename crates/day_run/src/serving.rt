@@ -1,38 +1,46 @@
 // An office whose actors carry out the commands of a day file.
 
-ghost use Rattle.std.specs.Prelude.{◌≡◌, IfOk, OnOk};
+ghost use Rattle.std.specs.Prelude.{◌≡◌, ◌<◌, IfOk, OnOk};
 ghost use Rattle.road_graph.specs.Roads.{IsRoads};
 ghost use Rattle.day_text.specs.Laws.{IsDayFile};
+ghost use Rattle.office_core.specs.Costs.{Counts};
 ghost use Rattle.day_run.specs.Served.{IsServed, LoneActorsAreOne};
 
 use crate::ended::Ended;
 use crate::workers::work_all;
 use analyst_pool::{Gate, most_entries};
+use clearance_rules::Steps;
 use day_text::DayFile;
 use names::NoMemory;
 use office_core::Office;
 use office_desk::Desk;
+use std::sync::ledger::{Blank, Ledger};
 use std::sync::{Arc, Wait};
 use std::thread::Threads;
 
 /// The office of a day file's roads and trucks, after its actors carried out their commands, each actor on a thread of its
-/// own. `NoMemory` where no memory was left, also where a reply says so; a full history is never found. The gate is told how
-/// far each actor is.
+/// own, and the counter of what was tested in its turns. `NoMemory` where no memory was left, also where a reply says so; a full
+/// history is never found. The gate is told how far each actor is.
 ///
 /// It waits until all actors are done.
-pub fn serve<R: Threads + Wait + AllocGlobal + Sync, G: Gate + Sync>(
+pub fn serve<R: Threads + Wait + AllocGlobal + Sync, G: Gate + Sync, L: Ledger + Send + Sync>(
     rt: &R,
     file: DayFile,
     gate: &G,
-) -> Result<Office, NoMemory>
-    requires { IsDayFile file }
-    ensures served { IfOk result (λ office. IsServed file office.history) }
-    ensures base { IfOk result (λ office. office.base ≡ file.base) }
+    blank: Blank,
+) -> Result<(Office, Steps<L>), NoMemory>
+    requires name { blank.name ≡ L.name }
+    requires parts { blank.parts ≡ L.parts }
+    requires counter { 0 < blank.parts }
+    requires file { IsDayFile file }
+    ensures served { IfOk result (λ done. IsServed file done.0.history) }
+    ensures base { IfOk result (λ done. done.0.base ≡ file.base) }
+    ensures counted { IfOk result (λ done. Counts file.base file.day done.0.history done.1) }
     ensures roads { OnOk result (IsRoads file.base.roads) }
 {
     let mut file = file;
     file.learn_applicants(rt.alloc())?;
-    serve_actors(rt, file, gate)
+    serve_actors(rt, file, gate, blank)
 }
 
 /// A law, and no code: over roads within their bounds, no two histories serve a day of at most one actor.
@@ -41,25 +49,30 @@ pub fn lone_actors_are_one()
 {}
 
 // The same, whatever the base keeps of its trucks.
-fn serve_actors<R: Threads + Wait + AllocGlobal + Sync, G: Gate + Sync>(
+fn serve_actors<R: Threads + Wait + AllocGlobal + Sync, G: Gate + Sync, L: Ledger + Send + Sync>(
     rt: &R,
     file: DayFile,
     gate: &G,
-) -> Result<Office, NoMemory>
-    requires { IsDayFile file }
-    ensures served { IfOk result (λ office. IsServed file office.history) }
-    ensures base { IfOk result (λ office. office.base ≡ file.base) }
+    blank: Blank,
+) -> Result<(Office, Steps<L>), NoMemory>
+    requires name { blank.name ≡ L.name }
+    requires parts { blank.parts ≡ L.parts }
+    requires counter { 0 < blank.parts }
+    requires file { IsDayFile file }
+    ensures served { IfOk result (λ done. IsServed file done.0.history) }
+    ensures base { IfOk result (λ done. done.0.base ≡ file.base) }
+    ensures counted { IfOk result (λ done. Counts file.base file.day done.0.history done.1) }
     ensures roads { OnOk result (IsRoads file.base.roads) }
 {
     let alloc = rt.alloc();
     let most = most_entries(file.commands());
     let (base, day, scripts) = file.into_scripts(alloc)?;
     let base = Arc::new(alloc, base)?;
-    let (desk, mut root) = Desk::start(alloc, Arc::try_clone(&base)?, day, most)?;
+    let (desk, mut root) = Desk::<L>::start(alloc, Arc::try_clone(&base)?, day, most, blank)?;
     let ended = work_all(rt, &desk, &mut root, &base, scripts, gate)?;
-    let office = desk.close(root);
+    let closed = desk.close(root);
     match ended {
-        Ended::Done => Ok(office),
+        Ended::Done => Ok(closed),
         Ended::NoMemory => Err(NoMemory),
         Ended::Full => unreachable!(),
     }

@@ -12,17 +12,18 @@ use names::NoMemory;
 use office_desk::{Desk, Root, Seat};
 use office_words::Command;
 use std::sync::Wait;
+use std::sync::ledger::Ledger;
 use std::thread::Threads;
 use trip_analysis::Base;
 
 /// An actor with its script and its seat at the desk.
-type Actor<'a, R> = Worker<Seat<'a, R>>;
+type Actor<'a, R, L> = Worker<Seat<'a, R, L>>;
 
 /// Admits a pass for each script, has the actors carry out their scripts, all at once, and takes the passes in.
-pub(crate) fn work_all<R: Threads + Wait + AllocGlobal + Sync, G: Gate + Sync>(
+pub(crate) fn work_all<R: Threads + Wait + AllocGlobal + Sync, G: Gate + Sync, L: Ledger + Send + Sync>(
     rt: &R,
-    desk: &Desk,
-    root: &mut Root,
+    desk: &Desk<L>,
+    root: &mut Root<L>,
     base: &Base,
     scripts: Vec<Vec<Command>>,
     gate: &G,
@@ -38,19 +39,19 @@ pub(crate) fn work_all<R: Threads + Wait + AllocGlobal + Sync, G: Gate + Sync>(
     ensures run { IfOk result (HaveRun desk.now root.new.receipts scripts.items) }
 {
     let alloc = rt.alloc();
-    let mut workers: Vec<Actor<'_, R>> = Vec::with_capacity(alloc, scripts.len())?;
+    let mut workers: Vec<Actor<'_, R, L>> = Vec::with_capacity(alloc, scripts.len())?;
     admit_all(rt, desk, root, scripts, &mut workers);
     run_actors(rt, alloc, base, &mut workers, gate);
     Ok(take_all(desk, root, workers))
 }
 
 // Admits a pass for each script, in their order. There is room for the workers.
-fn admit_all<'a, R: Wait>(
+fn admit_all<'a, R: Wait, L: Ledger>(
     rt: &'a R,
-    desk: &'a Desk,
-    root: &mut Root,
+    desk: &'a Desk<L>,
+    root: &mut Root<L>,
     scripts: Vec<Vec<Command>>,
-    workers: &mut Vec<Actor<'a, R>>,
+    workers: &mut Vec<Actor<'a, R, L>>,
 )
     requires root { root.old ≡ opening_root desk.now }
     requires none { workers.old.items ≡ [] }
@@ -72,7 +73,11 @@ fn admit_all<'a, R: Wait>(
 }
 
 // Takes all passes in, and tells how their actors ended.
-fn take_all<'a, R: Wait>(desk: &'a Desk, root: &mut Root, mut workers: Vec<Actor<'a, R>>) -> Ended
+fn take_all<'a, R: Wait, L: Ledger>(
+    desk: &'a Desk<L>,
+    root: &mut Root<L>,
+    mut workers: Vec<Actor<'a, R, L>>,
+) -> Ended
     requires lock { root.old.lock ≡ desk.now }
     requires passes { AreAt (λ s. s.pass) desk.now workers.items }
     ensures lock { root.new.lock ≡ desk.now }

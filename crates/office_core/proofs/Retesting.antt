@@ -1,9 +1,11 @@
 -- What did not change after a version is as it was then: along a route that met, and out of a cut that failed.
-use Rattle.std.proofs.Common.{◌≡◌, ◌∷◌, List, ℕ, zero, suc, ◌+◌, ◌-◌, ◌<◌, ◌≤◌, ◌&&◌, Bool, cond, true, false, length, get_or, take, drop, filter, inl, inr, refl, ap, sym, subst, ◌∙◌, arith}
+use Rattle.std.proofs.Common.{◌≡◌, [], ◌∷◌, List, ℕ, zero, suc, ◌+◌, ◌-◌, ◌<◌, ◌≤◌, ◌&&◌, Bool, cond, true, false, length, get_or, take, drop, filter, inl, inr, refl, ap, sym, subst, ◌∙◌, zero-add, arith}
 use Rattle.std.specs.Prelude.{Option, Some, None, is_none}
 use Rattle.std.proofs.lemmas.Bool.{and_parts, cases_Bool}
 use Rattle.std.proofs.lemmas.List.{drop_more}
+use Rattle.std.proofs.Math.Seq.{drop-length}
 use Rattle.restriction_log.specs.declared.change.Change.{Change}
+use Rattle.restriction_log.specs.Changes.{is_touched}
 use Rattle.restriction_log.specs.States.{state_of}
 use Rattle.restriction_log.proofs.Elsewhere.{agree-since}
 use Rattle.clearance_rules.specs.declared.limit.Limit.{Limit}
@@ -199,10 +201,26 @@ within_none base postings seen (what.Route route) n = omega arith
 within_none base postings seen (what.Fails s) n = omega arith
 within_none base postings seen (what.Cut nodes) n = omega arith
 
+-- what is found at the current version is answered by one test at the most, since nothing changed after it
+none_changed : (base : BaseLists) (postings : List Change) (segments : List ℕ) → changed_on base postings (length postings) segments ≡ 0
+none_changed base postings [] = refl
+none_changed base postings (s ∷ rest) =
+    counted base postings (length postings) s rest
+    ∙ (ap (λ (c : List Change). cond (is_touched base.roads s c) 1 0 + changed_on base postings (length postings) rest) (drop-length postings)
+    ∙ (zero-add (changed_on base postings (length postings) rest) ∙ none_changed base postings rest))
+
+pub within_now : (base : BaseLists) (postings : List Change) (w : What) (before now : ℕ)
+    → IsWithin base postings (length postings) w before now → now ≤ before + 1
+within_now base postings what.NotNeeded before now within = omega (arith, within)
+within_now base postings (what.Route route) before now within = omega (arith, within, none_changed base postings route)
+within_now base postings (what.Fails s) before now within = within
+within_now base postings (what.Cut nodes) before now within =
+    omega (arith, within, none_changed base postings (leaving base.roads nodes))
+
 pub cost_none : (base : BaseLists) (m : Machine) (c : Call) (n : ℕ) → IsCost base m c n n
 cost_none base m call.Snapshot n = refl
 cost_none base m (call.Submit a p) n = within_none base m.postings p.seen p.what n
-cost_none base m (call.Held a) n = tt
+cost_none base m (call.Held a) n = omega arith
 cost_none base m (call.Post change) n = omega arith
 cost_none base m (call.Day day) n = refl
 cost_none base m (call.Surrender number) n = refl

@@ -3,6 +3,7 @@
 use Rattle.std.proofs.Common.{[], ◌∷◌}
 use denote.Param.Send.{IsSend, sendable, view_send}
 use denote.Param.SendFields.{FieldsHave, declared_send}
+use denote.RattleType.{RattleType}
 use denote.Ref.{NamedLft}
 use denote.Struct.Field.{u32-field}
 use Rattle.std.proofs.Crossing.{Arc-send, Vec-send, crosses, send as heap_send}
@@ -12,11 +13,13 @@ use Rattle.std.specs.contracts.option.Option as Last
 use Rattle.std.specs.contracts.snapshot.Snapshot as Told
 use Rattle.std.specs.contracts.sync.Arc as Arc
 use Rattle.std.specs.contracts.vec.Vec as Vec
+use Rattle.std.specs.declared.sync.ledger.Ledger.{Ghosts}
 use Rattle.restriction_log.proofs.log.Log.TheSendSync as log
 use Rattle.restriction_log.proofs.stamps.Stamps.TheSendSync as stamps
 use Rattle.restriction_log.proofs.state.State.TheSendSync as state
 use Rattle.snapshot_store.specs.contracts.snapshot.Snapshot as Snapshot
 use Rattle.snapshot_store.specs.contracts.store.Store as Store
+use Rattle.clearance_rules.proofs.steps.Steps.TheSendSync as steps
 use Rattle.permit_days.proofs.day.Day.TheSendSync as day
 use Rattle.permit_days.specs.contracts.day.Day as Day
 use Rattle.permit_book.proofs.book.Book.TheSendSync as book
@@ -29,6 +32,7 @@ use Rattle.trip_analysis.specs.contracts.analyst.Analyst as Analyst
 use Rattle.trip_analysis.specs.contracts.base.Base as Base
 use Rattle.trip_analysis.specs.contracts.follower.Follower as Follower
 use Rattle.office_words.specs.contracts.entry.Entry as Entry
+use Rattle.office_core.specs.contracts.counted.CountedOffice as CountedOffice
 use Rattle.office_core.specs.contracts.office.Office as Office
 use Rattle.office_core.specs.contracts.register.Register as Register
 use Rattle.office_core.specs.contracts.seat.OneSeat as OneSeat
@@ -63,5 +67,8 @@ office_fields = (register_send, (day.the_send, (search sendable, (Vec-send Entry
 pub office_send : IsSend Office.the_row
 office_send = search (view_send, declared_send, office_fields)
 
-pub seat_send : (κ : NamedLft) → IsSend (OneSeat.the_row κ)
-seat_send κ = search (sendable, crosses, office_send) depth 40 fits 20000
+pub counted_send : (L : RattleType) (ledger : Ghosts L.Denot) → IsSend (CountedOffice.the_row L ledger)
+counted_send L ledger = search (view_send, declared_send, office_send, steps.the_send, tt) depth 8
+
+pub seat_send : (κ : NamedLft) (L : RattleType) (ledger : Ghosts L.Denot) → IsSend (OneSeat.the_row κ L ledger)
+seat_send κ L ledger = search (sendable, crosses, counted_send) depth 40 fits 20000

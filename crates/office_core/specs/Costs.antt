@@ -1,18 +1,37 @@
 -- How many segments are tested while a call is answered.
-use Rattle.std.specs.Prelude.{◌≡◌, ◌≤◌, ◌+◌, ℕ, length}
+use Rattle.std.specs.Prelude.{◌≡◌, ◌≤◌, ◌+◌, ℕ, List, [], ◌∷◌, length}
 use Rattle.restriction_log.specs.Changes.{touched}
+use Rattle.trip_analysis.specs.declared.application.Application.{Application}
 use Rattle.trip_analysis.specs.Bases.{BaseLists}
+use Rattle.trip_analysis.specs.Tests.{tests_for, tests_to_go_on}
 use Rattle.office_words.specs.declared.entry.Call.{Call}
 use Rattle.office_words.specs.declared.entry.Call.TheVariants as call
-use Rattle.office_core.specs.Machine.{Machine}
+use Rattle.office_words.specs.declared.entry.Entry.{Entry}
+use Rattle.office_core.specs.Machine.{Machine, after_entry, opened}
 use Rattle.office_core.specs.Retests.{IsWithin}
 use Rattle.office_core.specs.Users.{users_of}
 
--- what a call may add to the count of tested segments: an answer to a proposal what changed since, and one more; a posting
--- at most the number of permits that use the segment which it names; a look, a day, a surrender and what a permit says
--- nothing. Of what the office finds itself nothing is said
+-- what the office finds itself is found by so many tests at the most: what it knows of the trucks is carried over to the current
+-- version, what is asked for is found there, and one test more names the limit of a refusal
+abbrev pub tests_held : BaseLists → Application → ℕ
+tests_held base a = tests_to_go_on base + tests_for base a.asked + 1
+
+-- what a call may add to the count of tested segments: an answer to a proposal what changed since, and one more; what the office
+-- finds itself what finding takes; a posting at most the number of permits that use the segment which it names; a look, a day, a
+-- surrender and what a permit says nothing
 abbrev pub IsCost : BaseLists → Machine → Call → ℕ → ℕ → Type 0
 IsCost base m (call.Submit a p) before now = IsWithin base m.postings p.seen p.what before now
-IsCost base m (call.Held a) before now = Unit {0}
+IsCost base m (call.Held a) before now = now ≤ before + tests_held base a
 IsCost base m (call.Post change) before now = now ≤ before + length (users_of (touched base.roads change) m.permits)
 IsCost base m _ before now = now ≡ before
+
+-- A counter stood at one number before some entries and stands at another behind them: it rose in the turn of each entry, by
+-- what its call may cost in the machine before it, and by nothing else.
+abbrev pub CountsFrom : BaseLists → Machine → List Entry → ℕ → ℕ → Type 0
+CountsFrom base m [] before now = now ≡ before
+CountsFrom base m (e ∷ es) before now =
+    (between : ℕ) × IsCost base m e.call before between × CountsFrom base (after_entry base m e) es between now
+
+-- a counter that stood at 0 when the office opened
+abbrev pub Counts : BaseLists → List ℕ → List Entry → ℕ → Type 0
+Counts base day es now = CountsFrom base (opened day) es 0 now

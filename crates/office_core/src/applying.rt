@@ -7,6 +7,7 @@ ghost use Rattle.trip_analysis.specs.Findings.{InRange, first_on as first_in, is
 ghost use Rattle.office_words.specs.declared.entry.Call.TheVariants.{Held, Submit};
 ghost use Rattle.office_words.specs.declared.entry.Reply.TheVariants as reply;
 ghost use Rattle.office_core.specs.Replies.{early_reply};
+ghost use Rattle.office_core.specs.Costs.{tests_held};
 ghost use Rattle.office_core.specs.Machine.{HasRoom, IsFound, trip_for, version_of};
 ghost use Rattle.office_core.specs.Registers.{Gives, HeldAt, IsReplyTo, IsRetested, Issues, Leaves, MayLack, Permits, changed_out, found_reply, has_changed, least_out, next_issue, state_now, state_then};
 
@@ -62,11 +63,12 @@ impl Register {
         ensures after { IfOk result (Leaves self.old caller (Held application.now) self.new) }
         ensures unchanged { OnErr result (self.new ≡ self.old) }
         ensures lack { OnErr result (MayLack self.old (Held application.now)) }
+        ensures cost { steps.new ≤ steps.old + tests_held self.old.base application.now }
     {
         match early_answer(self.base(), self.today(), application) {
             Some(answer) => Ok(answer),
             None => {
-                let proposal = self.find(application)?;
+                let proposal = self.find(application, steps)?;
                 self.answer_found(caller, application, &proposal, steps)
             }
         }

@@ -84,6 +84,7 @@ impl Office {
         ensures step { HasPlace self.old → IsStep self.old (entry caller call result) self.new }
         ensures legal { IsLegal self.new.base self.new.opening self.new.history }
         ensures cost { IsCost self.old.base (machine_in self.old) call steps.old steps.new }
+        ensures untested { IsFull self.old → steps.new ≡ steps.old }
     {
         if self.history.len() >= self.most as usize {
             return Reply::Full { entries: self.most };

@@ -13,6 +13,7 @@ ghost use Rattle.permit_book.specs.Permits.{AreNumbered, in_force, is_issued, pe
 ghost use Rattle.office_words.specs.declared.entry.Reply.TheVariants as reply;
 ghost use Rattle.office_core.specs.Recalls.{IsRanged};
 ghost use Rattle.office_core.specs.Users.{IsUser, users_of};
+ghost use Rattle.office_core.specs.Costs.{tests_held};
 ghost use Rattle.office_core.specs.Machine.{HasRoom, opened, version_of, with_day, with_surrender};
 ghost use Rattle.office_core.specs.Registers.{AreUnchanged, Enters, HeldAt, IsFoundNow, IsNext, MeetElsewhere, Posts, has_changed, posting_reply, recalls_of, state_now, stored_now};
 
@@ -208,17 +209,22 @@ impl Register {
     }
 
     /// What the office finds itself, at the current version.
-    pub(crate) fn find(&mut self, application: &Application) -> Result<Proposal, NoMemory>
+    pub(crate) fn find<L: Ledger>(
+        &mut self,
+        application: &Application,
+        steps: &mut Steps<L>,
+    ) -> Result<Proposal, NoMemory>
         requires { Sound self.old.base application.now }
         ensures same { self.new ≡ self.old }
         ensures seen { IfOk result (λ proposal. proposal.seen ≡ version_of self.old.machine) }
         ensures found { IfOk result (λ proposal. IsFoundNow self.old application.now proposal.what) }
         ensures within { IfOk result (λ proposal. InRange self.old.base proposal.what) }
         ensures held { IfOk result (λ found. HeldAt self.old found.seen application.now.truck found.what) }
+        ensures cost { steps.new + 1 ≤ steps.old + tests_held self.old.base application.now }
     {
         let snapshot = self.store.snapshot()?;
         self.follower
-            .analyse(self.alloc, &self.base, snapshot, application)
+            .analyse(self.alloc, &self.base, snapshot, application, steps)
     }
 
     /// Enters the next permit into the book and the index, for a trip that meets now and whose route was found at the version

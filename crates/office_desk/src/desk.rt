@@ -10,32 +10,36 @@ ghost use Rattle.office_core.specs.Promises.{KeepsPromises};
 ghost use Rattle.office_desk.specs.Desks.{MayAskWith, calls_of, terms_of};
 
 use crate::desked::Desked;
+use clearance_rules::Steps;
 use names::NoMemory;
-use office_core::{Looked, Office};
+use office_core::{CountedOffice, Looked, Office};
 use office_turn::{Turn, Worn};
 use office_words::{Call, Reply};
 use permit_days::Day;
 use std::alloc::Global;
 use std::marker::Model;
+use std::sync::ledger::{Blank, Ledger};
 use std::sync::{Arc, Wait};
 use trip_analysis::Base;
 
 /// The right to call a desk, as one caller. It must be spent, in [`Desk::leave`].
-pub type Pass = office_turn::Pass<Desked>;
+pub type Pass<L> = office_turn::Pass<Desked<L>>;
 
 /// The right to admit passes to a desk, to take them in, and to close it.
-pub type Root = office_turn::Root<Desked>;
+pub type Root<L> = office_turn::Root<Desked<L>>;
 
 /// The office that threads share. [`Desk::close`] gives the office back. A desk that is let go drops it.
+///
+/// What is tested in its turns is counted by a counter of its own, which is made when it starts.
 ///
 /// In contracts it is the `Lock` of its office: which one, what the office is about with the day on which it opened and
 /// the most entries of its history, and the most turns, which are as many. So no step in a turn finds the history full.
 #[derive(Drop)]
-pub struct Desk {
-    turn: Turn<Desked>,
+pub struct Desk<L: Ledger> {
+    turn: Turn<Desked<L>>,
 }
 
-impl Model for Desk {
+impl<L: Ledger> Model for Desk<L> {
     ghost use Rattle.office_turn.specs.Told.{Lock};
     ghost use Rattle.office_desk.specs.Desks.{IsTied, Terms};
 
@@ -46,7 +50,9 @@ impl Model for Desk {
     ghost invariant = { λ d. IsTied d.turn };
 }
 
-impl Desk {
+impl<L: Ledger> Desk<L> {
+    ghost use Rattle.office_core.specs.Counted.{AreCounted};
+
     /// A desk of a new office about this base, which opens on this day, with room for so many entries, and its root.
     /// `NoMemory` where no memory was left.
     pub fn start(
@@ -54,7 +60,11 @@ impl Desk {
         base: Arc<Base, Global>,
         day: Day,
         most: u32,
-    ) -> Result<(Desk, Root), NoMemory>
+        blank: Blank,
+    ) -> Result<(Desk<L>, Root<L>), NoMemory>
+        requires name { blank.name ≡ L.name }
+        requires parts { blank.parts ≡ L.parts }
+        requires counter { 0 < blank.parts }
         requires some { 1 ≤ most }
         requires bounded { most ≤ 1000000 }
         ensures terms { IfOk result (λ started. started.0.terms ≡ Some (arc_value base, day, most)) }
@@ -62,14 +72,15 @@ impl Desk {
         ensures root { IfOk result (λ started. started.1 ≡ opening_root started.0) }
     {
         let office = Office::start(alloc, base, day, most)?;
-        match Turn::start(alloc, Desked { office }, most) {
+        let counted = CountedOffice::new(office, blank);
+        match Turn::start(alloc, Desked { counted }, most) {
             Ok((turn, root)) => Ok((Desk { turn }, root)),
             Err(office_turn::NoMemory) => Err(NoMemory),
         }
     }
 
     /// A new pass, which has seen what the root has seen. It never refuses and takes no memory.
-    pub fn admit(&self, root: &mut Root) -> Pass
+    pub fn admit(&self, root: &mut Root<L>) -> Pass<L>
         requires lock { root.old.lock ≡ self.now }
         requires room { root.old.admitted < 65536 }
         ensures pass { result ≡ admitted_by root.old }
@@ -79,7 +90,7 @@ impl Desk {
     }
 
     /// Takes a pass in. The root tells one receipt more. It takes no memory.
-    pub fn leave(&self, root: &mut Root, pass: Pass)
+    pub fn leave(&self, root: &mut Root<L>, pass: Pass<L>)
         requires lock { root.old.lock ≡ self.now }
         requires ready { IsReady self.now pass }
         ensures root { root.new ≡ after_join root.old pass }
@@ -87,33 +98,37 @@ impl Desk {
         self.turn.join(root, pass);
     }
 
-    /// Ends the desk, and gives its office back. It takes no memory.
-    pub fn close(self, root: Root) -> Office
+    /// Ends the desk, and gives its office back, with the counter of what was tested in its turns. It takes no memory.
+    pub fn close(self, root: Root<L>) -> (Office, Steps<L>)
         requires lock { root.lock ≡ self }
         requires joined { length root.receipts ≡ root.admitted }
-        ensures terms { Some (terms_of result) ≡ root.lock.terms }
-        ensures seen { StartsWith result.history root.seen }
+        ensures terms { Some (terms_of result.0) ≡ root.lock.terms }
+        ensures seen { StartsWith result.0.history root.seen }
 
         // The history has the entries of those that were admitted and no others, as their receipts tell.
-        ensures own { All (λ receipt. entries_by receipt.number result.history ≡ receipt.own) root.receipts }
-        ensures callers { All (λ e. e.caller < root.admitted) result.history }
-        ensures others { All (λ e. HasReceipt root.receipts e.caller) result.history }
+        ensures own { All (λ receipt. entries_by receipt.number result.0.history ≡ receipt.own) root.receipts }
+        ensures callers { All (λ e. e.caller < root.admitted) result.0.history }
+        ensures others { All (λ e. HasReceipt root.receipts e.caller) result.0.history }
 
         // A call was answered `Full` only where the history has the most entries that it may.
         ensures worn { All
-            (λ receipt. receipt.worn ≡ true → length result.history ≡ root.lock.most) root.receipts }
+            (λ receipt. receipt.worn ≡ true → length result.0.history ≡ root.lock.most) root.receipts }
 
-        ensures legal { IsLegal result.base result.opening result.history }
-        ensures promises { KeepsPromises result.base result.opening result.history }
+        ensures legal { IsLegal result.0.base result.0.opening result.0.history }
+        ensures promises { KeepsPromises result.0.base result.0.opening result.0.history }
+
+        // In the turn of each entry no more was tested than its call may cost, and nothing between the turns.
+        ensures counted { AreCounted result.0 result.1 }
     {
         let Desk { turn } = self;
-        let Desked { office } = turn.close(root);
+        let Desked { counted } = turn.close(root);
+        let (office, steps) = counted.into_parts();
         let _entries = office.history();
-        office
+        (office, steps)
     }
 
     /// The current version and its state. The entry is there also where no memory was left for it. It may wait.
-    pub fn snapshot<R: Wait>(&self, rt: &R, pass: &mut Pass) -> Looked
+    pub fn snapshot<R: Wait>(&self, rt: &R, pass: &mut Pass<L>) -> Looked
         requires ready { IsReady self.now pass.old }
         ensures answered { Looks (calls_of pass.old) result (calls_of pass.new) }
         ensures ready { IsReady self.now pass.new }
@@ -130,7 +145,7 @@ impl Desk {
 
     /// Asks a call, in a turn with one step of the office. What is found for an application was found at a version that the pass
     /// has seen. It may wait.
-    pub fn ask<R: Wait>(&self, rt: &R, pass: &mut Pass, call: Call) -> Reply
+    pub fn ask<R: Wait>(&self, rt: &R, pass: &mut Pass<L>, call: Call) -> Reply
         requires ready { IsReady self.now pass.old }
         requires asked { MayAskWith pass.old call }
         ensures answered { Answered (calls_of pass.old) call result (calls_of pass.new) }

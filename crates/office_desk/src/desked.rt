@@ -1,31 +1,30 @@
-// An office under a lock.
+// An office under a lock, with the counter of its tests.
 
 ghost use Rattle.std.specs.Prelude.{◌≡◌, ◌<◌, false};
 ghost use Rattle.office_words.specs.declared.entry.Call.TheVariants as calls;
 ghost use Rattle.office_words.specs.declared.entry.Reply.TheVariants as reply;
 ghost use Rattle.office_core.specs.Replies.{is_full};
+ghost use Rattle.office_core.specs.Costs.{IsCost};
 ghost use Rattle.office_core.specs.Machine.{IsLegal, MayAsk, version_of};
 ghost use Rattle.office_core.specs.Offices.{HasPlace, entry, grown, machine_in};
 ghost use Rattle.office_desk.specs.Desks.{HandsOut};
 
-use clearance_rules::Steps;
 use names::NoMemory;
-use office_core::{Looked, Office};
+use office_core::{CountedOffice, Looked};
 use office_turn::Storied;
 use office_words::{Call, Entry, Reply};
 use permit_days::Day;
-use std::marker::Brand;
-use std::sync::ledger::{Blank, Ledger};
+use std::sync::ledger::Ledger;
 use trip_analysis::Base;
 
-/// An office under a lock. Its story is its history, and its terms are what it is about, the day on which it opened and
-/// the most entries that its history may hold.
+/// An office under a lock, with the counter of what is tested in its turns. Its story is its history, and its terms are what it
+/// is about, the day on which it opened and the most entries that its history may hold.
 #[derive(Drop)]
-pub struct Desked {
-    pub(crate) office: Office,
+pub struct Desked<L: Ledger> {
+    pub(crate) counted: CountedOffice<L>,
 }
 
-impl Storied for Desked {
+impl<L: Ledger> Storied for Desked<L> {
     ghost use Rattle.office_desk.specs.Desks.{terms_of};
 
     type Entry = Entry;
@@ -34,51 +33,38 @@ impl Storied for Desked {
 
     ghost caller = { λ e. e.caller };
 
-    ghost story = { λ d. d.office.history };
+    ghost story = { λ d. d.counted.office.history };
 
-    ghost terms = { λ d. terms_of d.office };
+    ghost terms = { λ d. terms_of d.counted.office };
 }
 
-impl Desked {
-    // Answers a call and adds its entry. What it tests is counted for nobody.
+impl<L: Ledger> Desked<L> {
+    // Answers a call and adds its entry.
     pub(crate) fn step(&mut self, caller: u32, call: Call) -> Reply
         requires caller { caller < 65536 }
-        requires place { HasPlace self.old.office }
-        requires asked { MayAsk self.old.office.base (machine_in self.old.office) call }
+        requires place { HasPlace self.old.counted.office }
+        requires asked { MayAsk self.old.counted.office.base (machine_in self.old.counted.office) call }
         ensures not_full { is_full result ≡ false }
-        ensures grown { self.new.office ≡ grown self.old.office (entry caller call result) }
-        ensures legal { IsLegal self.new.office.base self.new.office.opening self.new.office.history }
+        ensures grown { self.new.counted.office ≡ grown self.old.counted.office (entry caller call result) }
+        ensures legal { IsLegal self.new.counted.office.base self.new.counted.office.opening self.new.counted.office.history }
+        ensures cost { IsCost self.old.counted.office.base (machine_in self.old.counted.office) call
+            self.old.counted.tests self.new.counted.tests }
     {
-        self.step_counted::<Brand>(caller, call, Blank::new(1))
+        self.counted.step(caller, call)
     }
 
-    // The same over a counter of tests, which nobody reads.
-    fn step_counted<L: Ledger>(&mut self, caller: u32, call: Call, blank: Blank) -> Reply
-        requires name { blank.name ≡ L.name }
-        requires parts { blank.parts ≡ L.parts }
-        requires some { 0 < blank.parts }
-        requires caller { caller < 65536 }
-        requires place { HasPlace self.old.office }
-        requires asked { MayAsk self.old.office.base (machine_in self.old.office) call }
-        ensures not_full { is_full result ≡ false }
-        ensures grown { self.new.office ≡ grown self.old.office (entry caller call result) }
-        ensures legal { IsLegal self.new.office.base self.new.office.opening self.new.office.history }
-    {
-        let mut steps = Steps::<L>::new(blank);
-        self.office.step(caller, call, &mut steps)
-    }
-
-    // Looks at the office: adds an entry of it, and hands out what is then posted.
+    // Looks at the office: adds an entry of it, and hands out what is then posted. It tests nothing.
     pub(crate) fn look(&mut self, caller: u32) -> Looked
         requires caller { caller < 65536 }
-        requires place { HasPlace self.old.office }
-        ensures out { HandsOut result self.new.office }
-        ensures grown { self.new.office ≡ grown self.old.office
-            (entry caller calls.Snapshot (reply.SnapshotAt (version_of (machine_in self.new.office)))) }
-        ensures legal { IsLegal self.new.office.base self.new.office.opening self.new.office.history }
+        requires place { HasPlace self.old.counted.office }
+        ensures out { HandsOut result self.new.counted.office }
+        ensures grown { self.new.counted.office ≡ grown self.old.counted.office
+            (entry caller calls.Snapshot (reply.SnapshotAt (version_of (machine_in self.new.counted.office)))) }
+        ensures legal { IsLegal self.new.counted.office.base self.new.counted.office.opening self.new.counted.office.history }
+        ensures cost { self.new.counted.tests ≡ self.old.counted.tests }
     {
         drop(self.step(caller, Call::Snapshot));
-        match self.office.snapshot() {
+        match self.counted.office().snapshot() {
             Ok(snapshot) => Looked::At(snapshot),
             Err(NoMemory) => Looked::NoMemory,
         }

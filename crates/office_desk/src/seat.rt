@@ -7,18 +7,19 @@ use crate::desk::{Desk, Pass};
 use office_core::{Looked, OfficeCalls};
 use office_words::{Call, Reply};
 use std::sync::Wait;
+use std::sync::ledger::Ledger;
 
 /// One caller at a desk. It ends in [`Seat::into_pass`].
-pub struct Seat<'a, R: Wait> {
+pub struct Seat<'a, R: Wait, L: Ledger> {
     rt: &'a R,
-    desk: &'a Desk,
-    pass: Pass,
+    desk: &'a Desk<L>,
+    pass: Pass<L>,
     ghost ready: { IsReady desk.now pass },
 }
 
-impl<'a, R: Wait> Seat<'a, R> {
+impl<'a, R: Wait, L: Ledger> Seat<'a, R, L> {
     /// The calls that are made of the desk with this pass.
-    pub fn new(rt: &'a R, desk: &'a Desk, pass: Pass) -> Seat<'a, R>
+    pub fn new(rt: &'a R, desk: &'a Desk<L>, pass: Pass<L>) -> Seat<'a, R, L>
         requires { IsReady desk.now pass }
         ensures pass { result.pass ≡ pass }
         ensures desk { result.desk.now ≡ desk.now }
@@ -27,7 +28,7 @@ impl<'a, R: Wait> Seat<'a, R> {
     }
 
     /// The pass, which has seen and added what these calls have.
-    pub fn into_pass(self) -> Pass
+    pub fn into_pass(self) -> Pass<L>
         ensures pass { result ≡ self.entry.pass }
         ensures ready { IsReady self.entry.desk.now result }
     {
@@ -40,10 +41,10 @@ impl<'a, R: Wait> Seat<'a, R> {
     }
 }
 
-impl<R: Wait> OfficeCalls for Seat<'_, R> {
+impl<R: Wait, L: Ledger> OfficeCalls for Seat<'_, R, L> {
     ghost use Rattle.office_desk.specs.Desks.{calls_of};
 
-    type Place = Desk;
+    type Place = Desk<L>;
 
     ghost view = { λ s. calls_of s.pass };
 

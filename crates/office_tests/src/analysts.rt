@@ -1,4 +1,4 @@
-ghost use Rattle.std.specs.Prelude.{◌≡◌, ◌≤◌, All, IfOk, false, vec_len};
+ghost use Rattle.std.specs.Prelude.{◌≡◌, ◌<◌, ◌≤◌, [], All, IfOk, false, vec_len};
 ghost use Rattle.std.specs.Arc.{arc_value};
 ghost use Rattle.office_core.specs.Replies.{is_full};
 ghost use Rattle.office_core.specs.Seats.{calls_of};
@@ -8,17 +8,19 @@ ghost use Rattle.analyst_pool.specs.Ran.{IsReady};
 
 use crate::fixtures::{ALONE, AROUND, application, base, day, full_at, journal_ends, office};
 use analyst_pool::{
-    Docket, Gate, OpenGate, Outcome, Worker, carry_out, decide, most_entries, run_actors,
+    Docket, Finder, Gate, OpenGate, Outcome, Worker, carry_out, decide, most_entries, run_actors,
 };
-use office_core::{Looked, Office, OfficeCalls, OneSeat};
+use office_core::{CountedOffice, Looked, Office, OfficeCalls, OneSeat};
 use office_words::{Call, Command, Reply};
 use restriction_log::Change;
 use std::alloc::{AllocError, Global};
 use std::cell::Cell;
+use std::marker::Brand;
 use std::process::Abort;
 use std::sync::Arc;
 use std::sync::atomic::{AtomicU64, Ordering};
-use std::thread::{Threads, yield_now};
+use std::sync::ledger::{Blank, Ledger};
+use std::thread::{Threads, join_mut, yield_now};
 use trip_analysis::Base;
 
 // Writes down what it is told as the digits of a number: 1 first, then 0 ahead of the command, the number
@@ -53,23 +55,26 @@ impl Gate for Digits {
 // The calls of caller 0 of an office in which caller 1 posts a change ahead of each submit, the last of
 // these first. Once they are all posted nothing comes between.
 #[derive(Drop)]
-struct Interrupted<'a, R: Abort> {
+struct Interrupted<'a, R: Abort, L: Ledger> {
     rt: &'a R,
-    office: Office,
+    office: CountedOffice<L>,
     changes: &'a [Change],
 }
 
 // Posts a change as caller 1.
-fn post(office: &mut Office, change: Change)
-    ensures { Interrupts office.old office.new }
+fn post<L: Ledger>(office: &mut CountedOffice<L>, change: Change)
+    ensures { Interrupts office.old.office office.new.office }
 {
     let mut seat = OneSeat::new(office, 1);
     drop(seat.post(change));
 }
 
 // Posts the last of these changes as caller 1, if one is left. Those that are left then.
-fn interrupt<'a>(office: &mut Office, changes: &'a [Change]) -> &'a [Change]
-    ensures { Interrupts office.old office.new }
+fn interrupt<'a, L: Ledger>(
+    office: &mut CountedOffice<L>,
+    changes: &'a [Change],
+) -> &'a [Change]
+    ensures { Interrupts office.old.office office.new.office }
 {
     match changes.split_last() {
         Some((change, left)) => {
@@ -91,12 +96,12 @@ fn unless_full(rt: &impl Abort, reply: Reply) -> Reply
     }
 }
 
-impl<R: Abort> OfficeCalls for Interrupted<'_, R> {
+impl<R: Abort, L: Ledger> OfficeCalls for Interrupted<'_, R, L> {
     ghost use Rattle.analyst_pool.specs.Interrupted.{shared};
 
     type Place = ();
 
-    ghost view = { λ s. shared 0 s.office };
+    ghost view = { λ s. shared 0 s.office.office };
 
     fn snapshot(&mut self) -> Looked {
         let mut seat = OneSeat::new(&mut self.office, 0);
@@ -112,14 +117,18 @@ impl<R: Abort> OfficeCalls for Interrupted<'_, R> {
 }
 
 // Carries out a command, of which the gate is told this. How many entries the history held, where it was full, and else 0.
-fn tell<C: OfficeCalls>(
+fn tell<C: OfficeCalls, L: Ledger>(
     rt: &impl Abort,
     alloc: Global,
     calls: &mut C,
     base: &Base,
     command: &Command,
     told: u64,
+    blank: Blank,
 ) -> u32
+    requires name { blank.name ≡ L.name }
+    requires parts { blank.parts ≡ L.parts }
+    requires some { 0 < blank.parts }
     requires base { base.now ≡ (C.view calls.old).who.base }
     requires sound { MayCarryOut base.now command.now }
 {
@@ -130,9 +139,9 @@ fn tell<C: OfficeCalls>(
         actor: 2,
         command: 5,
     };
-    let mut analyst = None;
-    let reply = carry_out(alloc, calls, &mut analyst, command, &docket);
-    drop(analyst);
+    let mut finder = Finder::<L>::new(blank);
+    let reply = carry_out(alloc, calls, &mut finder, command, &docket);
+    drop(finder);
     assert_eq!(rt; gate.told.get(), told);
     full_at(reply)
 }
@@ -206,10 +215,10 @@ fn decides_while_another_posts(rt: HostRuntime) {
     }
 }
 
-fn decides(rt: &impl Abort, alloc: Global, row: &Row) {
+fn decides<R: Abort>(rt: &R, alloc: Global, row: &Row) {
     let base = shared_base(rt, alloc, row.0, row.1);
     let office = office(rt, alloc, share(rt, &base), 100);
-    decides_in(rt, alloc, office, &base, row);
+    decides_in::<R, Brand, Brand>(rt, alloc, office, &base, row, Blank::new(1), Blank::new(1));
     drop(base);
 }
 
@@ -225,19 +234,34 @@ fn share(rt: &impl Abort, base: &Arc<Base, Global>) -> Arc<Base, Global>
 }
 
 // Decides the application in this office, while the changes of the row are posted.
-fn decides_in(rt: &impl Abort, alloc: Global, office: Office, base: &Base, row: &Row)
-    requires { office.base ≡ base.now }
+fn decides_in<R: Abort, L: Ledger, F: Ledger>(
+    rt: &R,
+    alloc: Global,
+    office: Office,
+    base: &Base,
+    row: &Row,
+    tests: Blank,
+    found: Blank,
+)
+    requires tests_name { tests.name ≡ L.name }
+    requires tests_parts { tests.parts ≡ L.parts }
+    requires tests_some { 0 < tests.parts }
+    requires found_name { found.name ≡ F.name }
+    requires found_parts { found.parts ≡ F.parts }
+    requires found_some { 0 < found.parts }
+    requires base { office.base ≡ base.now }
+    requires opened { office.history ≡ [] }
 {
     let &(_, _, changes, told, ends) = row;
     let command = command(rt, base, 0);
     let mut calls = Interrupted {
         rt,
-        office,
+        office: CountedOffice::<L>::new(office, tests),
         changes,
     };
-    let full = tell(rt, alloc, &mut calls, base, &command, told);
+    let full = tell::<Interrupted<'_, R, L>, F>(rt, alloc, &mut calls, base, &command, told, found);
     drop(command);
-    journal_ends(rt, alloc, &calls.office, ends);
+    journal_ends(rt, alloc, calls.office.office(), ends);
     drop(calls);
     assert_eq!(rt; full, 0);
 }
@@ -281,24 +305,48 @@ fn tells_the_gate_around_each_command(rt: HostRuntime) {
     }
 }
 
-fn asks(rt: &impl Abort, alloc: Global, asked: &Asked) {
+fn asks<R: Abort>(rt: &R, alloc: Global, asked: &Asked) {
     let base = shared_base(rt, alloc, ALONE, 168);
-    let mut office = office(rt, alloc, share(rt, &base), asked.0);
-    asks_of(rt, alloc, &mut office, &base, asked);
+    let office = office(rt, alloc, share(rt, &base), asked.0);
+    asks_of::<R, Brand, Brand>(
+        rt,
+        alloc,
+        office,
+        &base,
+        asked,
+        Blank::new(1),
+        Blank::new(1),
+    );
     drop(base);
-    journal_ends(rt, alloc, &office, asked.4);
-    drop(office);
 }
 
 // Asks a command of this office by a seat.
-fn asks_of(rt: &impl Abort, alloc: Global, office: &mut Office, base: &Base, asked: &Asked)
-    requires { office.old.base ≡ base.now }
+fn asks_of<R: Abort, L: Ledger, F: Ledger>(
+    rt: &R,
+    alloc: Global,
+    office: Office,
+    base: &Base,
+    asked: &Asked,
+    tests: Blank,
+    found: Blank,
+)
+    requires tests_name { tests.name ≡ L.name }
+    requires tests_parts { tests.parts ≡ L.parts }
+    requires tests_some { 0 < tests.parts }
+    requires found_name { found.name ≡ F.name }
+    requires found_parts { found.parts ≡ F.parts }
+    requires found_some { 0 < found.parts }
+    requires base { office.base ≡ base.now }
+    requires opened { office.history ≡ [] }
 {
-    let &(_, kind, full, told, _) = asked;
+    let &(_, kind, full, told, ends) = asked;
     let command = command(rt, base, kind);
-    let mut seat = OneSeat::new(office, 0);
-    let was_full = tell(rt, alloc, &mut seat, base, &command, told);
+    let mut office = CountedOffice::<L>::new(office, tests);
+    let mut seat = OneSeat::new(&mut office, 0);
+    let was_full = tell::<OneSeat<'_, L>, F>(rt, alloc, &mut seat, base, &command, told, found);
     drop(command);
+    journal_ends(rt, alloc, office.office(), ends);
+    drop(office);
     assert_eq!(rt; was_full, full);
 }
 
@@ -307,20 +355,42 @@ fn asks_of(rt: &impl Abort, alloc: Global, office: &mut Office, base: &Base, ask
 fn decides_an_application(rt: HostRuntime) {
     let alloc = rt.alloc();
     let base = shared_base(&rt, alloc, ALONE, 168);
-    let mut office = office(&rt, alloc, share(&rt, &base), 17);
-    let full = full_at(decided(&rt, alloc, &mut office, &base));
+    let office = office(&rt, alloc, share(&rt, &base), 17);
+    decided::<Brand, Brand>(&rt, alloc, office, &base, Blank::new(1), Blank::new(1));
     drop(base);
-    journal_ends(&rt, alloc, &office, "= issued 1 at 0 route 1\nend 2\n");
-    drop(office);
-    assert_eq!(rt; full, 0);
 }
 
-fn decided(rt: &impl Abort, alloc: Global, office: &mut Office, base: &Base) -> Reply
-    requires { office.old.base ≡ base.now }
+fn decided<L: Ledger, F: Ledger>(
+    rt: &impl Abort,
+    alloc: Global,
+    office: Office,
+    base: &Base,
+    tests: Blank,
+    found: Blank,
+)
+    requires tests_name { tests.name ≡ L.name }
+    requires tests_parts { tests.parts ≡ L.parts }
+    requires tests_some { 0 < tests.parts }
+    requires found_name { found.name ≡ F.name }
+    requires found_parts { found.parts ≡ F.parts }
+    requires found_some { 0 < found.parts }
+    requires base { office.base ≡ base.now }
+    requires opened { office.history ≡ [] }
 {
     let wanted = application(rt, base, 0, 1, "2026-03-02");
-    let mut seat = OneSeat::new(office, 0);
-    decide(alloc, &mut seat, base, wanted, &OpenGate, 0, 0)
+    let docket = Docket {
+        base,
+        gate: &OpenGate,
+        actor: 0,
+        command: 0,
+    };
+    let mut office = CountedOffice::<L>::new(office, tests);
+    let mut seat = OneSeat::new(&mut office, 0);
+    let reply = decide::<OneSeat<'_, L>, OpenGate, F>(alloc, &mut seat, wanted, &docket, found);
+    let full = full_at(reply);
+    journal_ends(rt, alloc, office.office(), "= issued 1 at 0 route 1\nend 2\n");
+    drop(office);
+    assert_eq!(rt; full, 0);
 }
 
 #[test]
@@ -375,82 +445,81 @@ fn script(
     Ok(script)
 }
 
-// An actor of this number with commands of these kinds, for an office that nobody else calls.
-fn worker<'a>(
-    rt: &impl Abort,
-    alloc: Global,
+// An actor of this number carries out a script of the row's kinds, for an office that nobody else calls.
+fn run_one<R: Threads + Abort + AllocGlobal + Sync, G: Gate + Sync, L: Ledger + Send + Sync>(
+    rt: &R,
     base: &Base,
-    office: &'a mut Office,
+    office: &mut CountedOffice<L>,
     actor: u32,
-    kinds: &[u32],
-) -> Worker<OneSeat<'a>>
-    requires base { office.old.base ≡ base.now }
-    ensures { IsReady base.now calls_of result }
-{
-    let script = script(rt, alloc, base, kinds).expect(rt, "memory");
-    Worker::new(OneSeat::new(office, 0), actor, script)
-}
-
-// Two workers carry out their scripts at once, and end with this outcome.
-fn run_both<R: Threads + Abort + Sync, C: OfficeCalls + Send + Drop, G: Gate + Sync>(
-    rt: &R,
-    alloc: Global,
-    base: &Base,
-    pair: (Worker<C>, Worker<C>),
-    gate: &G,
-    wanted: Outcome,
-) -> Result<(), AllocError>
-    requires first { IsReady base.now C.view pair.0 }
-    requires second { IsReady base.now C.view pair.1 }
-{
-    let (first, second) = pair;
-    let mut workers = Vec::new(alloc);
-    workers.push(first)?;
-    workers.push(second)?;
-    run_actors(rt, alloc, base, &mut workers, gate);
-    for worker in &workers {
-        assert!(rt; worker.outcome() == wanted);
-    }
-    Ok(())
-}
-
-// Two actors carry out scripts of the row's kinds at once, each for an office that nobody else calls.
-fn run_each<R: Threads + Abort + Sync, G: Gate + Sync>(
-    rt: &R,
-    alloc: Global,
-    base: &Base,
-    one: &mut Office,
-    two: &mut Office,
     gate: &G,
     scripted: &Scripted,
 )
-    requires one { one.old.base ≡ base.now }
-    requires two { two.old.base ≡ base.now }
+    requires { office.old.office.base ≡ base.now }
 {
-    let &(_, kinds, wanted, _) = scripted;
-    let first = worker(rt, alloc, base, one, 0, kinds);
-    let second = worker(rt, alloc, base, two, 1, kinds);
-    let ran = run_both(rt, alloc, base, (first, second), gate, wanted);
-    assert!(rt; ran.is_ok());
+    let &(_, kinds, wanted, entries) = scripted;
+    let script = script(rt, rt.alloc(), base, kinds).expect(rt, "memory");
+    let mut workers = [Worker::new(OneSeat::new(office, 0), actor, script)];
+    run_actors(rt, rt.alloc(), base, &mut workers, gate);
+    assert!(rt; workers[0].outcome() == wanted);
+    drop(workers);
+    assert!(rt; office.office().history().len() == entries);
+}
+
+// Two actors do so at once, each for an office of its own.
+fn run_each<
+    R: Threads + Abort + AllocGlobal + Sync,
+    G: Gate + Sync,
+    L: Ledger + Send + Sync,
+    F: Ledger + Send + Sync,
+>(
+    rt: &R,
+    base: &Base,
+    pair: (Office, Office),
+    gate: &G,
+    scripted: &Scripted,
+    tests: Blank,
+    found: Blank,
+)
+    requires tests_name { tests.name ≡ L.name }
+    requires tests_parts { tests.parts ≡ L.parts }
+    requires tests_some { 0 < tests.parts }
+    requires found_name { found.name ≡ F.name }
+    requires found_parts { found.parts ≡ F.parts }
+    requires found_some { 0 < found.parts }
+    requires one { (pair.0.base ≡ base.now) × (pair.0.history ≡ []) }
+    requires two { (pair.1.base ≡ base.now) × (pair.1.history ≡ []) }
+{
+    let (one, two) = pair;
+    let mut one = CountedOffice::<L>::new(one, tests);
+    let mut two = CountedOffice::<F>::new(two, found);
+    join_mut(
+        rt,
+        &mut || run_one(rt, base, &mut one, 0, gate, scripted),
+        &mut || run_one(rt, base, &mut two, 1, gate, scripted),
+    );
 }
 
 // Two actors carry out the same script, each for an office of its own.
-fn carries_out_twice<R: Threads + Abort + Sync, G: Gate + Sync>(
+fn carries_out_twice<R: Threads + Abort + AllocGlobal + Sync, G: Gate + Sync>(
     rt: &R,
     alloc: Global,
     gate: &G,
     scripted: &Scripted,
 ) {
-    let &(most, _, _, entries) = scripted;
+    let most = scripted.0;
     let base = shared_base(rt, alloc, ALONE, 168);
-    let mut one = office(rt, alloc, share(rt, &base), most);
-    let mut two = office(rt, alloc, share(rt, &base), most);
-    run_each(rt, alloc, &base, &mut one, &mut two, gate, scripted);
-    let held = (one.history().len(), two.history().len());
-    drop(one);
-    drop(two);
+    let one = office(rt, alloc, share(rt, &base), most);
+    let two = office(rt, alloc, share(rt, &base), most);
+    run_each::<R, G, Brand, Brand>(
+        rt,
+        &base,
+        (one, two),
+        gate,
+        scripted,
+        Blank::new(1),
+        Blank::new(1),
+    );
     drop(base);
-    assert!(rt; held.0 == entries && held.1 == entries);
 }
 
 #[test]

@@ -1,5 +1,7 @@
-ghost use Rattle.std.specs.Prelude.{◌≡◌, ◌<◌, ◌++◌, List, IfSome};
+ghost use Rattle.std.specs.Prelude.{◌≡◌, ◌<◌, ◌++◌, [], List, IfOk, IfSome};
+ghost use Rattle.snapshot_store.specs.Stores.{version_of as postings_of};
 ghost use Rattle.trip_analysis.specs.Applications.{Sound};
+ghost use Rattle.trip_analysis.specs.Findings.{IsFoundAt};
 ghost use Rattle.office_words.specs.declared.entry.Call.{Call};
 ghost use Rattle.office_words.specs.declared.entry.Entry.{Entry};
 ghost use Rattle.office_core.specs.Machine.{MayAsk};
@@ -9,16 +11,18 @@ ghost use Rattle.office_core.specs.Calls.{machine_seen};
 use crate::fixtures::{ALONE, AROUND, application, base, day, full_at, named, office_about};
 use clearance_rules::Steps;
 use journal_text::print;
+use names::NoMemory;
 use notice_desk::Recall;
-use office_core::{Looked, Office, OfficeCalls, OneSeat};
+use office_core::{CountedOffice, Looked, Office, OfficeCalls, OneSeat};
 use office_words::{Call, Reply};
 use recall_list::recalls;
 use restriction_log::Change;
+use snapshot_store::Snapshot;
 use std::alloc::Global;
 use std::marker::Brand;
 use std::process::Abort;
 use std::sync::ledger::{Blank, Ledger};
-use trip_analysis::{Application, analyse};
+use trip_analysis::{Application, Base, Proposal, analyse};
 
 // Each day is the lines of a journal: the calls that they have are made, and the journal is then these lines. What a submit
 // has is found behind the look before it. Each day is gone through twice, once by calls of the office and once by seats.
@@ -87,7 +91,7 @@ fn call_of(rt: &impl Abort, office: &Office, found: &mut Option<Call>, line: &st
     }
 }
 
-// Makes a call of the office.
+// Makes a call of the office, with this counter.
 fn step<L: Ledger>(office: &mut Office, caller: u32, call: Call, blank: Blank) -> Reply
     requires name { blank.name ≡ L.name }
     requires parts { blank.parts ≡ L.parts }
@@ -102,15 +106,25 @@ fn step<L: Ledger>(office: &mut Office, caller: u32, call: Call, blank: Blank) -
 }
 
 // Makes it by a seat, which is then gone: the office's history is the one that the seat saw.
-fn sit(office: &mut Office, caller: u32, call: Call) -> Reply
+fn sit<L: Ledger>(office: &mut CountedOffice<L>, caller: u32, call: Call) -> Reply
     requires caller { caller < 65536 }
-    requires asked { MayAsk office.old.base (machine_in office.old) call }
-    ensures grown { (more : List Entry) × (office.new.history ≡ office.old.history ++ more) }
-    ensures asked { (c : Call) → MayAsk office.old.base (machine_in office.old) c
-        → MayAsk office.new.base (machine_in office.new) c }
+    requires asked { MayAsk office.old.office.base (machine_in office.old.office) call }
+    ensures grown { (more : List Entry) × (office.new.office.history ≡ office.old.office.history ++ more) }
+    ensures asked { (c : Call) → MayAsk office.old.office.base (machine_in office.old.office) c
+        → MayAsk office.new.office.base (machine_in office.new.office) c }
 {
     let mut seat = OneSeat::new(office, caller);
     ask(&mut seat, call)
+}
+
+// Makes it by the office that counts its tests.
+fn step_counted<L: Ledger>(office: &mut CountedOffice<L>, caller: u32, call: Call) -> Reply
+    requires caller { caller < 65536 }
+    requires asked { MayAsk office.old.office.base (machine_in office.old.office) call }
+    ensures { (c : Call) → MayAsk office.old.office.base (machine_in office.old.office) c
+        → MayAsk office.new.office.base (machine_in office.new.office) c }
+{
+    office.step(caller, call)
 }
 
 // Makes it by whatever calls.
@@ -143,17 +157,32 @@ fn look<C: OfficeCalls>(calls: &mut C) -> Reply
     }
 }
 
-// Makes a call, by a seat or not.
-pub(crate) fn answer(office: &mut Office, caller: u32, call: Call, by_seat: bool) -> Reply
+// Makes a call.
+pub(crate) fn answer(office: &mut Office, caller: u32, call: Call) -> Reply
     requires caller { caller < 65536 }
     requires asked { MayAsk office.old.base (machine_in office.old) call }
     ensures { (c : Call) → MayAsk office.old.base (machine_in office.old) c
         → MayAsk office.new.base (machine_in office.new) c }
 {
+    step::<Brand>(office, caller, call, Blank::new(1))
+}
+
+// Makes a call of an office that counts its tests, by a seat or not.
+fn answer_counted<L: Ledger>(
+    office: &mut CountedOffice<L>,
+    caller: u32,
+    call: Call,
+    by_seat: bool,
+) -> Reply
+    requires caller { caller < 65536 }
+    requires asked { MayAsk office.old.office.base (machine_in office.old.office) call }
+    ensures { (c : Call) → MayAsk office.old.office.base (machine_in office.old.office) c
+        → MayAsk office.new.office.base (machine_in office.new.office) c }
+{
     if by_seat {
         return sit(office, caller, call);
     }
-    step::<Brand>(office, caller, call, Blank::new(1))
+    step_counted(office, caller, call)
 }
 
 // The call that submits what is found now for a trip.
@@ -168,12 +197,32 @@ pub(crate) fn submission(
     ensures { MayAsk office.now.base (machine_in office.now) result }
 {
     let snapshot = office.snapshot().expect(rt, "memory");
-    let proposal = analyse(alloc, office.base(), &snapshot, &application);
+    let proposal = look_for::<Brand>(alloc, office.base(), &snapshot, &application, Blank::new(1));
     drop(snapshot);
     Call::Submit {
         application,
         proposal: proposal.expect(rt, "memory"),
     }
+}
+
+// What is found for an application at a snapshot.
+fn look_for<L: Ledger>(
+    alloc: Global,
+    base: &Base,
+    snapshot: &Snapshot,
+    application: &Application,
+    blank: Blank,
+) -> Result<Proposal, NoMemory>
+    requires name { blank.name ≡ L.name }
+    requires parts { blank.parts ≡ L.parts }
+    requires some { 0 < blank.parts }
+    requires roads { snapshot.now.roads ≡ base.now.roads }
+    requires sound { Sound base.now application.now }
+    ensures seen { IfOk result (λ proposal. proposal.seen ≡ postings_of snapshot.now) }
+    ensures found { IfOk result (λ proposal. IsFoundAt base.now snapshot.now application.now proposal.what) }
+{
+    let mut steps = Steps::<L>::new(blank);
+    analyse(alloc, base, snapshot, application, &mut steps)
 }
 
 // What the next submit has, from a line on: what is found now for its trip.
@@ -195,26 +244,26 @@ fn found_for(
 }
 
 // Makes the call of a line, by a seat or not. How many entries the history held, where it was full, and else 0.
-fn serve(
+fn serve<L: Ledger>(
     rt: &impl Abort,
-    office: &mut Office,
+    office: &mut CountedOffice<L>,
     found: &mut Option<Call>,
     line: &str,
     by_seat: bool,
 ) -> u32
-    requires { IfSome found.old (MayAsk office.old.base (machine_in office.old)) }
-    ensures { IfSome found.new (MayAsk office.new.base (machine_in office.new)) }
+    requires { IfSome found.old (MayAsk office.old.office.base (machine_in office.old.office)) }
+    ensures { IfSome found.new (MayAsk office.new.office.base (machine_in office.new.office)) }
 {
-    let call = call_of(rt, office, found, line);
-    let reply = answer(office, place(line, 0) % 65_536, call, by_seat);
+    let call = call_of(rt, office.office(), found, line);
+    let reply = answer_counted(office, place(line, 0) % 65_536, call, by_seat);
     full_at(reply)
 }
 
 // Makes the calls of all lines. The sum of what the replies say that a full history held.
-fn serve_each(
+fn serve_each<L: Ledger>(
     rt: &impl Abort,
     alloc: Global,
-    office: &mut Office,
+    office: &mut CountedOffice<L>,
     lines: &str,
     by_seat: bool,
 ) -> u32 {
@@ -223,7 +272,7 @@ fn serve_each(
     'lines: for (i, line) in lines.lines().enumerate() {
         full = full.wrapping_add(serve(rt, office, &mut found, line, by_seat));
         if word(line, 1) == "snapshot" {
-            found = found_for(rt, alloc, office, lines, i);
+            found = found_for(rt, alloc, office.office(), lines, i);
         }
     }
     full
@@ -241,17 +290,24 @@ fn has_lines(rt: &impl Abort, alloc: Global, office: &Office, lines: &str, entri
 
 // The calls of these lines make the history, and those of the last lines find that it is full. The sums of what the replies to
 // both say that it holds.
-fn full_in(
+fn full_in<L: Ledger>(
     rt: &impl Abort,
     alloc: Global,
-    mut office: Office,
+    office: Office,
     lines: &str,
     last: &str,
     by_seat: bool,
-) -> (u32, u32) {
+    blank: Blank,
+) -> (u32, u32)
+    requires name { blank.name ≡ L.name }
+    requires parts { blank.parts ≡ L.parts }
+    requires some { 0 < blank.parts }
+    requires opened { office.history ≡ [] }
+{
+    let mut office = CountedOffice::<L>::new(office, blank);
     let full = serve_each(rt, alloc, &mut office, lines, by_seat);
     let full_then = serve_each(rt, alloc, &mut office, last, by_seat);
-    has_lines(rt, alloc, &office, lines, lines.lines().count());
+    has_lines(rt, alloc, office.office(), lines, lines.lines().count());
     drop(office);
     (full, full_then)
 }
@@ -269,7 +325,8 @@ fn check(
     let wanted = last.lines().count().wrapping_mul(most as usize);
     for by_seat in [false, true] {
         let office = office_about(rt, alloc, base(rt, alloc, segments, height), most);
-        let (full, full_then) = full_in(rt, alloc, office, lines, last, by_seat);
+        let (full, full_then) =
+            full_in::<Brand>(rt, alloc, office, lines, last, by_seat, Blank::new(1));
         assert!(rt; full == 0 && full_then as usize == wanted, "{last}");
     }
 }

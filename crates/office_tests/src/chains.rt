@@ -72,8 +72,8 @@ fn found_now(rt: &impl Abort, alloc: Global, office: &Office, line: &Line) -> Ca
 fn submit_after(rt: &impl Abort, alloc: Global, line: &Line, change: Change) -> Reply {
     let mut office = start(rt, alloc, line, 100);
     let call = found_now(rt, alloc, &office, line);
-    let _posted = answer(&mut office, 1, Call::Post { change }, false);
-    let reply = answer(&mut office, 0, call, false);
+    let _posted = answer(&mut office, 1, Call::Post { change });
+    let reply = answer(&mut office, 0, call);
     drop(office);
     reply
 }

@@ -1,5 +1,5 @@
 //! What no clause says: that calls are answered, on threads that run at once.
-ghost use Rattle.std.specs.Prelude.{◌≡◌};
+ghost use Rattle.std.specs.Prelude.{◌≡◌, ◌<◌};
 ghost use Rattle.office_turn.specs.Told.{IsReady, opening_root};
 
 use crate::fixtures::{ALONE, base, day};
@@ -9,21 +9,31 @@ use office_desk::{Desk, Pass, Root, Seat};
 use office_words::{Call, Reply};
 use restriction_log::Change;
 use std::alloc::Global;
+use std::marker::Brand;
 use std::process::Abort;
+use std::sync::ledger::{Blank, Ledger};
 use std::sync::{Arc, Wait};
 use std::thread::join_mut;
 
 // A desk of an office about one segment.
-fn start(rt: &impl Abort, alloc: Global, most: u32) -> (Desk, Root)
+fn start<L: Ledger>(
+    rt: &impl Abort,
+    alloc: Global,
+    most: u32,
+    blank: Blank,
+) -> (Desk<L>, Root<L>)
+    requires name { blank.name ≡ L.name }
+    requires parts { blank.parts ≡ L.parts }
+    requires some { 0 < blank.parts }
     ensures { result.1 ≡ opening_root result.0 }
 {
     assert!(rt; 1 <= most && most <= 1_000_000);
     let base = Arc::new(alloc, base(rt, alloc, ALONE, 168)).expect(rt, "memory");
-    Desk::start(alloc, base, day(rt, "2026-03-02"), most).expect(rt, "memory")
+    Desk::start(alloc, base, day(rt, "2026-03-02"), most, blank).expect(rt, "memory")
 }
 
 // Posts that the segment is closed.
-fn post<R: Wait>(rt: &R, desk: &Desk, pass: &mut Pass) -> Reply
+fn post<R: Wait, L: Ledger>(rt: &R, desk: &Desk<L>, pass: &mut Pass<L>) -> Reply
     requires { IsReady desk.now pass.old }
     ensures { IsReady desk.now pass.new }
 {
@@ -35,7 +45,7 @@ fn post<R: Wait>(rt: &R, desk: &Desk, pass: &mut Pass) -> Reply
 }
 
 // Looks at a permit that nobody has.
-fn show<R: Wait>(rt: &R, desk: &Desk, pass: &mut Pass) -> Reply
+fn show<R: Wait, L: Ledger>(rt: &R, desk: &Desk<L>, pass: &mut Pass<L>) -> Reply
     requires { IsReady desk.now pass.old }
     ensures { IsReady desk.now pass.new }
 {
@@ -49,7 +59,12 @@ fn compare(rt: &impl Abort, alloc: Global, office: &Office, text: &str) {
 }
 
 // Posts a change and looks at a permit, so often.
-fn post_and_show<R: Wait>(rt: &R, desk: &Desk, pass: &mut Pass, times: u32)
+fn post_and_show<R: Wait, L: Ledger>(
+    rt: &R,
+    desk: &Desk<L>,
+    pass: &mut Pass<L>,
+    times: u32,
+)
     requires { IsReady desk.now pass.old }
     ensures { IsReady desk.now pass.new }
 {
@@ -97,16 +112,25 @@ fn version_of(rt: &impl Abort, looked: Looked) -> u32 {
 
 #[test]
 fn a_look_sees_the_posting_before_it(rt: HostRuntime) {
-    let (desk, mut root) = start(&rt, rt.alloc(), 100);
+    look_behind_a_posting::<Brand>(&rt, Blank::new(1));
+}
+
+// Looks behind a posting of the same caller.
+fn look_behind_a_posting<L: Ledger>(rt: &HostRuntime, blank: Blank)
+    requires name { blank.name ≡ L.name }
+    requires parts { blank.parts ≡ L.parts }
+    requires some { 0 < blank.parts }
+{
+    let (desk, mut root) = start::<L>(rt, rt.alloc(), 100, blank);
     let mut one = desk.admit(&mut root);
-    drop(post(&rt, &desk, &mut one));
-    let version = version_of(&rt, desk.snapshot(&rt, &mut one));
+    drop(post(rt, &desk, &mut one));
+    let version = version_of(rt, desk.snapshot(rt, &mut one));
     let other = desk.admit(&mut root);
-    let mut seat = sent(Seat::new(&rt, &desk, other));
+    let mut seat = sent(Seat::new(rt, &desk, other));
     drop(seat.show(0));
     desk.leave(&mut root, one);
     desk.leave(&mut root, seat.into_pass());
-    let office = desk.close(root);
+    let (office, _tests) = desk.close(root);
     assert_eq!(rt; version, 1);
     let journal = "\
 permit-journal 1
@@ -115,22 +139,31 @@ permit-journal 1
 2 show 0 = unknown
 end 3
 ";
-    compare(&rt, rt.alloc(), &office, journal);
+    compare(rt, rt.alloc(), &office, journal);
 }
 
 #[test]
 fn is_full_once_all_turns_are_taken(rt: HostRuntime) {
-    let (desk, mut root) = start(&rt, rt.alloc(), 1);
+    take_all_turns::<Brand>(&rt, Blank::new(1));
+}
+
+// Takes the one turn that there is, and two more.
+fn take_all_turns<L: Ledger>(rt: &HostRuntime, blank: Blank)
+    requires name { blank.name ≡ L.name }
+    requires parts { blank.parts ≡ L.parts }
+    requires some { 0 < blank.parts }
+{
+    let (desk, mut root) = start::<L>(rt, rt.alloc(), 1, blank);
     let mut one = desk.admit(&mut root);
-    drop(show(&rt, &desk, &mut one));
-    let posted = post(&rt, &desk, &mut one);
-    let looked = desk.snapshot(&rt, &mut one);
+    drop(show(rt, &desk, &mut one));
+    let posted = post(rt, &desk, &mut one);
+    let looked = desk.snapshot(rt, &mut one);
     desk.leave(&mut root, one);
-    let office = desk.close(root);
+    let (office, _tests) = desk.close(root);
     assert!(rt; matches!(posted, Reply::Full { entries: 1 }));
     assert!(rt; matches!(looked, Looked::Full { entries: 1 }));
     compare(
-        &rt,
+        rt,
         rt.alloc(),
         &office,
         "permit-journal 1\n1 show 0 = unknown\nend 1\n",
@@ -139,17 +172,26 @@ fn is_full_once_all_turns_are_taken(rt: HostRuntime) {
 
 #[test]
 fn two_callers_post_and_look_at_once(rt: HostRuntime) {
-    let (desk, mut root) = start(&rt, rt.alloc(), 1_000);
+    call_at_once::<Brand>(&rt, Blank::new(1));
+}
+
+// Two callers post and look in turns, both at once.
+fn call_at_once<L: Ledger + Send + Sync>(rt: &HostRuntime, blank: Blank)
+    requires name { blank.name ≡ L.name }
+    requires parts { blank.parts ≡ L.parts }
+    requires some { 0 < blank.parts }
+{
+    let (desk, mut root) = start::<L>(rt, rt.alloc(), 1_000, blank);
     let mut one = desk.admit(&mut root);
     let mut two = desk.admit(&mut root);
     join_mut(
-        &rt,
-        &mut || post_and_show(&rt, &desk, &mut one, 200),
-        &mut || post_and_show(&rt, &desk, &mut two, 200),
+        rt,
+        &mut || post_and_show(rt, &desk, &mut one, 200),
+        &mut || post_and_show(rt, &desk, &mut two, 200),
     );
     desk.leave(&mut root, one);
     desk.leave(&mut root, two);
-    let office = desk.close(root);
+    let (office, _tests) = desk.close(root);
     assert_eq!(rt; office.version(), 400);
-    assert_eq!(rt; count_calls(&rt, &office), [400, 400]);
+    assert_eq!(rt; count_calls(rt, &office), [400, 400]);
 }

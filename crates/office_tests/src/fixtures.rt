@@ -1,6 +1,6 @@
 // What the tests of this crate share.
 
-ghost use Rattle.std.specs.Prelude.{◌≡◌};
+ghost use Rattle.std.specs.Prelude.{◌≡◌, []};
 ghost use Rattle.std.specs.Arc.{arc_value};
 ghost use Rattle.trip_analysis.specs.Applications.{Sound};
 
@@ -60,14 +60,17 @@ pub fn base(rt: &impl Abort, alloc: Global, segments: &str, height: u32) -> Base
 
 // An office about this base on the first day, with room for so many entries.
 pub fn office(rt: &impl Abort, alloc: Global, base: Arc<Base, Global>, most: u32) -> Office
-    ensures { result.base ≡ arc_value base }
+    ensures base { result.base ≡ arc_value base }
+    ensures opened { result.history ≡ [] }
 {
     assert!(rt; 1 <= most && most <= 1_000_000);
     Office::start(alloc, base, day(rt, "2026-03-02"), most).expect(rt, "memory")
 }
 
 // The same about a base that nobody else has.
-pub fn office_about(rt: &impl Abort, alloc: Global, base: Base, most: u32) -> Office {
+pub fn office_about(rt: &impl Abort, alloc: Global, base: Base, most: u32) -> Office
+    ensures { result.history ≡ [] }
+{
     office(rt, alloc, Arc::new(alloc, base).expect(rt, "memory"), most)
 }
 

@@ -35,7 +35,7 @@ fn is_issued(
     number: u32,
 ) -> bool {
     let application = by_segment(rt, alloc, office.base(), segment);
-    is_issue_of(answer(office, 0, Call::Held { application }, false), number)
+    is_issue_of(answer(office, 0, Call::Held { application }), number)
 }
 
 // Whether the reply issues the permit of this number.
@@ -49,7 +49,7 @@ fn is_issue_of(reply: Reply, number: u32) -> bool {
 // Closes or opens the second segment, and answers which permits are recalled.
 fn turn_second(rt: &impl Abort, office: &mut Office, closed: bool) -> Numbers {
     let change = Change::Closed { segment: 1, closed };
-    match answer(office, 1, Call::Post { change }, false) {
+    match answer(office, 1, Call::Post { change }) {
         Reply::Posted { recalled, .. } => recalled,
         _ => rt.abort(),
     }
@@ -80,7 +80,7 @@ fn close_second(rt: &impl Abort, alloc: Global, given_back: u32) {
         assert!(rt; issued, "permit {number}");
     }
     let number = given_back;
-    drop(answer(&mut office, 0, Call::Surrender { number }, false));
+    drop(answer(&mut office, 0, Call::Surrender { number }));
     let recalled = turn_second(rt, &mut office, true);
     drop(office);
     assert!(rt; are_wanted(recalled.as_slice(), given_back));
@@ -167,7 +167,7 @@ pub(crate) fn submit_copies(
     requires found { MayAsk office.old.base (machine_in office.old) call.now }
 {
     'copies: for i in 0..count {
-        let reply = answer(office, 0, copy_of(rt, alloc, call), false);
+        let reply = answer(office, 0, copy_of(rt, alloc, call));
         assert!(rt; is_issue_of(reply, i + 1), "copy {i}");
     }
 }

@@ -2,19 +2,32 @@
 //! output, and tells standard error of each permit that a day recalled.
 #![tactic(auto)]
 
+ghost use Rattle.std.specs.Prelude.{◌≡◌, ◌<◌};
+
 use analyst_pool::OpenGate;
 use notice_desk::Subscribers;
 use office_io::{StdSink, StdSource};
-use permit_program::{LineNotice, add_listener, refuse_words, run};
+use permit_program::{Ended, LineNotice, add_listener, refuse_words, run};
 use std::alloc::AllocFailed;
 use std::io::ErrorKind;
+use std::marker::Brand;
 use std::process::ExitCode;
+use std::sync::ledger::{Blank, Ledger};
 use std::{env, io};
 use thiserror::Error;
 
+// Runs the program, with the one counter of what an office tests in its turns.
+fn main(rt: HostRuntime) -> ExitCode {
+    run_words::<Brand>(rt, Blank::new(1))
+}
+
 // Hands the words and the standard streams in, and the status out. A word that is no text is none that the program knows.
 // Standard error is told of all recalls.
-fn main(rt: HostRuntime) -> ExitCode {
+fn run_words<L: Ledger + Send + Sync>(rt: HostRuntime, blank: Blank) -> ExitCode
+    requires name { blank.name ≡ L.name }
+    requires parts { blank.parts ≡ L.parts }
+    requires some { 0 < blank.parts }
+{
     let mut source = StdSource::new(rt.stdin());
     let mut sink = StdSink::new(rt.stdout());
     let mut notices = Subscribers::new(rt.alloc());
@@ -23,14 +36,18 @@ fn main(rt: HostRuntime) -> ExitCode {
         Err(_) => false,
     };
     let status = match words_of(&rt) {
-        Ok(words) if is_added => run(
-            &rt,
-            words.as_slice(),
-            &mut source,
-            &mut sink,
-            &mut notices,
-            &OpenGate,
-        ),
+        Ok(words) if is_added => {
+            let ended: Ended<L> = run(
+                &rt,
+                words.as_slice(),
+                &mut source,
+                &mut sink,
+                &mut notices,
+                &OpenGate,
+                blank,
+            );
+            ended.status
+        }
         Err(WordsFault::NotText) => refuse_words(&mut sink),
         Ok(_) | Err(WordsFault::NoMemory) => 7,
     };

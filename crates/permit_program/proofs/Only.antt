@@ -50,23 +50,27 @@ only_journal one bytes text other file history read roads served journal few h =
     (record { legal = h.legal; promises = h.promises; commands = h.commands; callers = h.callers; memory = h.memory }) in
     h.journal ∙ (ap journal_of (one file history h.history roads (few file read) served theirs) ∙ sym journal)
 
--- a history that serves a day keeps the headline, and its recalls are those that are told
+-- a history that serves a day keeps the headline
+abbrev pub headline_made : (bytes text : List ℕ) (file : DayParts) (history : List Entry) → day_of bytes ≡ Ok file → IsServed file history → text ≡ journal_of history → Headline bytes text
+headline_made bytes text file history read served journal = record {
+  file = file;
+  read = read;
+  history = history;
+  journal = journal;
+  legal = served.legal;
+  commands = served.commands;
+  callers = served.callers;
+  memory = served.memory;
+  promises = served.promises;
+}
+
+-- and its recalls are those that are told
 pub journal_made : LoneActorsAreOne → (bytes text : List ℕ) (recalls : List Recall) (file : DayParts) (history : List Entry) → day_of bytes ≡ Ok file → IsRoads file.base.roads → IsServed file history → text ≡ journal_of history
     → recalls ≡ recalls_in file.base history → MakesAndTells day bytes text recalls
 journal_made one bytes text recalls file history read roads served journal recalled = record {
   made = record {
     taken = ap refusal_in read;
-    output = record {
-      file = file;
-      read = read;
-      history = history;
-      journal = journal;
-      legal = served.legal;
-      commands = served.commands;
-      callers = served.callers;
-      memory = served.memory;
-      promises = served.promises;
-    };
+    output = headline_made bytes text file history read served journal;
     only = λ few other h. only_journal one bytes text other file history read roads served journal few h;
   };
   told = ap Some (sym recalled);

@@ -9,6 +9,7 @@ use Rattle.day_text.specs.Scripts.{script_of}
 use Rattle.journal_text.specs.Journals.{journal_of}
 use Rattle.office_words.specs.declared.entry.Entry.{Entry}
 use Rattle.office_words.specs.declared.entry.Reply.TheVariants as reply
+use Rattle.office_core.specs.Costs.{Counts}
 use Rattle.office_core.specs.Machine.{IsLegal, entries_by}
 use Rattle.office_core.specs.Promises.{KeepsPromises}
 use Rattle.analyst_pool.specs.Unfolds.{AreFinished}
@@ -35,3 +36,10 @@ pub record Headline (bytes text : List ℕ) : Type 0 where
   -- limits of the current version it names, spans by peak moment and end shear over all placements (`issued`); every refusal
   -- names a failing limit (`refused`); each posting recalls exactly the permits in force that then fail (`posted`)
   pub promises : KeepsPromises file.base file.day history
+
+-- The headline, with what was tested under the lock: in the turn of each entry of the written history no more segments were
+-- tested than its call may cost, and none between the turns. For this the counter of the office's turns stood at 0 before the
+-- first entry and stands at `tests` behind the last one.
+pub record CountedHeadline (tests : ℕ) (bytes text : List ℕ) : Type 0 where
+  pub headline : Headline bytes text
+  pub counted : Counts headline.file.base headline.file.day headline.history tests

@@ -13,6 +13,7 @@ use Rattle.command_line.specs.declared.asked.Asked.{Asked}
 use Rattle.command_line.specs.declared.asked.Task.TheVariants.{Day}
 use Rattle.permit_program.specs.Command.{Answer, Command, Makes, MakesAndTells}
 use Rattle.permit_program.specs.Commands.{command_of}
+use Rattle.permit_program.specs.Headline.{CountedHeadline}
 use Rattle.permit_program.specs.declared.runs.Alone.{Alone}
 use Rattle.permit_program.specs.declared.runs.Alone.TheVariants as alone
 
@@ -224,3 +225,16 @@ AsksForDay asked = IsSomeAnd asked (λ a. a.task ≡ Day)
 abbrev pub IsAlone : {S K : Type 0} → Option Asked → Outside S K → Outside S K → Alone → Type 0
 IsAlone asked before after (alone.Status status) = (AsksForDay asked → status ≡ 7) × IsRun asked before after status
 IsAlone asked before after alone.Day = AsksForDay asked × (after ≡ before)
+
+-- A day was carried out, and its counter handed out: some bytes were taken, all that were left; a journal was appended; and the
+-- headline holds of the two, with what the counter says was tested.
+pub record CountedDay {S K : Type 0} (tests : Option ℕ) (before after : Outside S K) : Type 0 where
+  pub bytes : List ℕ
+  pub journal : List ℕ
+  pub took : TookAll before.source after.source bytes
+  pub wrote : Appends before.sink.held after.sink.held journal
+  pub counted : IsSomeAnd tests (λ n. CountedHeadline n bytes journal)
+
+-- so it is where a day is asked for and done
+abbrev pub CountsItsDay : {S K : Type 0} → Option Asked → Outside S K → Outside S K → ℕ → Option ℕ → Type 0
+CountsItsDay asked before after status tests = AsksForDay asked → status ≡ 0 → CountedDay tests before after

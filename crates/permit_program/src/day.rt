@@ -1,11 +1,13 @@
 // What `day` makes: the journal of an office's day, and its recalls.
 
-ghost use Rattle.std.specs.Prelude.{IfErr, IfOk};
+ghost use Rattle.std.specs.Prelude.{◌≡◌, ◌<◌, IfErr, IfOk};
 ghost use Rattle.permit_program.specs.Command.{IsRefusalOf, MakesAndTells};
 ghost use Rattle.permit_program.specs.Day.{day};
+ghost use Rattle.permit_program.specs.Headline.{CountedHeadline};
 
 use crate::refusal::Refusal;
 use analyst_pool::Gate;
+use clearance_rules::Steps;
 use day_run::{lone_actors_are_one, serve};
 use day_text::{DayFile, read_day};
 use journal_text::print;
@@ -14,25 +16,32 @@ use notice_desk::Recall;
 use recall_list::recalls;
 use std::alloc::Global;
 use std::sync::Wait;
+use std::sync::ledger::{Blank, Ledger};
 use std::thread::Threads;
 
-/// A day that is over: its journal, and the recalls of its history.
+/// A day that is over: its journal, the recalls of its history, and the counter of what its office tested.
 #[derive(Drop)]
-pub(crate) struct DayOutput {
+pub(crate) struct DayOutput<L: Ledger> {
     pub(crate) journal: Vec<u8>,
     pub(crate) recalls: Vec<Recall>,
+    pub(crate) tests: Steps<L>,
 }
 
 /// The journal of the day file that the bytes are, and its recalls: of an office whose actors carried out their commands, each
 /// on a thread of its own. The gate is told how far each actor is.
 ///
 /// It waits until all actors are done.
-pub(crate) fn make_journal<R: Threads + Wait + AllocGlobal + Sync, G: Gate + Sync>(
+pub(crate) fn make_journal<R: Threads + Wait + AllocGlobal + Sync, G: Gate + Sync, L: Ledger + Send + Sync>(
     rt: &R,
     bytes: &[u8],
     gate: &G,
-) -> Result<DayOutput, Refusal>
+    blank: Blank,
+) -> Result<DayOutput<L>, Refusal>
+    requires name { blank.name ≡ L.name }
+    requires parts { blank.parts ≡ L.parts }
+    requires counter { 0 < blank.parts }
     ensures made { IfOk result (λ output. MakesAndTells day bytes.now output.journal.items output.recalls.items) }
+    ensures counted { IfOk result (λ output. CountedHeadline output.tests bytes.now output.journal.items) }
     ensures refused { IfErr result (IsRefusalOf day bytes.now) }
 {
     let alloc = rt.alloc();
@@ -40,10 +49,14 @@ pub(crate) fn make_journal<R: Threads + Wait + AllocGlobal + Sync, G: Gate + Syn
         Ok(file) => file,
         Err(refused) => return Err(Refusal::of_file(alloc, refused)),
     };
-    let office = serve(rt, file, gate)?;
+    let (office, tests) = serve::<R, G, L>(rt, file, gate, blank)?;
     // the law by which no other history serves a day of one actor
     lone_actors_are_one();
     let journal = print(alloc, office.history())?;
     let recalls = recalls(alloc, office.base(), office.history())?;
-    Ok(DayOutput { journal, recalls })
+    Ok(DayOutput {
+        journal,
+        recalls,
+        tests,
+    })
 }

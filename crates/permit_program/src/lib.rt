@@ -22,4 +22,4 @@ pub use laws::{
 };
 pub use notices::{LineNotice, add_listener};
 pub use refusal::Refusal;
-pub use runs::{Alone, refuse_words, run, run_alone};
+pub use runs::{Alone, Ended, refuse_words, run, run_alone};

@@ -1,13 +1,13 @@
 // The top call.
 
-ghost use Rattle.std.specs.Prelude.{◌≡◌, ◌≢◌, ◌≤◌, ◌+◌, IfErr, IfOk, Some, length, map};
+ghost use Rattle.std.specs.Prelude.{◌≡◌, ◌≢◌, ◌<◌, ◌≤◌, ◌+◌, IfErr, IfOk, Some, length, map};
 ghost use Rattle.std.specs.String.{string_bytes};
 ghost use Rattle.office_io.specs.Causes.{TookAtMost, UnlessReadFault};
 ghost use Rattle.notice_desk.specs.Standings.{AreNew, standings};
 ghost use Rattle.command_line.specs.Asking.{asked_of};
 ghost use Rattle.command_line.specs.declared.asked.Asked.{Asked};
 ghost use Rattle.command_line.specs.declared.asked.Task.TheVariants as task;
-ghost use Rattle.permit_program.specs.Runs.{DeskAt, IsAlone, IsRun, Took, WroteLine, desk_at, most_bytes};
+ghost use Rattle.permit_program.specs.Runs.{CountedDay, CountsItsDay, DeskAt, IsAlone, IsRun, Took, WroteLine, desk_at, most_bytes};
 ghost use Rattle.permit_program.specs.Runs.{outside_of, sink_at, source_at, usage_line};
 ghost use Rattle.permit_program.specs.Endings.{AnswersRefusal, AnswersText, AnswersUnread, WasUnread};
 
@@ -15,11 +15,13 @@ use crate::commands::{make_text, reads};
 use crate::day::make_journal;
 use crate::refusal::Refusal;
 use analyst_pool::Gate;
+use clearance_rules::Steps;
 use command_line::{Asked, Task, WordsRefusal, read_words};
 use notice_desk::{Notice, NoticeFault, Subscribers};
 use office_io::{ReadRefusal, Sink, Source, read_all, write_all};
 use std::alloc::Global;
 use std::sync::Wait;
+use std::sync::ledger::{Blank, Ledger};
 use std::thread::Threads;
 
 /// How a run ended that needs no threads, or that it is a day's.
@@ -27,6 +29,37 @@ use std::thread::Threads;
 pub enum Alone {
     Status(u8),
     Day,
+}
+
+/// How a run ended: with this status, and with the counter of what was tested in the turns of a day's office, where it came back.
+#[derive(Drop)]
+pub struct Ended<L: Ledger> {
+    pub status: u8,
+    pub tests: Option<Steps<L>>,
+}
+
+impl<L: Ledger> Ended<L> {
+    // A run that has no counter to hand out.
+    fn uncounted(status: u8) -> Ended<L>
+        ensures status { result.status ≡ status }
+        ensures none { result.tests ≡ None }
+    {
+        Ended {
+            status,
+            tests: None,
+        }
+    }
+
+    // A run of a day, with its counter.
+    fn counted(status: u8, tests: Steps<L>) -> Ended<L>
+        ensures status { result.status ≡ status }
+        ensures some { result.tests ≡ Some tests }
+    {
+        Ended {
+            status,
+            tests: Some(tests),
+        }
+    }
 }
 
 // How many bytes are read at the most.
@@ -40,25 +73,43 @@ const MOST_BYTES: u32 = 4_194_304;
 /// an object that is told of recalls, after the whole journal was written.
 ///
 /// A day's actors work on threads of their own, and the gate is told how far each is. The call waits until all are done.
-pub fn run<R: Threads + Wait + AllocGlobal + Sync, S: Source, K: Sink, G: Gate + Sync>(
+/// What the office tests in their turns is counted by a counter that is made of the blank, and handed out.
+pub fn run<
+    R: Threads + Wait + AllocGlobal + Sync,
+    S: Source,
+    K: Sink,
+    G: Gate + Sync,
+    L: Ledger + Send + Sync,
+>(
     rt: &R,
     words: &[String],
     source: &mut S,
     sink: &mut K,
     notices: &mut Subscribers,
     gate: &G,
-) -> u8
-    requires { AreNew (standings (λ n. (⟦<dyn Notice as Notice>⟧ n.vtable).list n.value) notices.old) }
-    ensures { let outside = outside_of S.left S.faults K.held K.faults in
+    blank: Blank,
+) -> Ended<L>
+    requires name { blank.name ≡ L.name }
+    requires parts { blank.parts ≡ L.parts }
+    requires counter { 0 < blank.parts }
+    requires notices { AreNew (standings (λ n. (⟦<dyn Notice as Notice>⟧ n.vtable).list n.value) notices.old) }
+    ensures run { let outside = outside_of S.left S.faults K.held K.faults in
         let desk = desk_at (λ n. (⟦<dyn Notice as Notice>⟧ n.vtable).list n.value)
         (λ n. (⟦<dyn Notice as Notice>⟧ n.vtable).faults n.value)
         (λ n. (⟦<dyn Notice as Notice>⟧ n.vtable).text n.value) in
         let asked = asked_of (map string_bytes words.now) in
-        IsRun asked (outside source.old sink.old (desk notices.old)) (outside source.new sink.new (desk notices.new)) result }
+        IsRun asked (outside source.old sink.old (desk notices.old)) (outside source.new sink.new (desk notices.new)) result.status }
+    ensures counted { let outside = outside_of S.left S.faults K.held K.faults in
+        let desk = desk_at (λ n. (⟦<dyn Notice as Notice>⟧ n.vtable).list n.value)
+        (λ n. (⟦<dyn Notice as Notice>⟧ n.vtable).faults n.value)
+        (λ n. (⟦<dyn Notice as Notice>⟧ n.vtable).text n.value) in
+        let asked = asked_of (map string_bytes words.now) in
+        CountsItsDay asked (outside source.old sink.old (desk notices.old)) (outside source.new sink.new (desk notices.new))
+        result.status result.tests }
 {
     match run_alone(rt, words, source, sink) {
-        Alone::Status(status) => status,
-        Alone::Day => perform_day(rt, source, sink, notices, gate),
+        Alone::Status(status) => Ended::uncounted(status),
+        Alone::Day => perform_day(rt, source, sink, notices, gate, blank),
     }
 }
 
@@ -118,36 +169,52 @@ fn perform<S: Source, K: Sink>(alloc: Global, asked: Asked, source: &mut S, sink
 }
 
 // Performs `day`: takes all that is left, writes the journal of it, and tells of its recalls.
-fn perform_day<R: Threads + Wait + AllocGlobal + Sync, S: Source, K: Sink, G: Gate + Sync>(
+fn perform_day<
+    R: Threads + Wait + AllocGlobal + Sync,
+    S: Source,
+    K: Sink,
+    G: Gate + Sync,
+    L: Ledger + Send + Sync,
+>(
     rt: &R,
     source: &mut S,
     sink: &mut K,
     notices: &mut Subscribers,
     gate: &G,
-) -> u8
-    requires { AreNew (standings (λ n. (⟦<dyn Notice as Notice>⟧ n.vtable).list n.value) notices.old) }
-    ensures { let outside = outside_of S.left S.faults K.held K.faults in
+    blank: Blank,
+) -> Ended<L>
+    requires name { blank.name ≡ L.name }
+    requires parts { blank.parts ≡ L.parts }
+    requires counter { 0 < blank.parts }
+    requires notices { AreNew (standings (λ n. (⟦<dyn Notice as Notice>⟧ n.vtable).list n.value) notices.old) }
+    ensures run { let outside = outside_of S.left S.faults K.held K.faults in
         let desk = desk_at (λ n. (⟦<dyn Notice as Notice>⟧ n.vtable).list n.value)
         (λ n. (⟦<dyn Notice as Notice>⟧ n.vtable).faults n.value)
         (λ n. (⟦<dyn Notice as Notice>⟧ n.vtable).text n.value) in
         (asked : Asked) → asked.task ≡ task.Day → IsRun (Some asked) (outside source.old sink.old (desk notices.old))
-        (outside source.new sink.new (desk notices.new)) result }
+        (outside source.new sink.new (desk notices.new)) result.status }
+    ensures counted { let outside = outside_of S.left S.faults K.held K.faults in
+        let desk = desk_at (λ n. (⟦<dyn Notice as Notice>⟧ n.vtable).list n.value)
+        (λ n. (⟦<dyn Notice as Notice>⟧ n.vtable).faults n.value)
+        (λ n. (⟦<dyn Notice as Notice>⟧ n.vtable).text n.value) in
+        result.status ≡ 0 → CountedDay result.tests (outside source.old sink.old (desk notices.old))
+        (outside source.new sink.new (desk notices.new)) }
 {
     let bytes = match take_bytes(rt.alloc(), source, true) {
         Ok(bytes) => bytes,
-        Err(unread) => return end_unread(sink, unread),
+        Err(unread) => return Ended::uncounted(end_unread(sink, unread)),
     };
-    let day = match make_journal(rt, bytes.as_slice(), gate) {
+    let day = match make_journal::<R, G, L>(rt, bytes.as_slice(), gate, blank) {
         Ok(day) => day,
-        Err(refusal) => return end_refused(sink, refusal),
+        Err(refusal) => return Ended::uncounted(end_refused(sink, refusal)),
     };
     let status = end_made(sink, day.journal.as_slice());
     if status != 0 {
-        return status;
+        return Ended::uncounted(status);
     }
     match notices.deliver(day.recalls.as_slice()) {
-        Ok(()) => 0,
-        Err(NoticeFault { .. }) => 8,
+        Ok(()) => Ended::counted(0, day.tests),
+        Err(NoticeFault { .. }) => Ended::counted(8, day.tests),
     }
 }
 

@@ -1,13 +1,17 @@
 // Runs over sources and sinks in memory: whole outputs, refusals, faults in turn, and who is told of recalls.
 
+ghost use Rattle.std.specs.Prelude.{◌≡◌, ◌<◌};
+
 use crate::days::{DAYS, ISSUED, MEETING, NO_LEAP_DAY, RECALLING, TWO_RECALLS};
 use analyst_pool::{Gate, OpenGate};
 use notice_desk::{MemoryNotice, Notice, Recall, Subscribers};
 use office_io::{MemorySink, MemorySource};
-use permit_program::{Alone, LineNotice, add_listener, run, run_alone};
+use permit_program::{Alone, Ended, LineNotice, add_listener, run, run_alone};
 use std::alloc::Global;
+use std::marker::Brand;
 use std::process::Abort;
 use std::sync::Wait;
+use std::sync::ledger::{Blank, Ledger};
 use std::thread::Threads;
 
 const FHWA: &str =
@@ -40,9 +44,7 @@ pub(crate) fn run_words<R: Abort + Threads + Wait + AllocGlobal + Sync>(
     run_at(rt, words, input, reads, writes, &OpenGate)
 }
 
-// The same with a gate of the actors. What was built is let go by a call of `drop`: where a scope lets it go, the proof of the
-// whole function goes through its parts.
-#[tactic(auto, using(notice_desk::proofs::Ready::none_new))]
+// The same with a gate of the actors.
 pub(crate) fn run_at<R: Abort + Threads + Wait + AllocGlobal + Sync, G: Gate + Sync>(
     rt: &R,
     words: &[&str],
@@ -51,11 +53,40 @@ pub(crate) fn run_at<R: Abort + Threads + Wait + AllocGlobal + Sync, G: Gate + S
     writes: &[u32],
     gate: &G,
 ) -> Ran {
+    run_counted::<R, G, Brand>(rt, words, input, reads, writes, gate, Blank::new(1))
+}
+
+// The same with a counter of the office's tests. What was built is let go by a call of `drop`: where a scope lets it go, the
+// proof of the whole function goes through its parts.
+#[tactic(auto, using(notice_desk::proofs::Ready::none_new))]
+fn run_counted<R: Abort + Threads + Wait + AllocGlobal + Sync, G: Gate + Sync, L: Ledger + Send + Sync>(
+    rt: &R,
+    words: &[&str],
+    input: &[u8],
+    reads: &[u32],
+    writes: &[u32],
+    gate: &G,
+    blank: Blank,
+) -> Ran
+    requires name { blank.name ≡ L.name }
+    requires parts { blank.parts ≡ L.parts }
+    requires some { 0 < blank.parts }
+{
     let mut source = source_of(rt, rt.alloc(), input, reads);
     let mut sink = sink_of(rt, rt.alloc(), writes);
     let mut nobody = Subscribers::new(rt.alloc());
     let words = list_of(rt, rt.alloc(), words);
-    let status = run(rt, &words, &mut source, &mut sink, &mut nobody, gate);
+    let ended = run::<R, MemorySource, MemorySink, G, L>(
+        rt,
+        &words,
+        &mut source,
+        &mut sink,
+        &mut nobody,
+        gate,
+        blank,
+    );
+    let Ended { status, tests } = ended;
+    drop(tests);
     drop(words);
     drop(nobody);
     drop(source);
@@ -225,13 +256,28 @@ fn deliver(rt: &impl Abort, notices: &mut Subscribers, recalls: &[Recall]) {
 
 // Runs a day, of whose recalls one object is told whose calls of these numbers fail: how the run ended, and what was heard. Where
 // some recalls are given, these are delivered behind the run.
-#[tactic(auto, using(notice_desk::proofs::Ready::none_new))]
 fn hear<R: Abort + Threads + Wait + AllocGlobal + Sync>(
     rt: &R,
     input: &str,
     failing: &[u32],
     again: &[Recall],
 ) -> (Ran, Vec<Recall>) {
+    hear_counted::<R, Brand>(rt, input, failing, again, Blank::new(1))
+}
+
+// The same with a counter of the office's tests.
+#[tactic(auto, using(notice_desk::proofs::Ready::none_new))]
+fn hear_counted<R: Abort + Threads + Wait + AllocGlobal + Sync, L: Ledger + Send + Sync>(
+    rt: &R,
+    input: &str,
+    failing: &[u32],
+    again: &[Recall],
+    blank: Blank,
+) -> (Ran, Vec<Recall>)
+    requires name { blank.name ≡ L.name }
+    requires parts { blank.parts ≡ L.parts }
+    requires some { 0 < blank.parts }
+{
     let alloc = rt.alloc();
     let mut notices = Subscribers::new(alloc);
     let failing = failing.to_vec(alloc).expect(rt, "memory");
@@ -240,7 +286,17 @@ fn hear<R: Abort + Threads + Wait + AllocGlobal + Sync>(
     let mut source = source_of(rt, alloc, input.as_bytes(), &[]);
     let mut sink = sink_of(rt, alloc, &[]);
     let words = list_of(rt, alloc, &["day"]);
-    let status = run(rt, &words, &mut source, &mut sink, &mut notices, &OpenGate);
+    let ended = run::<R, MemorySource, MemorySink, OpenGate, L>(
+        rt,
+        &words,
+        &mut source,
+        &mut sink,
+        &mut notices,
+        &OpenGate,
+        blank,
+    );
+    let Ended { status, tests } = ended;
+    drop(tests);
     drop(words);
     drop(source);
     let text = bytes_of(rt, alloc, &sink);

@@ -8,3 +8,4 @@ pub mod Meanings
 pub mod Flags
 pub mod KnownAt
 pub mod Following
+pub mod Counting

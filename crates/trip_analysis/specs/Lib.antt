@@ -1,6 +1,7 @@
 pub mod Bases
 pub mod Applications
 pub mod Findings
+pub mod Tests
 pub mod NodeSets
 pub mod Laws
 pub use Rattle.road_graph.specs.Roads

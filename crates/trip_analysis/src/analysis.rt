@@ -1,10 +1,11 @@
 // What is found for an application.
 
-ghost use Rattle.std.specs.Prelude.{◌≡◌, ◌<◌, length, None, All, IfOk};
+ghost use Rattle.std.specs.Prelude.{◌≡◌, ◌<◌, length, None, true, All, IfOk};
 ghost use Rattle.restriction_log.specs.States.{AreOf};
 ghost use Rattle.snapshot_store.specs.Stores.{version_of};
 ghost use Rattle.trip_analysis.specs.Applications.{Sound};
-ghost use Rattle.trip_analysis.specs.Findings.{IsFinding, IsFoundAt, IsFoundBy, IsSearched, asked_finding, first_on as first_in, what_of};
+ghost use Rattle.trip_analysis.specs.Findings.{IsFinding, IsFoundAt, IsFoundBy, IsSearched, asked_finding, first_on as first_in, needs_none, what_of};
+ghost use Rattle.trip_analysis.specs.Tests.{TestsAtMost, tests_for};
 
 use crate::application::Application;
 use crate::base::Base;
@@ -17,71 +18,56 @@ use road_graph::{Network, Numbers};
 use route_search::{Heights, Shortest, shortest_walk};
 use snapshot_store::Snapshot;
 use std::alloc::Global;
-use std::marker::Brand;
-use std::sync::ledger::{Blank, Ledger};
+use std::sync::ledger::Ledger;
 
 /// What is found for the application in a state of the base's roads.
 ///
 /// A legal truck needs no permit. An asked route is the finding where each segment of it meets, and else its first segment
 /// that fails. Without an asked route the finding is the first of the shortest walks over the segments that meet, or the
-/// cut where there is none. `NoMemory` where no memory was left.
-pub fn find(
+/// cut where there is none. `NoMemory` where no memory was left. What is tested is counted.
+pub fn find<L: Ledger>(
     alloc: Global,
     base: &Base,
     state: &State,
     application: &Application,
+    steps: &mut Steps<L>,
 ) -> Result<What, NoMemory>
     requires state { AreOf base.now.roads state.now }
     requires sound { Sound base.now application.now }
-    ensures { IfOk result (λ w. IsFinding base.now state.now application.now w) }
+    ensures found { IfOk result (λ w. IsFinding base.now state.now application.now w) }
+    ensures steps { TestsAtMost (tests_for base.now application.now.asked) steps.old steps.new }
+    ensures legal { needs_none base.now application.now.truck ≡ true → steps.new ≡ steps.old }
 {
-    find_counted::<Brand>(alloc, base, state, application, Blank::new(1))
-}
-
-/// What is found for the application in the state of a snapshot, with the snapshot's version. `NoMemory` where no memory was
-/// left.
-pub fn analyse(
-    alloc: Global,
-    base: &Base,
-    snapshot: &Snapshot,
-    application: &Application,
-) -> Result<Proposal, NoMemory>
-    requires roads { snapshot.now.roads ≡ base.now.roads }
-    requires sound { Sound base.now application.now }
-    ensures seen { IfOk result (λ proposal. proposal.seen ≡ version_of snapshot.now) }
-    ensures found { IfOk result (λ proposal. IsFoundAt base.now snapshot.now application.now proposal.what) }
-{
-    let what = find(alloc, base, snapshot.state(), application)?;
-    Ok(Proposal {
-        seen: snapshot.version(),
-        what,
-    })
-}
-
-// What is found, over a counter of tests, which nobody reads.
-fn find_counted<L: Ledger>(
-    alloc: Global,
-    base: &Base,
-    state: &State,
-    application: &Application,
-    blank: Blank,
-) -> Result<What, NoMemory>
-    requires name { blank.name ≡ L.name }
-    requires parts { blank.parts ≡ L.parts }
-    requires some { 0 < blank.parts }
-    requires state { AreOf base.now.roads state.now }
-    requires sound { Sound base.now application.now }
-    ensures { IfOk result (λ w. IsFinding base.now state.now application.now w) }
-{
-    let mut steps = Steps::<L>::new(blank);
     let truck = application.truck();
     if base.fleet()[truck as usize].load.legal() {
         return Ok(What::NotNeeded);
     }
     match application.asked() {
-        Some(route) => find_asked(alloc, base, state, truck, route, &mut steps),
-        None => find_free(alloc, base, state, application, &mut steps),
+        Some(route) => find_asked(alloc, base, state, truck, route, steps),
+        None => find_free(alloc, base, state, application, steps),
     }
+}
+
+/// What is found for the application in the state of a snapshot, with the snapshot's version. `NoMemory` where no memory was
+/// left.
+pub fn analyse<L: Ledger>(
+    alloc: Global,
+    base: &Base,
+    snapshot: &Snapshot,
+    application: &Application,
+    steps: &mut Steps<L>,
+) -> Result<Proposal, NoMemory>
+    requires roads { snapshot.now.roads ≡ base.now.roads }
+    requires sound { Sound base.now application.now }
+    ensures seen { IfOk result (λ proposal. proposal.seen ≡ version_of snapshot.now) }
+    ensures found { IfOk result (λ proposal. IsFoundAt base.now snapshot.now application.now proposal.what) }
+    ensures steps { TestsAtMost (tests_for base.now application.now.asked) steps.old steps.new }
+{
+    let what = find(alloc, base, snapshot.state(), application, steps)?;
+    Ok(Proposal {
+        seen: snapshot.version(),
+        what,
+    })
 }
 
 // What is found on an asked route.
@@ -96,7 +82,8 @@ pub(crate) fn find_asked<L: Ledger>(
     requires truck { truck < length base.now.fleet }
     requires state { AreOf base.now.roads state.now }
     requires segments { All (λ s. s < length base.now.roads.segments) route.now }
-    ensures { IfOk result (λ w. w ≡ asked_finding (first_in base.now state.now truck route.now) route.now) }
+    ensures found { IfOk result (λ w. w ≡ asked_finding (first_in base.now state.now truck route.now) route.now) }
+    ensures steps { TestsAtMost (length route.now) steps.old steps.new }
 {
     match first_on(base, state, truck, route.as_slice(), steps) {
         Some(failing) => Ok(What::Fails {
@@ -116,7 +103,8 @@ fn find_free<L: Ledger>(
 ) -> Result<What, NoMemory>
     requires state { AreOf base.now.roads state.now }
     requires sound { Sound base.now application.now }
-    ensures { IfOk result (IsFoundBy base.now state.now application.now None) }
+    ensures found { IfOk result (IsFoundBy base.now state.now application.now None) }
+    ensures steps { TestsAtMost (tests_for base.now None) steps.old steps.new }
 {
     let passable = flags(alloc, base, state, application.truck(), steps)?;
     let (from, to) = (application.from(), application.to());

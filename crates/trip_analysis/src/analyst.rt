@@ -8,7 +8,8 @@ ghost use Rattle.restriction_log.specs.States.{AgreeOn, AreOf, InForce};
 ghost use Rattle.snapshot_store.specs.Stores.{IsLater, state_now};
 ghost use Rattle.trip_analysis.specs.Applications.{Sound};
 ghost use Rattle.trip_analysis.specs.Bases.{BaseLists};
-ghost use Rattle.trip_analysis.specs.Findings.{IsFinding, IsFoundBy};
+ghost use Rattle.trip_analysis.specs.Findings.{IsFinding, IsFoundBy, needs_none};
+ghost use Rattle.trip_analysis.specs.Tests.{TestsAtMost, tests_for, tests_to_go_on};
 ghost use Rattle.trip_analysis.specs.Known.{AreJudged, AreKnown, AreOfFleet, AreSettled, IsJudged, IsKnown, IsOfRoads, IsSettled};
 
 use crate::analysis::{find_asked, proposed};
@@ -23,8 +24,7 @@ use road_graph::Network;
 use route_search::{Heights, Potentials, Shortest, potentials, shortest_walk, shortest_walk_by};
 use snapshot_store::Snapshot;
 use std::alloc::Global;
-use std::marker::Brand;
-use std::sync::ledger::{Blank, Ledger};
+use std::sync::ledger::Ledger;
 
 /// What is known of one truck, once it was needed: for each segment whether it may pass it, and for each node how far it is
 /// from there to a goal that came twice.
@@ -64,48 +64,29 @@ impl Analyst {
     }
 
     /// What is found for the application in the state of the base's roads, as `find` says it, by what is known.
-    pub fn find(
+    pub fn find<L: Ledger>(
         &mut self,
         alloc: Global,
         base: &Base,
         state: &State,
         application: &Application,
+        steps: &mut Steps<L>,
     ) -> Result<What, NoMemory>
         requires known { AreKnown base.now state.now self.old }
         requires state { AreOf base.now.roads state.now }
         requires sound { Sound base.now application.now }
         ensures found { IfOk result (λ w. IsFinding base.now state.now application.now w) }
         ensures known { AreKnown base.now state.now self.new }
+        ensures steps { TestsAtMost (tests_for base.now application.now.asked) steps.old steps.new }
+        ensures legal { needs_none base.now application.now.truck ≡ true → steps.new ≡ steps.old }
     {
-        self.find_counted::<Brand>(alloc, base, state, application, Blank::new(1))
-    }
-
-    // The same over a counter of tests, which nobody reads.
-    fn find_counted<L: Ledger>(
-        &mut self,
-        alloc: Global,
-        base: &Base,
-        state: &State,
-        application: &Application,
-        blank: Blank,
-    ) -> Result<What, NoMemory>
-        requires name { blank.name ≡ L.name }
-        requires parts { blank.parts ≡ L.parts }
-        requires some { 0 < blank.parts }
-        requires known { AreKnown base.now state.now self.old }
-        requires state { AreOf base.now.roads state.now }
-        requires sound { Sound base.now application.now }
-        ensures found { IfOk result (λ w. IsFinding base.now state.now application.now w) }
-        ensures known { AreKnown base.now state.now self.new }
-    {
-        let mut steps = Steps::<L>::new(blank);
         let truck = application.truck();
         if base.fleet()[truck as usize].load.legal() {
             return Ok(What::NotNeeded);
         }
         match application.asked() {
-            Some(route) => find_asked(alloc, base, state, truck, route, &mut steps),
-            None => self.find_free(alloc, base, state, application, &mut steps),
+            Some(route) => find_asked(alloc, base, state, truck, route, steps),
+            None => self.find_free(alloc, base, state, application, steps),
         }
     }
 
@@ -123,6 +104,7 @@ impl Analyst {
         requires sound { Sound base.now application.now }
         ensures found { IfOk result (IsFoundBy base.now state.now application.now None) }
         ensures known { AreKnown base.now state.now self.new }
+        ensures steps { TestsAtMost (tests_for base.now None) steps.old steps.new }
     {
         let truck = application.truck();
         let known = &mut self.known[truck as usize];
@@ -145,7 +127,8 @@ impl Analyst {
         requires known { AreKnown base.now (state_now last.now) self.old }
         requires roads { next.now.roads ≡ base.now.roads }
         requires later { IsLater last.now next.now }
-        ensures { AreKnown base.now (state_now next.now) self.new }
+        ensures known { AreKnown base.now (state_now next.now) self.new }
+        ensures steps { TestsAtMost (tests_to_go_on base.now) steps.old steps.new }
     {
         base.lists_are_in_order();
         let mut from = 0;
@@ -163,7 +146,8 @@ impl Analyst {
         requires state { AreOf base.now.roads state.now }
         requires segment { segment < length base.now.roads.segments }
         requires roads { IsRoads base.now.roads }
-        ensures { AreJudged base.now state.now segment self.old self.new }
+        ensures judged { AreJudged base.now state.now segment self.old self.new }
+        ensures steps { TestsAtMost (length base.now.fleet) steps.old steps.new }
     {
         'trucks: for truck in 0..base.fleet().len() {
             let known = &mut self.known[truck];
@@ -186,6 +170,7 @@ fn learn_flags<L: Ledger>(
     requires state { AreOf base.now.roads state.now }
     ensures flagged { IfOk result (λ _. known.new.is_flagged ≡ true) }
     ensures known { IsKnown base.now state.now truck known.new }
+    ensures steps { TestsAtMost (tests_for base.now None) steps.old steps.new }
 {
     if known.is_flagged {
         return Ok(());
@@ -286,7 +271,8 @@ fn judge_anew<L: Ledger>(
     requires state { AreOf base.now.roads state.now }
     requires segment { segment < length base.now.roads.segments }
     requires roads { IsRoads base.now.roads }
-    ensures { IsJudged base.now state.now segment truck known.old known.new }
+    ensures judged { IsJudged base.now state.now segment truck known.old known.new }
+    ensures steps { TestsAtMost 1 steps.old steps.new }
 {
     if known.is_flagged {
         let passable = is_passable(base, state, truck, segment, steps);

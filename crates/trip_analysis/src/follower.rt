@@ -1,9 +1,10 @@
 // Who finds what applications ask for at one snapshot after another.
 
-ghost use Rattle.std.specs.Prelude.{◌≡◌, ◌<◌};
+ghost use Rattle.std.specs.Prelude.{◌≡◌};
 ghost use Rattle.snapshot_store.specs.Stores.{state_now};
 ghost use Rattle.trip_analysis.specs.Followers.{AreKnownAt, GoesOn};
 ghost use Rattle.trip_analysis.specs.Known.{AreKnown};
+ghost use Rattle.trip_analysis.specs.Tests.{TestsAtMost, tests_to_go_on};
 
 use crate::analyst::Analyst;
 use crate::application::Application;
@@ -13,9 +14,9 @@ use clearance_rules::Steps;
 use names::NoMemory;
 use snapshot_store::Snapshot;
 use std::alloc::Global;
-use std::marker::{Brand, Model};
+use std::marker::Model;
 use std::snapshot::Snapshot as Told;
-use std::sync::ledger::{Blank, Ledger};
+use std::sync::ledger::Ledger;
 
 /// An analyst who follows the versions of a store: what is known of the trucks is kept from one snapshot to the next, and
 /// only segments at which the two differ are judged anew.
@@ -41,11 +42,12 @@ impl Model for Follower {
 }
 
 impl Follower {
-    ghost use Rattle.std.specs.Prelude.{◌≡◌, IfOk};
+    ghost use Rattle.std.specs.Prelude.{◌≡◌, ◌+◌, IfOk};
     ghost use Rattle.snapshot_store.specs.Stores.{version_of};
     ghost use Rattle.trip_analysis.specs.Applications.{Sound};
     ghost use Rattle.trip_analysis.specs.Findings.{IsFoundAt};
     ghost use Rattle.trip_analysis.specs.Followers.{GoesOn, followed, newly_followed};
+    ghost use Rattle.trip_analysis.specs.Tests.{TestsAtMost, tests_for, tests_to_go_on};
 
     /// A follower of this base, who was given no snapshot yet and knows nothing of its trucks.
     pub fn new(alloc: Global, base: &Base) -> Result<Follower, NoMemory>
@@ -62,12 +64,13 @@ impl Follower {
     /// `NoMemory` where no memory was left; the snapshot is the last one then too.
     ///
     /// The snapshot is of the version of the last one that was given, or of a later one of the same store.
-    pub fn analyse(
+    pub fn analyse<L: Ledger>(
         &mut self,
         alloc: Global,
         base: &Base,
         snapshot: Snapshot,
         application: &Application,
+        steps: &mut Steps<L>,
     ) -> Result<Proposal, NoMemory>
         requires base { self.old.base ≡ base.now }
         requires roads { snapshot.roads ≡ base.now.roads }
@@ -76,12 +79,12 @@ impl Follower {
         ensures seen { IfOk result (λ proposal. proposal.seen ≡ version_of snapshot) }
         ensures found { IfOk result (λ proposal. IsFoundAt base.now snapshot application.now proposal.what) }
         ensures known { self.new ≡ followed base.now snapshot }
+        ensures steps { TestsAtMost (tests_to_go_on base.now + tests_for base.now application.now.asked) steps.old steps.new }
     {
-        let analyst = &mut self.analyst;
-        go_on::<Brand>(base, analyst, &self.last, &snapshot, Blank::new(1));
+        go_on(base, &mut self.analyst, &self.last, &snapshot, steps);
         let found = self
             .analyst
-            .find(alloc, base, snapshot.state(), application);
+            .find(alloc, base, snapshot.state(), application, steps);
         let seen = snapshot.version();
         self.last = Some(snapshot);
         Ok(Proposal { seen, what: found? })
@@ -94,20 +97,17 @@ fn go_on<L: Ledger>(
     analyst: &mut Analyst,
     last: &Option<Snapshot>,
     next: &Snapshot,
-    blank: Blank,
+    steps: &mut Steps<L>,
 )
-    requires name { blank.name ≡ L.name }
-    requires parts { blank.parts ≡ L.parts }
-    requires some { 0 < blank.parts }
     requires known { AreKnownAt base.now last.now analyst.old }
     requires roads { next.now.roads ≡ base.now.roads }
     requires later { GoesOn last.now next.now }
-    ensures { AreKnown base.now (state_now next.now) analyst.new }
+    ensures known { AreKnown base.now (state_now next.now) analyst.new }
+    ensures steps { TestsAtMost (tests_to_go_on base.now) steps.old steps.new }
 {
-    let mut steps = Steps::<L>::new(blank);
     if let Some(last) = last {
         if last.version() != next.version() {
-            analyst.turn_to(base, last, next, &mut steps);
+            analyst.turn_to(base, last, next, steps);
         }
     }
 }

@@ -1,8 +1,9 @@
 // Which segments a truck of the fleet may pass. What its axles do on the spans is told by the study that the base has of them.
 
-ghost use Rattle.std.specs.Prelude.{◌≡◌, ◌+◌, ◌<◌, ◌≤◌, length, All, IfOk};
+ghost use Rattle.std.specs.Prelude.{◌≡◌, ◌+◌, ◌<◌, length, All, IfOk, None};
 ghost use Rattle.restriction_log.specs.States.{AreOf};
 ghost use Rattle.trip_analysis.specs.Findings.{limit_for, first_on as first_in, flags_of, is_passable};
+ghost use Rattle.trip_analysis.specs.Tests.{TestsAtMost, tests_for};
 
 use crate::base::Base;
 use crate::finding::Failing;
@@ -62,7 +63,7 @@ pub fn first_on<L: Ledger>(
     requires state { AreOf base.now.roads state.now }
     requires segments { All (λ s. s < length base.now.roads.segments) route.now }
     ensures value { result ≡ first_in base.now state.now truck route.now }
-    ensures steps { steps.new ≤ steps.old + length route.now }
+    ensures steps { TestsAtMost (length route.now) steps.old steps.new }
 {
     for i in 0..route.len() {
         let segment = route[i];
@@ -84,7 +85,8 @@ pub(crate) fn flags<L: Ledger>(
 ) -> Result<Vec<bool>, NoMemory>
     requires truck { truck < length base.now.fleet }
     requires state { AreOf base.now.roads state.now }
-    ensures { IfOk result (λ flags. flags.items ≡ flags_of base.now state.now truck) }
+    ensures flags { IfOk result (λ flags. flags.items ≡ flags_of base.now state.now truck) }
+    ensures steps { TestsAtMost (tests_for base.now None) steps.old steps.new }
 {
     let mut flags = Vec::new(alloc);
     for segment in 0..base.network().segments() {

@@ -253,21 +253,36 @@ const FINDINGS: &str = "\
 1,0,1,0,2026-03-02,2026-03-02/0/not needed
 ";
 
-// Looks for what a line says.
-fn find_line(rt: &impl Abort, alloc: Global, base: &Base, line: &str) {
+// Looks for what a line says, with this counter.
+fn find_line<L: Ledger>(
+    rt: &impl Abort,
+    alloc: Global,
+    base: &Base,
+    line: &str,
+    steps: &mut Steps<L>,
+) {
     let application = taken(rt, alloc, base, part(line, '/', 0));
     let state = lowered(rt, alloc, base.network(), part(line, '/', 1));
-    let what = find(alloc, base, &state, &application).expect(rt, "memory");
+    let what = find(alloc, base, &state, &application, steps).expect(rt, "memory");
     drop(state);
     drop(application);
     check_found(rt, alloc, &what, part(line, '/', 2));
     drop(what);
 }
 
-fn find_each(rt: &impl Abort, alloc: Global, base: &Base) {
+fn find_lines<L: Ledger>(rt: &impl Abort, alloc: Global, base: &Base, blank: Blank)
+    requires name { blank.name ≡ L.name }
+    requires parts { blank.parts ≡ L.parts }
+    requires some { 0 < blank.parts }
+{
+    let mut steps = Steps::<L>::new(blank);
     for line in FINDINGS.lines() {
-        find_line(rt, alloc, base, line);
+        find_line(rt, alloc, base, line, &mut steps);
     }
+}
+
+fn find_each(rt: &impl Abort, alloc: Global, base: &Base) {
+    find_lines::<Brand>(rt, alloc, base, Blank::new(1));
 }
 
 #[test]
@@ -329,13 +344,14 @@ fn post_each(rt: &impl Abort, network: &Network, store: &mut Store, text: &str)
 
 // Posts what a line says, and compares what a follower finds then, and at which version.
 #[tactic(auto, using(trip_analysis::proofs::Following::goes_on_later))]
-fn follow_line(
+fn follow_line<L: Ledger>(
     rt: &impl Abort,
     alloc: Global,
     base: &Base,
     store: &mut Store,
     follower: &mut Follower,
     line: &str,
+    steps: &mut Steps<L>,
 )
     requires base { follower.old.base ≡ base.now }
     requires roads { store.old.roads ≡ base.now.roads }
@@ -346,7 +362,7 @@ fn follow_line(
     post_each(rt, base.network(), store, part(line, '/', 0));
     let application = taken(rt, alloc, base, part(line, '/', 1));
     let snapshot = store.snapshot().expect(rt, "memory");
-    let proposal = follower.analyse(alloc, base, snapshot, &application);
+    let proposal = follower.analyse(alloc, base, snapshot, &application, steps);
     drop(application);
     let Proposal { seen, what } = proposal.expect(rt, "memory");
     check_found(rt, alloc, &what, part(line, '/', 3));
@@ -356,19 +372,24 @@ fn follow_line(
 
 // Follows a store over all lines.
 #[tactic(auto, using(trip_analysis::proofs::Following::goes_on_here))]
-fn follow_lines(
+fn follow_lines<L: Ledger>(
     rt: &impl Abort,
     alloc: Global,
     base: &Base,
     store: &mut Store,
     follower: &mut Follower,
+    blank: Blank,
 )
+    requires name { blank.name ≡ L.name }
+    requires parts { blank.parts ≡ L.parts }
+    requires some { 0 < blank.parts }
     requires base { follower.old.base ≡ base.now }
     requires roads { store.old.roads ≡ base.now.roads }
     requires later { GoesOn follower.old.last store.old }
 {
+    let mut steps = Steps::<L>::new(blank);
     'lines: for line in HISTORY.lines() {
-        follow_line(rt, alloc, base, store, follower, line);
+        follow_line(rt, alloc, base, store, follower, line, &mut steps);
     }
 }
 
@@ -376,7 +397,14 @@ fn follow_lines(
 fn follow_store(rt: &impl Abort, alloc: Global, base: &Base) {
     let mut store = Store::start(alloc, base.network()).expect(rt, "memory");
     let mut follower = Follower::new(alloc, base).expect(rt, "memory");
-    follow_lines(rt, alloc, base, &mut store, &mut follower);
+    follow_lines::<Brand>(
+        rt,
+        alloc,
+        base,
+        &mut store,
+        &mut follower,
+        Blank::new(1),
+    );
     drop(follower);
     drop(store);
 }

@@ -4,4 +4,4 @@ use Rattle.office_core.specs.Offices.{machine_in}
 use Rattle.office_tests.proofs.calls.serve_each.Given as goal
 
 abbrev pub invariant-lines : goal.invariant-lines
-invariant-lines g l = IfSome l.found (MayAsk l.office.base (machine_in l.office))
+invariant-lines g l = IfSome l.found (MayAsk l.office.office.base (machine_in l.office.office))

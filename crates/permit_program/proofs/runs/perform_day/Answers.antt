@@ -1,4 +1,4 @@
-use Rattle.std.proofs.Common.{rules, ◌≡◌, ℕ, List, Option, refl, sym, subst}
+use Rattle.std.proofs.Common.{rules, ◌≡◌, ℕ, List, Option, Some, refl, sym, subst}
 use Rattle.std.specs.Io.KnownBytes.{Appends}
 use Rattle.command_line.specs.declared.asked.Task.{Task}
 use Rattle.notice_desk.specs.Deliveries.{Delivered, StoppedAt}
@@ -7,12 +7,13 @@ use Rattle.notice_desk.specs.declared.notice.Recall.{Recall}
 use Rattle.permit_program.specs.Command.{IsRefusalOf, MakesAndTells}
 use Rattle.permit_program.specs.Commands.{command_by, command_of}
 use Rattle.permit_program.specs.Day.{day}
-use Rattle.permit_program.specs.Runs.{Told, Took, desk_at, outside_of}
+use Rattle.permit_program.specs.Headline.{CountedHeadline}
+use Rattle.permit_program.specs.Runs.{IsRun, Told, Took, desk_at, outside_of}
 use Rattle.permit_program.proofs.Ends.{ends_refused, ends_untold, whole}
 use Rattle.permit_program.proofs.runs.perform_day.Goals as goal
 
-pub returns-in-Err-make_journal : goal.returns-in-Err-make_journal
-returns-in-Err-make_journal g c = λ asked is.
+pub returns-in-Err-make_journal-clause-run : goal.returns-in-Err-make_journal-clause-run
+returns-in-Err-make_journal-clause-run g c = λ asked is.
     let outside = outside_of g.S.Source.left g.S.Source.faults g.K.Sink.held g.K.Sink.faults in
     let desk_now = desk_at (λ n. (g.dyn-1.0.entry n.vtable).1.list n.value) (λ n. (g.dyn-1.0.entry n.vtable).1.faults n.value) (λ n. (g.dyn-1.0.entry n.vtable).1.text n.value) in
     let before = outside c.args.source.now c.args.sink.now (desk_now c.args.notices.now) in
@@ -22,10 +23,11 @@ returns-in-Err-make_journal g c = λ asked is.
     let refusal = c.in-Err-make_journal.refusal in
     let refused : IsRefusalOf (command_of asked) bytes refusal = subst (λ (t : Task). IsRefusalOf (command_by t asked.seed asked.size) bytes refusal) (sym is)
     (subst (λ (b : List ℕ). IsRefusalOf day b refusal) c.as_slice.ensures.value c.in-Err-make_journal.ensures.refused) in
-    ends_refused asked before after c.take_bytes.ensures.most bytes took c.in-Ok.ensures.few c.in-Ok.ensures.calm refusal c.end_refused.result refused c.end_refused.ensures refl
+    subst (λ (n : ℕ). IsRun (Some asked) before after n) (sym c.uncounted-in-Err-make_journal.ensures.status)
+    (ends_refused asked before after c.take_bytes.ensures.most bytes took c.in-Ok.ensures.few c.in-Ok.ensures.calm refusal c.end_refused.result refused c.end_refused.ensures refl)
 
-pub returns-in-Ok-deliver : goal.returns-in-Ok-deliver
-returns-in-Ok-deliver g c = λ asked is.
+pub returns-in-Ok-deliver-clause-run : goal.returns-in-Ok-deliver-clause-run
+returns-in-Ok-deliver-clause-run g c = λ asked is.
     let outside = outside_of g.S.Source.left g.S.Source.faults g.K.Sink.held g.K.Sink.faults in
     let desk_now = desk_at (λ n. (g.dyn-1.0.entry n.vtable).1.list n.value) (λ n. (g.dyn-1.0.entry n.vtable).1.faults n.value) (λ n. (g.dyn-1.0.entry n.vtable).1.text n.value) in
     let before = outside c.args.source.now c.args.sink.now (desk_now c.args.notices.now) in
@@ -43,11 +45,12 @@ returns-in-Ok-deliver g c = λ asked is.
     let heard = c.in-Ok-deliver.ensures in
     let delivered : Delivered before.desk.standings recalls after.desk.standings = subst (λ (rs : List Recall). Delivered before.desk.standings rs after.desk.standings) told heard.done in
     let lines : EachWrote before.desk.standings recalls before.desk.texts after.desk.texts = subst (λ (rs : List Recall). EachWrote before.desk.standings rs before.desk.texts after.desk.texts) told heard.wrote in
-    whole asked before after c.take_bytes.ensures.most bytes took c.in-Ok.ensures.few c.in-Ok.ensures.calm text made.made wrote whole_text.1
-    (subst (λ (rs : Option (List Recall)). Told rs before.desk after.desk) (sym made.told) (delivered, heard.stands, lines))
+    subst (λ (n : ℕ). IsRun (Some asked) before after n) (sym c.counted.ensures.status)
+    (whole asked before after c.take_bytes.ensures.most bytes took c.in-Ok.ensures.few c.in-Ok.ensures.calm text made.made wrote whole_text.1
+    (subst (λ (rs : Option (List Recall)). Told rs before.desk after.desk) (sym made.told) (delivered, heard.stands, lines)))
 
-pub returns : goal.returns
-returns g c = λ asked is.
+pub returns-clause-run : goal.returns-clause-run
+returns-clause-run g c = λ asked is.
     let outside = outside_of g.S.Source.left g.S.Source.faults g.K.Sink.held g.K.Sink.faults in
     let desk_now = desk_at (λ n. (g.dyn-1.0.entry n.vtable).1.list n.value) (λ n. (g.dyn-1.0.entry n.vtable).1.faults n.value) (λ n. (g.dyn-1.0.entry n.vtable).1.text n.value) in
     let before = outside c.args.source.now c.args.sink.now (desk_now c.args.notices.now) in
@@ -64,7 +67,22 @@ returns g c = λ asked is.
     let told = c.as_slice-3.ensures.value in
     let heard = c.in-Err-deliver.ensures in
     let place = c.in-Err-deliver.field-0.at in
-    ends_untold asked before after c.take_bytes.ensures.most bytes took c.in-Ok.ensures.few c.in-Ok.ensures.calm text made.made recalls place made.told wrote whole_text.1
+    subst (λ (n : ℕ). IsRun (Some asked) before after n) (sym c.counted-in-Err-deliver.ensures.status)
+    (ends_untold asked before after c.take_bytes.ensures.most bytes took c.in-Ok.ensures.few c.in-Ok.ensures.calm text made.made recalls place made.told wrote whole_text.1
     (subst (λ (rs : List Recall). StoppedAt place before.desk.standings rs after.desk.standings) told heard.stopped)
     heard.fault
-    (subst (λ (rs : List Recall). WroteUntilAt place before.desk.standings rs after.desk.standings before.desk.texts after.desk.texts) told heard.part)
+    (subst (λ (rs : List Recall). WroteUntilAt place before.desk.standings rs after.desk.standings before.desk.texts after.desk.texts) told heard.part))
+
+pub returns-in-Ok-deliver-clause-counted : goal.returns-in-Ok-deliver-clause-counted
+returns-in-Ok-deliver-clause-counted g c = λ is.
+    let held = g.K.Sink.held in
+    let text = c.in-Ok-make_journal.day.journal.items in
+    let zero : c.end_made-status.result ≡ 0 = search rules in
+    record {
+      bytes = c.in-Ok.bytes.items;
+      journal = text;
+      took = c.in-Ok.ensures.took;
+      wrote = subst (Appends (held c.args.sink.now) (held c.end_made-status.new.sink)) c.as_slice-2.ensures.value (c.end_made-status.ensures.whole zero).0;
+      counted = rw c.counted.ensures.some
+          (subst (λ (b : List ℕ). CountedHeadline c.in-Ok-make_journal.day.tests b text) c.as_slice.ensures.value c.in-Ok-make_journal.ensures.counted);
+    }

@@ -3,8 +3,8 @@ use Rattle.std.proofs.Math.ListN.{length-set}
 use Rattle.trip_analysis.specs.Findings.{is_passable}
 use Rattle.trip_analysis.proofs.analyst.judge_anew.Goals as goal
 
-pub returns-then-known : goal.returns-then-known
-returns-then-known g c =
+pub returns-then-known-clause-judged : goal.returns-then-known-clause-judged
+returns-then-known-clause-judged g c =
     let a = c.args in
     let flags = c.write_flag.ensures.flags ∙ ap (λ (b : Bool). set a.known.now.flags.items a.segment b) c.is_passable-passable.ensures.value in
     record {

@@ -1,9 +1,10 @@
-use Rattle.std.proofs.Common.{◌≡◌, ◌≤◌, ◌+◌, drop}
+use Rattle.std.proofs.Common.{◌≡◌, drop}
 use Rattle.trip_analysis.specs.Findings.{first_on}
+use Rattle.trip_analysis.specs.Tests.{TestsAtMost}
 use Rattle.trip_analysis.proofs.passing.first_on.Given as goal
 
 abbrev pub invariant-loop-i : goal.invariant-loop-i
 invariant-loop-i g l = record {
   left : first_on l.base l.state l.truck (drop l.i l.route) ≡ first_on l.base l.state l.truck l.route;
-  steps : l.steps ≤ l.fn.steps + l.i;
+  steps : TestsAtMost l.i l.fn.steps l.steps;
 }

@@ -1,7 +1,11 @@
 use Rattle.std.proofs.Common.{◌≡◌, map}
 use Rattle.std.specs.List.{range_with_len}
 use Rattle.trip_analysis.specs.Findings.{is_passable}
+use Rattle.trip_analysis.specs.Tests.{TestsAtMost}
 use Rattle.trip_analysis.proofs.passing.flags.Given as goal
 
 abbrev pub invariant-loop-segment : goal.invariant-loop-segment
-invariant-loop-segment g l = l.flags.items ≡ map (is_passable l.base l.state l.truck) (range_with_len 0 l.segment)
+invariant-loop-segment g l = record {
+  flags : l.flags.items ≡ map (is_passable l.base l.state l.truck) (range_with_len 0 l.segment);
+  steps : TestsAtMost l.segment l.fn.steps l.steps;
+}

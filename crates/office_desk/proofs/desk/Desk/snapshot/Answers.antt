@@ -13,9 +13,9 @@ pub returns-in-Ok-clause-answered : goal.returns-in-Ok-clause-answered
 returns-in-Ok-clause-answered g c =
     let found = c.in-Ok.ensures in
     let numbered = c.number.ensures.number ∙ ap (λ (p : Passing Entry Terms). p.number) found.pass in
-    let office = ap (λ d. d.office) c.value.ensures.value in
-    let after = c.look-looked.new.self.office in
-    looks c.args.pass.now c.hold.new.pass c.pass_on.new.pass c.in-Ok.held.value.office after c.number.result c.look-looked.result
+    let office = ap (λ d. d.counted.office) c.value.ensures.value in
+    let after = c.look-looked.new.self.counted.office in
+    looks c.args.pass.now c.hold.new.pass c.pass_on.new.pass c.in-Ok.held.value.counted.office after c.number.result c.look-looked.result
     numbered c.look-looked.ensures.out
     (record {
       holds = found.pass;

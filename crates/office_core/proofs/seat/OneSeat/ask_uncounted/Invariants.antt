@@ -1,4 +1,0 @@
-use Rattle.office_core.proofs.seat.OneSeat.ask_uncounted.Given as goal
-
-abbrev pub ghosts-ask_counted : goal.ghosts-ask_counted
-ghosts-ask_counted a = record { name = a.blank.name; parts = a.blank.parts }

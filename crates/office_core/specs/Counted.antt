@@ -1,0 +1,20 @@
+-- What contracts see of an office with the counter of its tests.
+use Rattle.std.specs.Prelude.{ℕ}
+use Rattle.office_core.specs.Costs.{Counts}
+use Rattle.office_core.specs.Offices.{Opened}
+use Rattle.office_core.specs.declared.counted.CountedOffice.TheInside.{Inside}
+
+-- the office, and how many segments were tested in its turns so far
+pub record Counted : Type 0 where
+  pub office : Opened
+  pub tests : ℕ
+
+abbrev pub counted_in : {L : Type 0} → Inside L → Counted
+counted_in o = record { office = o.office; tests = o.steps }
+
+-- the counter rose in the turn of each entry by what its call may cost, and by nothing else
+abbrev pub AreCounted : Opened → ℕ → Type 0
+AreCounted o tests = Counts o.base o.opening o.history tests
+
+abbrev pub IsCounted : {L : Type 0} → Inside L → Type 0
+IsCounted o = AreCounted o.office o.steps

@@ -1,4 +1,0 @@
-use Rattle.office_desk.proofs.desked.Desked.step.Given as goal
-
-abbrev pub ghosts-step_counted : goal.ghosts-step_counted
-ghosts-step_counted a = record { name = a.blank.name; parts = a.blank.parts }

@@ -1,6 +1,0 @@
-use denote.Param.Send.{sendable}
-use Rattle.office_core.proofs.Sending.{seat_send}
-use Rattle.office_tests.proofs.analysts.run_each.Goals as goal
-
-pub run_both-ran-requires-send-C : goal.run_both-ran-requires-send-C
-run_both-ran-requires-send-C g c κs within = search (sendable, seat_send)
