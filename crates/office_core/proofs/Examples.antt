@@ -1,14 +1,18 @@
 -- Small histories and roads that show what the definitions mean.
-use Rattle.std.proofs.Common.{◌≡◌, ◌∷◌, [], List, ℕ, zero, suc, true, false, Some, refl, ap, sym, subst, arith, ◌∙◌, length, map}
+use Rattle.std.proofs.Common.{◌≡◌, ◌+◌, ◌∷◌, ◌++◌, [], List, ℕ, zero, suc, true, false, Some, refl, ap, sym, subst, arith, ◌∙◌, length, map}
 use Rattle.std.specs.Prelude.{slice_get}
+use Rattle.std.specs.List.{range_with_len}
 use Rattle.std.proofs.lemmas.Bool.{false≢true}
 use Rattle.std.proofs.lemmas.List.Elements.{All-nil}
 use Rattle.road_graph.specs.declared.segment.Segment.{Segment}
 use Rattle.road_graph.specs.Roads.{segment_at}
 use Rattle.route_search.specs.Walks.{IsWalk, every}
 use Rattle.restriction_log.specs.declared.change.Change.{Change}
+use Rattle.restriction_log.specs.declared.change.Change.TheVariants as change
 use Rattle.restriction_log.specs.States.{InForce, values_at}
 use Rattle.permit_days.specs.Days.{is_before}
+use Rattle.permit_book.specs.declared.permit.Permit.{Permit}
+use Rattle.permit_book.specs.Permits.{marked, new_permit, trip_of}
 use Rattle.permit_book.specs.declared.permit.Mark.TheVariants as mark
 use Rattle.permit_book.specs.declared.permit.Status.TheVariants as status
 use Rattle.trip_analysis.specs.declared.application.Application.{Application}
@@ -23,6 +27,8 @@ use Rattle.office_core.specs.Clearances.{MeetsTruck}
 use Rattle.office_core.specs.Happened.{day_after, issued_in, version_after}
 use Rattle.office_core.specs.Became.{IsInForce, IsMarkOf, RecallsAt, SurrendersAt}
 use Rattle.office_core.specs.Passages.{IsPassableWalk}
+use Rattle.office_core.specs.Retests.{changed_on}
+use Rattle.office_core.specs.Users.{users_of}
 use Rattle.office_core.specs.Truths.{IsShutIn}
 
 abbrev replies : List Entry → List Reply
@@ -147,3 +153,26 @@ module _ (base : BaseLists) (state : InForce) (road : Segment) (a : Application)
       least = λ k leads. omega arith;
       all_fail = λ k leads meets. shut (subst (MeetsTruck base state a.truck) (omega (arith, leads.there, ap length one)) meets);
     }
+
+-- a route of 200 segments that was found before a posting on the hundredth: one place on it changed, so its answer tests one
+-- segment at the most
+module _ (base : BaseLists) where
+  hundredth_changed : changed_on base (change.Height 99 999 ∷ []) 0 (range_with_len 0 200) ≡ 1
+  hundredth_changed = refl
+
+-- a hundred permits on segment 0, and a hundred behind them on segment 1: a posting on segment 1 tests a hundred at the most
+permits_on : ℕ → ℕ → List Permit
+permits_on segment before = map (λ n. new_permit n (trip_of 0 0 (segment ∷ []) [] []) 0 0) (range_with_len (before + 1) 100)
+
+second_hundred : users_of 1 (permits_on 0 0 ++ permits_on 1 100) ≡ range_with_len 101 100
+unfolding permits_on
+second_hundred = refl
+
+hundred_users : length (users_of 1 (permits_on 0 0 ++ permits_on 1 100)) ≡ 100
+unfolding permits_on
+hundred_users = refl
+
+-- where one of them was given back before, the posting tests one less
+given_back : length (users_of 1 (marked (permits_on 0 0 ++ permits_on 1 100) 150 mark.Surrendered)) ≡ 99
+unfolding permits_on
+given_back = refl

@@ -16,5 +16,8 @@ fn lists_those_whose_route_holds_a_segment(rt: HostRuntime) -> Result<(), Fail> 
     index.remove(1, &first);
     assert_eq!(rt; index.using(0), [].as_slice());
     assert_eq!(rt; index.using(2), [7].as_slice());
+    // and of a list that becomes empty
+    index.remove(7, &second);
+    assert_eq!(rt; index.using(2), [].as_slice());
     Ok(())
 }
