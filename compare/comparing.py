@@ -6,7 +6,7 @@ from cases.families import Case
 from model.files import CheckFile, DayFile, Refused
 from model.journal import Wrong, alone, judge
 from model.making import made_day, trial
-from model.report import report
+from model.report import convoy_report, design_report, report
 from model.words import USAGE, asked
 
 SECONDS = 120
@@ -35,6 +35,10 @@ def wanted(case: Case) -> Ran | DayFile:
     try:
         if found.command == "check":
             return Ran(0, report(CheckFile(case.data)))
+        if found.command == "design":
+            return Ran(0, design_report(CheckFile(case.data)))
+        if found.command == "convoy":
+            return Ran(0, convoy_report(CheckFile(case.data), found.trucks, found.gap))
         if found.command == "make":
             return Ran(0, made_day(found.seed, found.size))
         if found.command == "trial":

@@ -4,6 +4,7 @@ from dataclasses import dataclass
 from random import Random
 
 from model.records import MOST_BYTES
+from model.words import COMMANDS
 
 from .breaking import broken, ends, scratched, set_number
 from .files import check_file, day_file
@@ -14,9 +15,9 @@ TRUCK: tuple[Field, ...] = ("truck", "t", "c", 168, 110, 720, AXLES)
 SMALL_TRUCK: tuple[Field, ...] = ("c", 150, 100, 500, "0:8000 168:32000")
 DAY = "2026-03-02"
 WORDS = (
-    "check", "day", "make", "trial", "--seed", "--size", "--seed=5", "--size=2", "7", "+5", "007", "-1", "65535",
-    "65536", "0", "40", "41", "--help", "-h", "--version", "--seeds", "--", "", "Check", "--seed=", "--size=1.5",
-    "--seed=-0", "\u00e4", "\udcff",
+    "check", "day", "make", "trial", "design", "convoy", "--seed", "--size", "--trucks", "--gap", "--seed=5",
+    "--size=2", "--trucks=3", "--gap=48", "7", "+5", "007", "-1", "65535", "65536", "0", "40", "41", "--help", "-h",
+    "--version", "--seeds", "--", "", "Check", "--seed=", "--size=1.5", "--seed=-0", "\u00e4", "\udcff",
 )
 
 
@@ -178,16 +179,23 @@ def far_day(rng: Random) -> Case:
     return day_of(records)
 
 
+# what options may have
+NUMBERS = {
+    "--seed": ("0", "+7", "007", "65535"), "--size": ("1", "+2", "003"), "--trucks": ("2", "+3", "016"),
+    "--gap": ("1", "+48", "03000"),
+}
+
+
 def worded(rng: Random) -> Case:
     """Words of the command line: a good list, or any."""
     if rng.random() < 0.5:
         return Case([rng.choice(WORDS) for _ in range(rng.randint(0, 4))])
     options = []
-    for option, numbers in (("--seed", ("0", "+7", "007", "65535")), ("--size", ("1", "+2", "003"))):
+    for option, numbers in NUMBERS.items():
         if rng.random() < 0.6:
             number = rng.choice(numbers)
             options.append([f"{option}={number}"] if rng.random() < 0.5 else [option, number])
-    options.insert(rng.randint(0, len(options)), [rng.choice(("make", "trial", "check", "day"))])
+    options.insert(rng.randint(0, len(options)), [rng.choice(COMMANDS)])
     return Case([word for option in options for word in option])
 
 
@@ -220,6 +228,17 @@ def case(seed: int) -> Case:
     if FAMILIES[at] is at_an_end:
         return at_an_end(Random(seed), turn * FAMILIES.count(at_an_end) + FAMILIES[:at].count(at_an_end))
     return FAMILIES[at](Random(seed))
+
+
+def cases(seed: int) -> list[Case]:
+    """The input of a seed, and a check file once more with each other word that reads one."""
+    made = case(seed)
+    if made.words != ["check"]:
+        return [made]
+    rng = Random(seed)
+    trucks, gap = rng.choice((2, 2, 2, 3, 16)), rng.choice((1, 48, 360, 3000, rng.randint(1, 3000)))
+    convoy = ["convoy", "--trucks", str(trucks), "--gap", str(gap)]
+    return [Case(words, made.data) for words in (made.words, ["design"], ["convoy"], convoy)]
 
 
 def family(seed: int) -> str:

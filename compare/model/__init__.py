@@ -7,9 +7,9 @@ standard library. Read it in this order:
 - `forms`    what a name, a number, a day, axles and a route look like;
 - `files`    the check file and the day file, or the first record that is refused and why;
 - `limits`   the federal limits of axle groups;
-- `bridges`  peak moments and peak end shears on a simple span, and the HS20-44 design truck;
+- `bridges`  peak moments and peak end shears on a simple span, and the design loads;
 - `trucks`   a truck, with its groups, its worst group and its effects;
-- `report`   what `check` writes;
+- `report`   what `check`, `design` and `convoy` write;
 - `roads`    what is posted at each version, what a truck may pass, and the shortest route;
 - `office`   the office of one thread: a reply to each call;
 - `journal`  the journal of a day with one actor, and the judge of a journal with several;

@@ -43,6 +43,14 @@ class Effects(NamedTuple):
 
 
 HS20 = ((0, 8000), (168, 32000), (336, 32000))
+MILITARY = ((0, 24000), (48, 24000))
+
+
+class Governing(NamedTuple):
+    """An effect, and the name of the design load that it is of."""
+
+    effect: Fraction
+    load: str
 
 
 def moment(axles: Axles, span: int, scale: int, lead: int, section: int) -> Fraction:
@@ -118,9 +126,32 @@ def design(span: int) -> Effects:
     return Effects(peak_moment(HS20, span)[0], peak_shear(HS20, span)[0])
 
 
-def fit(effects: Effects, span: int, rating: int) -> str:
-    """The first effect that is over so many thousandths of that of HS20-44, or `fits`."""
-    for word, has, most in zip(("moment", "shear"), effects, design(span)):
+@functools.lru_cache(maxsize=None)
+def lane(span: int) -> Effects:
+    """The peaks of the lane load, 640 lb per ft and one concentrated load.
+
+    No influence line of a simple span is below 0 anywhere, so the whole span is loaded, and the concentrated load
+    stands at the top of the line: L/4 at midspan, 1 at a support. The line is a triangle: its area is half its top
+    times L.
+    """
+    per_inch, midspan, support = Fraction(640, 12), Fraction(span, 4), Fraction(1)
+    return Effects(*(per_inch * top * span / 2 + load * top for top, load in ((midspan, 18000), (support, 26000))))
+
+
+@functools.lru_cache(maxsize=None)
+def greatest(span: int) -> tuple[Governing, Governing]:
+    """The greatest moment and shear of the three design loads, each with the first load that reaches it."""
+    military = Effects(peak_moment(MILITARY, span)[0], peak_shear(MILITARY, span)[0])
+    loads = (("truck", design(span)), ("lane", lane(span)), ("military", military))
+    moments = [Governing(effects.moment, name) for name, effects in loads]
+    shears = [Governing(effects.shear, name) for name, effects in loads]
+    # the first of those with the greatest effect
+    return max(moments, key=lambda it: it.effect), max(shears, key=lambda it: it.effect)
+
+
+def fit(effects: Effects, loads: Effects, rating: int) -> str:
+    """The first effect that is over so many thousandths of that of a design load, or `fits`."""
+    for word, has, most in zip(("moment", "shear"), effects, loads):
         if 1000 * has > rating * most:
             return word
     return "fits"

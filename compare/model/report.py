@@ -1,6 +1,6 @@
-"""What `check` writes for a check file."""
-from .bridges import design, fit, ratio
-from .files import CheckFile
+"""What `check`, `design` and `convoy` write for a check file."""
+from .bridges import Effects, closest, design, fit, greatest, peak_moment, peak_shear, ratio
+from .files import CheckFile, Refused
 from .limits import LEGAL_HEIGHT, LEGAL_WIDTH
 from .trucks import Truck
 
@@ -29,5 +29,41 @@ def probe(truck: Truck, span: int, rating: int) -> list[str]:
         f"moment {ratio(moment)} at {place}",
         f"shear {ratio(shear)} at {end.lead} {end.side}",
         f"hs20 {ratio(hs20.moment)} {ratio(hs20.shear)}",
-        f"rating {rating} {fit(truck.effects(span), span, rating)}",
+        f"rating {rating} {fit(truck.effects(span), hs20, rating)}",
     ]
+
+
+def design_report(file: CheckFile) -> str:
+    """What `design` writes: four lines a probe."""
+    lines = []
+    for asked in file.probes:
+        moment, shear = greatest(asked.inches)
+        loads = Effects(moment.effect, shear.effect)
+        lines += [
+            f"span {asked.inches}",
+            f"moment {ratio(moment.effect)} {moment.load}",
+            f"shear {ratio(shear.effect)} {shear.load}",
+            f"rating {asked.rating} {fit(file.truck.effects(asked.inches), loads, asked.rating)}",
+        ]
+    return "".join(f"{line}\n" for line in lines)
+
+
+def convoy_report(file: CheckFile, trucks: int, gap: int) -> str:
+    """What `convoy` writes: one line, and four lines a probe. Of all convoys the closest is the worst."""
+    axles, gross = trucks * len(file.truck.axles), trucks * file.truck.gross
+    length = trucks * file.truck.axles[-1][0] + (trucks - 1) * gap
+    for number, is_over in enumerate((axles > 32, length > 3000, gross > 2000000), 1):
+        if is_over:
+            raise Refused(5, f"convoy {number}")
+    together = closest(file.truck.axles, trucks, gap)
+    lines = [f"convoy {trucks} gap {gap} axles {axles} gross {gross}"]
+    for asked in file.probes:
+        span = asked.inches
+        effects = Effects(peak_moment(together, span)[0], peak_shear(together, span)[0])
+        lines += [
+            f"span {span}",
+            f"moment {ratio(effects.moment)}",
+            f"shear {ratio(effects.shear)}",
+            f"rating {asked.rating} {fit(effects, design(span), asked.rating)}",
+        ]
+    return "".join(f"{line}\n" for line in lines)

@@ -97,7 +97,7 @@ class Roads:
         for span, rating in zip(self.spans_of[segment], posted.ratings):
             inches = self.spans[span].inches
             effects, hs20 = truck.effects(inches), design(inches)
-            over = fit(effects, inches, rating)
+            over = fit(effects, design(inches), rating)
             if over != "fits":
                 of_truck, of_design = ratio(getattr(effects, over)), ratio(getattr(hs20, over))
                 return f"{here} span {span + 1} {over} {of_truck} hs20 {of_design} rating {rating}"

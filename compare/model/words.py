@@ -1,20 +1,22 @@
-"""What the words of the command line ask for, as the crate `clap` reads them: a command, and two options."""
+"""What the words of the command line ask for, as the crate `clap` reads them: a command, and four options."""
 import re
 from collections.abc import Sequence
 from dataclasses import dataclass
 
-COMMANDS = ("check", "day", "make", "trial")
-RANGES = {"--seed": (0, 65535), "--size": (1, 40)}
-USAGE = "usage: permit_cli check|day|make|trial [--seed N] [--size N]\n"
+COMMANDS = ("check", "day", "make", "trial", "design", "convoy")
+RANGES = {"--seed": (0, 65535), "--size": (1, 40), "--trucks": (2, 16), "--gap": (1, 3000)}
+USAGE = "usage: permit_cli check|day|make|trial|design|convoy [--seed N] [--size N] [--trucks N] [--gap N]\n"
 
 
 @dataclass(frozen=True)
 class Asked:
-    """What is asked for. Where an option is not given its number is 1."""
+    """What is asked for, with the numbers of options that are not given."""
 
     command: str
     seed: int = 1
     size: int = 1
+    trucks: int = 2
+    gap: int = 360
 
 
 def number(option: str, word: str | None) -> int | None:
@@ -28,7 +30,7 @@ def number(option: str, word: str | None) -> int | None:
 
 def asked(words: Sequence[str]) -> Asked | None:
     """What the words ask for; or None where they ask for nothing."""
-    waiting, commands, found = list(words), [], {}
+    waiting, commands, found = list(words), [], dict[str, int]()
     while waiting:
         word = waiting.pop(0)
         if word == "--":
@@ -48,4 +50,4 @@ def asked(words: Sequence[str]) -> Asked | None:
         found[option] = spelt
     if len(commands) != 1 or commands[0] not in COMMANDS:
         return None
-    return Asked(commands[0], found.get("--seed", 1), found.get("--size", 1))
+    return Asked(commands[0], **{option.removeprefix("--"): spelt for option, spelt in found.items()})

@@ -4,22 +4,23 @@ _permit_cli() {
     COMPREPLY=()
     for other in "${COMP_WORDS[@]:1:COMP_CWORD-1}"; do
         case $other in
-            check | day | make | trial) command=$other ;;
+            check | day | make | trial | design | convoy) command=$other ;;
         esac
     done
     case $before in
-        --seed | --size | *'<' | *'>') return ;;
+        --seed | --size | --trucks | --gap | *'<' | *'>') return ;;
     esac
     case $word in
         '<'* | '>'*) return ;;
         -*)
-            COMPREPLY=($(compgen -W '--seed --size' -- "$word"))
+            COMPREPLY=($(compgen -W '--seed --size --trucks --gap' -- "$word"))
             return
             ;;
     esac
     case $command in
-        '') COMPREPLY=($(compgen -W 'check day make trial' -- "$word")) ;;
+        '') COMPREPLY=($(compgen -W 'check day make trial design convoy' -- "$word")) ;;
         make | trial) COMPREPLY=($(compgen -W '--seed --size' -- "$word")) ;;
+        convoy) COMPREPLY=($(compgen -W '--trucks --gap' -- "$word")) ;;
     esac
 }
 # Where the function offers nothing, names of files are.

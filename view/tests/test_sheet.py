@@ -15,7 +15,8 @@ def sheet(data: bytes, *words: str) -> tuple[int, list[str]]:
 
 class Refusals(unittest.TestCase):
     def test_refuses_each_refused_example_by_its_own_line(self) -> None:
-        lines = sorted((EXAMPLES / "refused").glob("*/*.line"))
+        # a file that `convoy` refuses is a good check file
+        lines = sorted(line for word in ("check", "day") for line in (EXAMPLES / "refused" / word).glob("*.line"))
         tried = 0
         for line in lines:
             file = line.with_suffix(".csv")

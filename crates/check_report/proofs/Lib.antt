@@ -1,2 +1,2 @@
-pub mod Probes
+pub mod Texts
 pub mod OneReport

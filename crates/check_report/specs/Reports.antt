@@ -2,8 +2,6 @@
 use Rattle.std.specs.Prelude.{◌≡◌, ℕ, ◌+◌, nat_lt, if◌then◌else◌, List, [], ◌∷◌, ◌++◌, codes, length, sum_by}
 use Rattle.std.specs.List.{flat_map}
 use Rattle.std.specs.Fmt.{decimal, signed_decimal}
-use Rattle.std.specs.String.{string_bytes}
-use Rattle.std.specs.declared.string.String.{String}
 use Rattle.axle_train.specs.declared.axle.Axle.{Axle}
 use Rattle.axle_train.specs.Bounds.{IsTrain}
 use Rattle.axle_limits.specs.declared.finding.Finding.{Finding}
@@ -15,8 +13,6 @@ use Rattle.influence_line.specs.Fractions.{ratio_text}
 use Rattle.influence_line.specs.declared.placing.End.{End}
 use Rattle.influence_line.specs.declared.placing.End.TheVariants.{Left, Right}
 use Rattle.span_rating.specs.declared.loading.Effects.{Effects}
-use Rattle.span_rating.specs.declared.judgement.Fit.{Fit}
-use Rattle.span_rating.specs.declared.judgement.Fit.TheVariants.{Fits, Moment, Shear}
 use Rattle.span_rating.specs.Judgement.{fit_of}
 use Rattle.hs20_truck.specs.Effects.{design_of}
 use Rattle.moment_peak.specs.Laws.{IsMomentPeak}
@@ -28,10 +24,7 @@ use Rattle.day_text.specs.Spans.{AreSpans}
 use Rattle.trip_analysis.specs.declared.base.Truck.{Truck}
 use Rattle.day_text.specs.declared.check_file.CheckFile.{CheckFile}
 use Rattle.day_text.specs.declared.check_file.Probe.{Probe}
-
--- a text grew by this
-abbrev pub Grew : {Z : Type 0} → String Z → String Z → List ℕ → Type 0
-Grew old new more = string_bytes new ≡ string_bytes old ++ more
+use Rattle.check_report.specs.Probes.{AreTexts, rating_line, span_line}
 
 -- truck NAME axles N gross G
 abbrev pub truck_line : Truck → List ℕ
@@ -73,10 +66,6 @@ abbrev pub truck_text : Truck → List ℕ
 truck_text truck =
     truck_line truck ++ flat_map over_line (findings_of truck.load.train) ++ high_line truck.load ++ wide_line truck.load ++ legal_line truck.load
 
--- span INCHES
-abbrev pub span_line : Probe → List ℕ
-span_line probe = codes "span " ++ (decimal probe.inches ++ (10 ∷ []))
-
 -- moment FRACTION at Q LEAD SECTION axle K run F-L, with axles counted from 1
 abbrev pub moment_line : MomentPeak → List ℕ
 moment_line m =
@@ -93,15 +82,6 @@ shear_line s = codes "shear " ++ (ratio_text s.value ++ (codes " at " ++ (signed
 -- hs20 MOMENT SHEAR, the peaks of the HS20-44 truck
 abbrev pub design_line : Effects → List ℕ
 design_line design = codes "hs20 " ++ (ratio_text design.moment ++ (codes " " ++ (ratio_text design.shear ++ (10 ∷ []))))
-
-abbrev pub fit_name : Fit → List ℕ
-fit_name Fits = codes "fits"
-fit_name Moment = codes "moment"
-fit_name Shear = codes "shear"
-
--- rating R fits, or the first effect that is over the rating
-abbrev pub rating_line : ℕ → Fit → List ℕ
-rating_line rating fit = codes "rating " ++ (decimal rating ++ (codes " " ++ (fit_name fit ++ (10 ∷ []))))
 
 -- the first three lines on a probe: the span, and the truck's peaks
 abbrev pub peaks_text : Probe → MomentPeak → ShearPeak → List ℕ
@@ -122,24 +102,10 @@ abbrev pub IsProbeText : List Axle → Probe → List ℕ → Type 0
 IsProbeText axles probe text =
     (m : MomentPeak) × (s : ShearPeak) × IsMomentPeak axles probe.inches m × IsShearPeak axles probe.inches s × (text ≡ probe_text probe m s)
 
--- a text grew by what is written of a truck on one probe
-abbrev pub AddsProbe : List Axle → Probe → List ℕ → List ℕ → Type 0
-AddsProbe axles probe old new = (one : List ℕ) × IsProbeText axles probe one × (new ≡ old ++ one)
-
--- the same of all probes, one after another
-abbrev pub AreProbeTexts : List Axle → List Probe → List ℕ → Type 0
-AreProbeTexts axles [] text = text ≡ []
-AreProbeTexts axles (probe ∷ probes) text =
-    (one : List ℕ) × (rest : List ℕ) × IsProbeText axles probe one × AreProbeTexts axles probes rest × (text ≡ one ++ rest)
-
--- a text grew by what is written of a truck on some probes
-abbrev pub AddsProbes : List Axle → List Probe → List ℕ → List ℕ → Type 0
-AddsProbes axles probes old new = (more : List ℕ) × AreProbeTexts axles probes more × (new ≡ old ++ more)
-
 -- the report on a check file: what is written of its truck, and then of each probe
 abbrev pub IsReport : CheckFile → List ℕ → Type 0
 IsReport file text =
-    (probes : List ℕ) × AreProbeTexts file.truck.load.train file.probes probes × (text ≡ truck_text file.truck ++ probes)
+    (probes : List ℕ) × AreTexts (IsProbeText file.truck.load.train) file.probes probes × (text ≡ truck_text file.truck ++ probes)
 
 -- no other text is the report on this file
 abbrev pub IsOnlyReport : CheckFile → List ℕ → Type 0

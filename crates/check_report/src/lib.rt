@@ -4,9 +4,12 @@
 //! (Hibbeler, Structural Analysis), and the ratings are thousandths of the HS20-44 truck of the AASHTO Standard
 //! Specifications. The lines are this project's own.
 //!
-//! To the crate above it promises that the text is the report on the check file, and that a check file has one report.
+//! To the crates above it promises that the text is the report on the check file, and that a check file has one report. The
+//! other reports on probes have two lines from here, that of a span and that of a rating.
 #![tactic(auto)]
 
+mod probes;
 mod writing;
 
+pub use probes::{add_rating, add_span};
 pub use writing::{report, report_is_one};

@@ -5,8 +5,10 @@ ghost use Rattle.std.specs.List.{flat_map};
 ghost use Rattle.std.specs.String.{string_bytes};
 ghost use Rattle.span_rating.specs.Loading.{AreSmall};
 ghost use Rattle.day_text.specs.Spans.{AreSpans, IsSpan};
-ghost use Rattle.check_report.specs.Reports.{AddsProbe, AddsProbes, Grew, HasOneReport, IsOnlyReport, IsReport, ReportIsOne, design_line, end_name, fit_name, high_line, judgement_text, legal_line, moment_line, over_line, peaks_text, rating_line, rule_name, shear_line, truck_line, truck_text, wide_line};
+ghost use Rattle.check_report.specs.Probes.{AddsOne, AreTexts, Grew};
+ghost use Rattle.check_report.specs.Reports.{HasOneReport, IsOnlyReport, IsProbeText, IsReport, ReportIsOne, design_line, end_name, high_line, judgement_text, legal_line, moment_line, over_line, peaks_text, rule_name, shear_line, truck_line, truck_text, wide_line};
 
+use crate::probes::{add_rating, add_span};
 use axle_limits::{Finding, LEGAL_HEIGHT, LEGAL_WIDTH, Rule, findings};
 use axle_train::Train;
 use clearance_rules::Load;
@@ -16,7 +18,7 @@ use influence_line::{End, Place};
 use moment_peak::MomentPeak;
 use names::NoMemory;
 use shear_peak::ShearPeak;
-use span_rating::{Effects, Fit, fits};
+use span_rating::{Effects, fits};
 use std::alloc::{AllocError, Global};
 use trip_analysis::Truck;
 
@@ -150,7 +152,7 @@ fn add_legality(text: &mut String, load: &Load) -> Result<(), AllocError>
 // The truck on each probe.
 fn add_probes(text: &mut String, train: &Train, probes: &[Probe]) -> Result<(), AllocError>
     requires { AreSpans probes.now }
-    ensures { OnOk result (AddsProbes train.now probes.now (string_bytes text.old) (string_bytes text.new)) }
+    ensures { OnOk result (AddsOne (AreTexts (IsProbeText train.now) probes.now) (string_bytes text.old) (string_bytes text.new)) }
 {
     for probe in probes {
         add_probe(text, train, probe)?;
@@ -161,7 +163,7 @@ fn add_probes(text: &mut String, train: &Train, probes: &[Probe]) -> Result<(), 
 // The truck on one probe.
 fn add_probe(text: &mut String, train: &Train, probe: &Probe) -> Result<(), AllocError>
     requires { IsSpan probe.now }
-    ensures { OnOk result (AddsProbe train.now probe.now (string_bytes text.old) (string_bytes text.new)) }
+    ensures { OnOk result (AddsOne (IsProbeText train.now probe.now) (string_bytes text.old) (string_bytes text.new)) }
 {
     let moment = moment_peak::peak(train, probe.inches);
     let shear = shear_peak::peak(train, probe.inches);
@@ -182,8 +184,7 @@ fn add_peaks(
 ) -> Result<(), AllocError>
     ensures { OnOk result (Grew text.old text.new (peaks_text probe.now moment.now shear.now)) }
 {
-    let inches = probe.inches;
-    write!(text, "span {inches}\n")?;
+    add_span(text, probe)?;
     add_moment(text, moment)?;
     add_shear(text, shear)
 }
@@ -231,25 +232,6 @@ fn add_design(text: &mut String, design: &Effects) -> Result<(), AllocError>
     let moment = design.moment;
     let shear = design.shear;
     write!(text, "hs20 {moment} {shear}\n")
-}
-
-// A rating, and the judgement by it.
-fn add_rating(text: &mut String, rating: u32, fit: Fit) -> Result<(), AllocError>
-    ensures { OnOk result (Grew text.old text.new (rating_line rating fit)) }
-{
-    let name = fit_name(fit);
-    write!(text, "rating {rating} {name}\n")
-}
-
-// The name of a judgement.
-fn fit_name(fit: Fit) -> &'static str
-    ensures { result.now ≡ fit_name fit }
-{
-    match fit {
-        Fit::Fits => "fits",
-        Fit::Moment => "moment",
-        Fit::Shear => "shear",
-    }
 }
 
 // The name of an end.

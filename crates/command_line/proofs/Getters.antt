@@ -1,5 +1,5 @@
 -- What the getters of matches read, over the rows of the matches.
-use Rattle.std.proofs.Common.{◌≡◌, ◌∙◌, ◌^◌, ◌<◌, ◌≤◌, ℕ, List, [], ◌∷◌, map, Option, Some, None, Result, Ok, refl, sym, ap, subst, codes}
+use Rattle.std.proofs.Common.{◌≡◌, ◌∙◌, ◌^◌, ◌<◌, ℕ, List, [], ◌∷◌, map, Option, Some, None, Result, Ok, refl, sym, ap, subst, codes}
 use Rattle.std.specs.Prelude.{IsSomeAnd, find, option_and_then, option_map, slice_get}
 use Rattle.std.specs.Str.{bytes_eq}
 use Rattle.std.specs.Borrow.{Bor}
@@ -13,7 +13,8 @@ use Rattle.clap.specs.declared.parser.matches.Found.{Found}
 use Rattle.clap.specs.declared.builder.value_parser.Reading.{Reading}
 use Rattle.clap.proofs.CallerReads.{signed_reads}
 use Rattle.clap.proofs.WalkLemmas.{find_row}
-use Rattle.command_line.specs.Asking.{HasNumberIn, number_at, task_at, task_named}
+use Rattle.command_line.specs.Asking.{HasNumberIn, IsInRange, number_at, task_at, task_named}
+use Rattle.command_line.specs.Office.{NumberOption}
 
 first_text : (how : Reading) (vs : List (Bor (List ℕ))) → option_map (λ s. read_as how s.now) (slice_get vs 0) ≡ option_map (read_as how) (slice_get (map (λ s. s.now) vs) 0)
 first_text how [] = refl
@@ -43,15 +44,15 @@ pub task_of_text : (f : Found) (o : Option (Bor (List ℕ))) → option_map (λ 
 task_of_text f o h = ap (option_and_then task_named) (h ∙ first_value-rows f (codes "COMMAND"))
 
 -- the typed getter of a number in a range gives the number at the option, in that range
-pub number_read : (E : Type 0) (G : List ℕ → Result ℕ E → Type 0) (m : ArgMatches) (name : List ℕ) (low high : ℕ) (r : Option ℕ)
-    → ((u : List ℕ) (x : Result ℕ E) → G u x → ParsesUnsigned 32 10 u x) → high < 2 ^ 32
-    → ((t : List ℕ) → one_text (found_of m) name ≡ Some t → ReadsOne G t r) → HasNumberIn name low high m
-    → (r ≡ number_at name (rows_of (found_of m))) × IsSomeAnd r (λ n. (low ≤ n) × (n ≤ high))
-number_read E G m name low high r parses fits value told =
+pub number_read : (E : Type 0) (G : List ℕ → Result ℕ E → Type 0) (m : ArgMatches) (option : NumberOption) (r : Option ℕ)
+    → ((u : List ℕ) (x : Result ℕ E) → G u x → ParsesUnsigned 32 10 u x) → option.most < 2 ^ 32
+    → ((t : List ℕ) → one_text (found_of m) option.name ≡ Some t → ReadsOne G t r) → HasNumberIn option m
+    → (r ≡ number_at option (rows_of (found_of m))) × IsSomeAnd r (IsInRange option)
+number_read E G m option r parses fits value told =
     let t = without_minus told.0 in
     let here = value t told.1 in
-    let got = signed_reads E G 32 low high told.0 r here parses fits told.2 in
+    let got = signed_reads E G 32 option.least option.most told.0 r here parses fits told.2 in
     let read = parses t (Ok got.0) (subst (λ (x : Option ℕ). ReadsOne G t x) got.1 here) in
-    let same : number_at name (rows_of (found_of m)) ≡ Some (digits_value 10 (without_leading_plus t)) =
-    ap (option_map (λ text. digits_value 10 (without_leading_plus text))) (sym (one_text-rows (found_of m) name) ∙ told.1) in
-    (got.1 ∙ ap Some read.1 ∙ sym same, subst (λ (x : Option ℕ). IsSomeAnd x (λ n. (low ≤ n) × (n ≤ high))) (sym got.1) (got.2, got.3))
+    let same : number_at option (rows_of (found_of m)) ≡ Some (digits_value 10 (without_leading_plus t)) =
+    ap (option_map (λ text. digits_value 10 (without_leading_plus text))) (sym (one_text-rows (found_of m) option.name) ∙ told.1) in
+    (got.1 ∙ ap Some read.1 ∙ sym same, subst (λ (x : Option ℕ). IsSomeAnd x (IsInRange option)) (sym got.1) (got.2, got.3))

@@ -1,4 +1,4 @@
 pub mod Getters
 pub mod Refusals
 pub mod Values
-pub mod Options
+pub mod Numbers

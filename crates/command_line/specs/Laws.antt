@@ -1,19 +1,27 @@
 -- What short command lines ask for.
 use Rattle.std.specs.Prelude.{◌≡◌, ℕ, List, [], ◌∷◌, codes, Some, None}
 use Rattle.command_line.specs.declared.asked.Asked.{Asked}
+use Rattle.command_line.specs.declared.asked.Options.{Options}
 use Rattle.command_line.specs.declared.asked.Task.{Task}
-use Rattle.command_line.specs.declared.asked.Task.TheVariants.{Check, Day, Make, Trial}
+use Rattle.command_line.specs.declared.asked.Task.TheVariants.{Check, Day, Make, Trial, Design, Convoy}
 use Rattle.command_line.specs.Asking.{AreAccepted, asked_of}
 
--- the word alone asks for the task, with seed 1 and size 1
-abbrev pub AsksForTask : List ℕ → Task → Type 0
-AsksForTask word task = asked_of (word ∷ []) ≡ Some (record { task = task; seed = 1; size = 1 })
+-- the numbers of options that are not given
+abbrev pub default_options : Options
+default_options = record { seed = 1; size = 1; trucks = 2; gap = 360 }
 
--- each of the four words asks for its task
-abbrev pub FourWordsAsk : Type 0
-FourWordsAsk =
-    AsksForTask (codes "check") Check × AsksForTask (codes "day") Day × AsksForTask (codes "make") Make
-    × AsksForTask (codes "trial") Trial
+-- the word alone asks for the task, with these numbers
+abbrev pub AsksForTask : List ℕ → Task → Type 0
+AsksForTask word task = asked_of (word ∷ []) ≡ Some (record { task = task; options = default_options })
+
+-- each of the six words asks for its task
+pub record EachWordAsks : Type 0 where
+  pub check : AsksForTask (codes "check") Check
+  pub day : AsksForTask (codes "day") Day
+  pub make : AsksForTask (codes "make") Make
+  pub trial : AsksForTask (codes "trial") Trial
+  pub design : AsksForTask (codes "design") Design
+  pub convoy : AsksForTask (codes "convoy") Convoy
 
 -- no words ask for nothing, and so does a call for help
 abbrev pub NoWordsAndHelpAskForNothing : Type 0

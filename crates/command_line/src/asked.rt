@@ -13,16 +13,30 @@ pub enum Task {
     Make,
     /// A day file is made and run, and summed up.
     Trial,
+    /// One truck is rated against three design loads.
+    Design,
+    /// Trucks that follow each other are rated.
+    Convoy,
+}
+
+/// The numbers of the options. All are read with every task.
+#[derive(Clone, Copy, Debug, PartialEq, Eq)]
+pub struct Options {
+    /// Where a made day file begins: 0 to 65,535.
+    pub seed: u32,
+    /// How large a made day file is: 1 to 40.
+    pub size: u32,
+    /// How many trucks follow each other: 2 to 16.
+    pub trucks: u32,
+    /// The least number of inches between two of them: 1 to 3,000.
+    pub gap: u32,
 }
 
 /// A task, with the numbers of the options.
 #[derive(Clone, Copy, Debug, PartialEq, Eq)]
 pub struct Asked {
     pub task: Task,
-    /// Where a made day file begins: 0 to 65,535.
-    pub seed: u32,
-    /// How large a made day file is: 1 to 40.
-    pub size: u32,
+    pub options: Options,
 }
 
 /// Why words ask for nothing.

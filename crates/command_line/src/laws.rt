@@ -1,10 +1,10 @@
 // What short command lines ask for.
 
-ghost use Rattle.command_line.specs.Laws.{FourWordsAsk, NoWordsAndHelpAskForNothing, WhatAsksIsAccepted};
+ghost use Rattle.command_line.specs.Laws.{EachWordAsks, NoWordsAndHelpAskForNothing, WhatAsksIsAccepted};
 
-/// Each of the words `check`, `day`, `make` and `trial` alone asks for its task, with seed 1 and size 1.
-pub fn four_words_ask_for_their_tasks()
-    ensures { FourWordsAsk }
+/// Each word of a task alone asks for it, with seed 1, size 1, two trucks and a gap of 360 inches.
+pub fn each_word_asks_for_its_task()
+    ensures { EachWordAsks }
 {}
 
 /// No words ask for nothing, and so does `--help` alone.
@@ -12,7 +12,7 @@ pub fn no_words_and_help_ask_for_nothing()
     ensures { NoWordsAndHelpAskForNothing }
 {}
 
-/// Words that ask for something are taken by the command line, and COMMAND is one of the four.
+/// Words that ask for something are taken by the command line, and COMMAND is the word of a task.
 pub fn what_asks_is_accepted()
     ensures { WhatAsksIsAccepted }
 {}

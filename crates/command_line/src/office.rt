@@ -1,8 +1,8 @@
 // The command of `clap` that reads the words.
 
-ghost use Rattle.std.specs.Prelude.{◌≡◌, false, codes, IfOk};
+ghost use Rattle.std.specs.Prelude.{◌≡◌, false, IfOk};
 ghost use Rattle.clap.specs.Words.{app_of, rule_of};
-ghost use Rattle.command_line.specs.Office.{number_rule, office, word_rule};
+ghost use Rattle.command_line.specs.Office.{gap_option, made_office, number_rule, office, seed_option, size_option, trucks_option, word_rule};
 
 use clap::{Arg, ArgAction, Command};
 use std::alloc::{AllocError, Global};
@@ -19,7 +19,7 @@ fn word_argument<'a>(alloc: Global) -> Arg<'a>
 
 // The option --seed.
 fn seed_option<'a>(alloc: Global) -> Arg<'a>
-    ensures rule { rule_of result ≡ number_rule (codes "seed") 0 65535 }
+    ensures rule { rule_of result ≡ number_rule seed_option }
     ensures local { result.global ≡ false }
 {
     Arg::new(alloc, "seed")
@@ -31,7 +31,7 @@ fn seed_option<'a>(alloc: Global) -> Arg<'a>
 
 // The option --size.
 fn size_option<'a>(alloc: Global) -> Arg<'a>
-    ensures rule { rule_of result ≡ number_rule (codes "size") 1 40 }
+    ensures rule { rule_of result ≡ number_rule size_option }
     ensures local { result.global ≡ false }
 {
     Arg::new(alloc, "size")
@@ -41,9 +41,42 @@ fn size_option<'a>(alloc: Global) -> Arg<'a>
         .value_parser(clap::value_parser!(u32).range(1..=40))
 }
 
+// The option --trucks.
+fn trucks_option<'a>(alloc: Global) -> Arg<'a>
+    ensures rule { rule_of result ≡ number_rule trucks_option }
+    ensures local { result.global ≡ false }
+{
+    Arg::new(alloc, "trucks")
+        .long("trucks")
+        .action(ArgAction::Set)
+        .default_value("2")
+        .value_parser(clap::value_parser!(u32).range(2..=16))
+}
+
+// The option --gap.
+fn gap_option<'a>(alloc: Global) -> Arg<'a>
+    ensures rule { rule_of result ≡ number_rule gap_option }
+    ensures local { result.global ≡ false }
+{
+    Arg::new(alloc, "gap")
+        .long("gap")
+        .action(ArgAction::Set)
+        .default_value("360")
+        .value_parser(clap::value_parser!(u32).range(1..=3000))
+}
+
 /// The office's command line.
 pub(crate) fn office<'a>(alloc: Global) -> Result<Command<'a>, AllocError>
     ensures { IfOk result (λ c. app_of c ≡ office) }
+{
+    let trucks = trucks_option(alloc);
+    let gap = gap_option(alloc);
+    made_office(alloc)?.arg(trucks)?.arg(gap)
+}
+
+// The command line with the options of made day files alone.
+fn made_office<'a>(alloc: Global) -> Result<Command<'a>, AllocError>
+    ensures { IfOk result (λ c. app_of c ≡ made_office) }
 {
     let word = word_argument(alloc);
     let seed = seed_option(alloc);

@@ -1,13 +1,13 @@
 // Reading the words of a command line.
 
-ghost use Rattle.std.specs.Prelude.{◌≡◌, ◌≢◌, ◌≤◌, IfErr, IfOk, IfSome, IsSomeAnd, None, Some, codes, map};
+ghost use Rattle.std.specs.Prelude.{◌≡◌, ◌≢◌, IfErr, IfOk, IfSome, IsSomeAnd, None, Some, map};
 ghost use Rattle.std.specs.String.{string_bytes};
 ghost use Rattle.clap.specs.Words.{FailsBy, fault_of, found_of, kind_of, matches_of, rows_of};
-ghost use Rattle.command_line.specs.Office.{office};
-ghost use Rattle.command_line.specs.Asking.{AreAccepted, HasNumberIn, asked_in, asked_of, number_at, task_at, task_named};
+ghost use Rattle.command_line.specs.Office.{gap_option, office, seed_option, size_option, trucks_option};
+ghost use Rattle.command_line.specs.Asking.{AreAccepted, AreInRange, HasNumberIn, HasNumbers, IsInRange, asked_in, asked_of, number_at, options_in, task_at, task_named};
 ghost use Rattle.command_line.specs.declared.asked.WordsRefusal.TheVariants.{Usage};
 
-use crate::asked::{Asked, Task, WordsRefusal};
+use crate::asked::{Asked, Options, Task, WordsRefusal};
 use crate::office::office;
 use clap::error::ErrorKind;
 use clap::{ArgMatches, Error};
@@ -18,8 +18,7 @@ use std::alloc::Global;
 #[tactic(auto, unfolding(crate::specs::Asking::asked_of, crate::specs::Asking::AreAccepted))]
 pub fn read_words(alloc: Global, words: &[String]) -> Result<Asked, WordsRefusal>
     ensures asked { IfOk result (λ asked. asked_of (map string_bytes words.now) ≡ Some asked) }
-    ensures seed { IfOk result (λ asked. asked.seed ≤ 65535) }
-    ensures size { IfOk result (λ asked. (1 ≤ asked.size) × (asked.size ≤ 40)) }
+    ensures range { IfOk result (λ asked. AreInRange asked.options) }
     ensures usage { IfErr result (λ r. r ≡ Usage → asked_of (map string_bytes words.now) ≡ None) }
     ensures refused { IfErr result (λ r. r ≡ Usage → AreAccepted (map string_bytes words.now) → ⊥) }
 {
@@ -34,8 +33,7 @@ fn match_words<'a>(alloc: Global, words: &'a [String]) -> Result<ArgMatches<'a>,
     ensures fails { FailsBy (fault_of office (map string_bytes words.entry.now)) result }
     ensures rows { IfOk result (λ m.
         rows_of (found_of m) ≡ matches_of office (map string_bytes words.entry.now)) }
-    ensures seed { IfOk result (HasNumberIn (codes "seed") 0 65535) }
-    ensures size { IfOk result (HasNumberIn (codes "size") 1 40) }
+    ensures numbers { IfOk result HasNumbers }
 {
     let office = office(alloc)?;
     office.try_get_matches_from(words)
@@ -53,17 +51,14 @@ fn refusal_of(error: &Error) -> WordsRefusal
 
 // What the matches ask for.
 fn read_matches(matches: &ArgMatches<'_>) -> Option<Asked>
-    requires seed_in { HasNumberIn (codes "seed") 0 65535 matches.now }
-    requires size_in { HasNumberIn (codes "size") 1 40 matches.now }
+    requires { HasNumbers matches.now }
     ensures value { result ≡ asked_in (rows_of (found_of matches.now)) }
     ensures none { result ≡ None → task_at (rows_of (found_of matches.now)) ≡ None }
-    ensures seed { IfSome result (λ asked. asked.seed ≤ 65535) }
-    ensures size { IfSome result (λ asked. (1 ≤ asked.size) × (asked.size ≤ 40)) }
+    ensures range { IfSome result (λ asked. AreInRange asked.options) }
 {
     Some(Asked {
         task: task_at(matches)?,
-        seed: seed_at(matches)?,
-        size: size_at(matches)?,
+        options: options_at(matches)?,
     })
 }
 
@@ -83,24 +78,58 @@ fn task_named(word: &str) -> Option<Task>
         "day" => Some(Task::Day),
         "make" => Some(Task::Make),
         "trial" => Some(Task::Trial),
+        "design" => Some(Task::Design),
+        "convoy" => Some(Task::Convoy),
         _ => None,
     }
 }
 
+// The numbers at all options.
+fn options_at(matches: &ArgMatches<'_>) -> Option<Options>
+    requires { HasNumbers matches.now }
+    ensures value { result ≡ options_in (rows_of (found_of matches.now)) }
+    ensures range { IsSomeAnd result AreInRange }
+{
+    Some(Options {
+        seed: seed_at(matches)?,
+        size: size_at(matches)?,
+        trucks: trucks_at(matches)?,
+        gap: gap_at(matches)?,
+    })
+}
+
 // The number at --seed.
 fn seed_at(matches: &ArgMatches<'_>) -> Option<u32>
-    requires { HasNumberIn (codes "seed") 0 65535 matches.now }
-    ensures value { result ≡ number_at (codes "seed") (rows_of (found_of matches.now)) }
-    ensures range { IsSomeAnd result (λ n. n ≤ 65535) }
+    requires { HasNumberIn seed_option matches.now }
+    ensures value { result ≡ number_at seed_option (rows_of (found_of matches.now)) }
+    ensures range { IsSomeAnd result (IsInRange seed_option) }
 {
     matches.get_one("seed")
 }
 
 // The number at --size.
 fn size_at(matches: &ArgMatches<'_>) -> Option<u32>
-    requires { HasNumberIn (codes "size") 1 40 matches.now }
-    ensures value { result ≡ number_at (codes "size") (rows_of (found_of matches.now)) }
-    ensures range { IsSomeAnd result (λ n. (1 ≤ n) × (n ≤ 40)) }
+    requires { HasNumberIn size_option matches.now }
+    ensures value { result ≡ number_at size_option (rows_of (found_of matches.now)) }
+    ensures range { IsSomeAnd result (IsInRange size_option) }
 {
     matches.get_one("size")
+}
+
+// The number at --trucks.
+fn trucks_at(matches: &ArgMatches<'_>) -> Option<u32>
+    requires { HasNumberIn trucks_option matches.now }
+    ensures value { result ≡ number_at trucks_option (rows_of (found_of matches.now)) }
+    ensures range { IsSomeAnd result (IsInRange trucks_option) }
+{
+    matches.get_one("trucks")
+}
+
+// The number at --gap.
+fn gap_at(matches: &ArgMatches<'_>) -> Option<u32>
+    requires { HasNumberIn gap_option matches.now }
+    ensures value { result ≡ number_at gap_option (rows_of (found_of matches.now)) }
+    ensures range { IsSomeAnd result (IsInRange gap_option) }
+{
+    matches.get_one("gap")
 }

@@ -1,5 +1,5 @@
 -- The trucks of a convoy that fit together are a train, with exactly the gap between two of them.
-use Rattle.std.proofs.Common.{◌≡◌, ℕ, zero, suc, ◌+◌, ◌-◌, ◌*◌, ◌<◌, ◌≤◌, List, [], ◌∷◌, ◌++◌, length, flat_map, take, arith, refl, ap, sym, ◌∙◌, length-append, append-nil, append_assoc}
+use Rattle.std.proofs.Common.{◌≡◌, ℕ, zero, suc, ◌+◌, ◌-◌, ◌*◌, ◌<◌, ◌≤◌, List, [], ◌∷◌, ◌++◌, length, flat_map, sum_by, take, arith, refl, ap, sym, ◌∙◌, length-append, append-nil, append_assoc}
 use Rattle.std.proofs.Math.Nat.{mul-le-mul_right}
 use Rattle.std.specs.List.{AllByRecursion, range_with_len}
 use Rattle.axle_train.specs.declared.axle.Axle.{Axle}
@@ -8,7 +8,7 @@ use Rattle.axle_train.specs.Trains.{axle_at}
 use Rattle.axle_train.proofs.Places.{place_ordered}
 use Rattle.influence_line.proofs.Totals.{total, total_is, total-append}
 use Rattle.convoy_moves.specs.Convoys.{EqualTrucks, closest_axles, convoy_of, last_place, moved_back, truck_spacing}
-use Rattle.convoy_moves.specs.Refusals.{FitsTogether}
+use Rattle.convoy_moves.specs.Refusals.{FitsTogether, axles_together, gross_together}
 
 -- what holds of each axle by its index holds of all
 all_from : (P : Axle → Type 0) (axles : List Axle) → ((i : ℕ) → i < length axles → P (axle_at axles i)) → AllByRecursion P axles
@@ -145,6 +145,16 @@ is_train c train several apart fits =
       each = fits-trucks step last c.axles 0 c.trucks within train.each within_length;
       gross = omega (arith, weight, total_is weight_of (closest_axles c), light);
     }
+
+-- how many axles the closest convoy has, and what it weighs
+pub axles_of_all : (c : EqualTrucks) → length (closest_axles c) ≡ axles_together c.axles c.trucks
+axles_of_all c = length-trucks (truck_spacing c) c.axles 0 c.trucks
+
+pub gross_of_all : (c : EqualTrucks) → sum_by (λ a. a.weight) (closest_axles c) ≡ gross_together c.axles c.trucks
+gross_of_all c =
+    let all = weight-trucks (truck_spacing c) c.axles 0 c.trucks in
+    let one : c.trucks * total weight_of c.axles ≡ gross_together c.axles c.trucks = ap (λ n. c.trucks * n) (total_is weight_of c.axles) in
+    sym (total_is weight_of (closest_axles c)) ∙ all ∙ one
 
 -- one truck more
 trucks_more : (step : ℕ) (axles : List Axle) (k n j : ℕ) → k + n ≡ j

@@ -1,5 +1,5 @@
 -- The limits of a convoy, and what each refusal says. The limits are those of a train, since the closest convoy is to be one.
-use Rattle.std.specs.Prelude.{ℕ, ◌+◌, ◌-◌, ◌*◌, ◌<◌, ◌≤◌, List, length, sum_by}
+use Rattle.std.specs.Prelude.{ℕ, ◌+◌, ◌-◌, ◌*◌, ◌<◌, ◌≤◌, nat_lt, if◌then◌else◌, List, length, sum_by, Option, Some, None}
 use Rattle.axle_train.specs.declared.axle.Axle.{Axle}
 use Rattle.convoy_moves.specs.Convoys.{EqualTrucks, last_place}
 use Rattle.convoy_moves.specs.declared.refusal.ConvoyRefusal.{ConvoyRefusal}
@@ -36,6 +36,13 @@ abbrev pub IsTooHeavy : EqualTrucks → Type 0
 IsTooHeavy c =
     (axles_together c.axles c.trucks ≤ 32) × (closest_length c.axles c.trucks c.gap ≤ 3000)
     × (2000000 < gross_together c.axles c.trucks)
+
+-- the first limit that is passed, if one is
+abbrev pub first_refusal : EqualTrucks → Option ConvoyRefusal
+first_refusal c =
+    if nat_lt 32 (axles_together c.axles c.trucks) then Some TooManyAxles
+    else (if nat_lt 3000 (closest_length c.axles c.trucks c.gap) then Some TooLong
+    else (if nat_lt 2000000 (gross_together c.axles c.trucks) then Some Gross else None))
 
 -- the number of a refusal, by the order of the limits
 abbrev pub refusal_number : ConvoyRefusal → ℕ

@@ -1,12 +1,12 @@
 // A convoy, and what it does to a span.
 
-ghost use Rattle.std.specs.Prelude.{◌≡◌, ◌≤◌, ◌↔◌, IfOk, IsErrOf, IsOk};
+ghost use Rattle.std.specs.Prelude.{◌≡◌, ◌≤◌, ◌↔◌, IfErr, IfOk, IsErrOf, IsOk, None, Some};
 ghost use Rattle.influence_line.specs.Fractions.{IsSmall};
 ghost use Rattle.influence_line.specs.Peaks.{IsPeakMoment, IsPeakShear};
 ghost use Rattle.moment_peak.specs.PeakMoment.{peak_moment_of};
 ghost use Rattle.shear_peak.specs.PeakShear.{peak_shear_of};
 ghost use Rattle.convoy_moves.specs.Convoys.{IsConvoyPlaced, StandsAsConvoy, closest_axles, convoy_of};
-ghost use Rattle.convoy_moves.specs.Refusals.{FitsTogether, HasTooManyAxles, IsTooHeavy, IsTooLong};
+ghost use Rattle.convoy_moves.specs.Refusals.{FitsTogether, HasTooManyAxles, IsTooHeavy, IsTooLong, axles_together, first_refusal, gross_together};
 
 use crate::closed_up::closed_up;
 use crate::refusal::{ConvoyRefusal, are_too_heavy, are_too_long, have_too_many_axles};
@@ -18,7 +18,7 @@ use std::marker::Model;
 /// of that one to its own first axle. Contracts see the axles of one truck, the number of trucks and the gap.
 #[derive(Drop)]
 pub struct Convoy {
-    // contracts speak of these three, and the code reads the closest convoy alone
+    // contracts speak of these three, and peaks are read from the closest convoy alone
     truck: Train,
     trucks: u32,
     gap: u32,
@@ -49,6 +49,8 @@ impl Convoy {
         ensures too_many_axles { IsErrOf result ConvoyRefusal.TooManyAxles ↔ HasTooManyAxles (convoy_of train.now trucks gap) }
         ensures too_long { IsErrOf result ConvoyRefusal.TooLong ↔ IsTooLong (convoy_of train.now trucks gap) }
         ensures gross { IsErrOf result ConvoyRefusal.Gross ↔ IsTooHeavy (convoy_of train.now trucks gap) }
+        ensures unrefused { IfOk result (λ convoy. first_refusal (convoy_of train.now trucks gap) ≡ None) }
+        ensures first { IfErr result (λ refusal. first_refusal (convoy_of train.now trucks gap) ≡ Some refusal) }
     {
         if have_too_many_axles(train, trucks) {
             return Err(ConvoyRefusal::TooManyAxles);
@@ -65,6 +67,34 @@ impl Convoy {
             gap,
             closest: closed_up(train, trucks, gap),
         })
+    }
+
+    /// How many trucks there are.
+    pub fn trucks(&self) -> u32
+        ensures { result ≡ self.now.trucks }
+    {
+        self.trucks
+    }
+
+    /// The least number of inches between two trucks.
+    pub fn gap(&self) -> u32
+        ensures { result ≡ self.now.gap }
+    {
+        self.gap
+    }
+
+    /// How many axles all trucks have together.
+    pub fn axles(&self) -> usize
+        ensures { result ≡ axles_together self.now.axles self.now.trucks }
+    {
+        self.closest.len()
+    }
+
+    /// How many pounds all trucks weigh together.
+    pub fn gross(&self) -> u32
+        ensures { result ≡ gross_together self.now.axles self.now.trucks }
+    {
+        self.closest.gross()
     }
 
     /// The closest convoy as one train: all trucks, with exactly that gap between two of them. Takes no memory.

@@ -11,16 +11,22 @@ use Rattle.notice_desk.specs.Deliveries.{RoseAt, StoppedAt}
 use Rattle.notice_desk.specs.Lines.{WroteUntilAt}
 use Rattle.notice_desk.specs.declared.notice.Recall.{Recall}
 use Rattle.command_line.specs.declared.asked.Asked.{Asked}
+use Rattle.command_line.specs.declared.asked.Options.{Options}
 use Rattle.command_line.specs.declared.asked.Task.{Task}
 use Rattle.command_line.specs.declared.asked.Task.TheVariants as task
+use Rattle.convoy_moves.specs.Convoys.{convoy_of}
+use Rattle.convoy_moves.specs.Refusals.{first_refusal}
+use Rattle.convoy_moves.specs.declared.refusal.ConvoyRefusal.{ConvoyRefusal}
+use Rattle.day_text.specs.declared.check_file.CheckFile.{CheckFile}
 use Rattle.day_text.specs.Checks.{check_of}
 use Rattle.day_text.specs.Days.{day_of}
 use Rattle.record_text.specs.declared.refusal.Cause.{Cause}
 use Rattle.record_text.specs.declared.refusal.Cause.TheVariants as why
-use Rattle.std.specs.Prelude.{Result, Ok, Err}
+use Rattle.std.specs.Prelude.{Result, Ok, Err, option_map}
 use Rattle.std.specs.String.{string_bytes}
 use Rattle.permit_program.specs.Command.{Answer, Command, IsRefusalOf, Makes, refusal_in}
 use Rattle.permit_program.specs.Commands.{command_by, command_of}
+use Rattle.permit_program.specs.Convoy.{answer_to_convoy, convoy_refusal}
 use Rattle.permit_program.specs.Endings.{AnswersRefusal, AnswersText, AnswersUnread, WasUnread}
 use Rattle.permit_program.specs.Runs.{AsksForDay, IsPlain, IsRun, IsSettled, IsStatusOr, Outside, SinkFailed, SourceAt, Told, Took, WroteLine, bytes_for, bytes_line, most_bytes, status_by, status_for}
 use Rattle.permit_program.specs.declared.refusal.Refusal.{Refusal}
@@ -54,11 +60,22 @@ file_status (Ok file) answer is = absurd cc
 file_status (Err (row, why.Bad cause)) answer is = inl (sym (ap status_by is))
 file_status (Err (row, why.TooMany kind)) answer is = inr (sym (ap status_by is))
 
-pub refusal_status : (t : Task) (seed size : ℕ) (bytes : List ℕ) (answer : Answer) → (command_by t seed size).refusal bytes ≡ Some answer → (answer.status ≡ 5) ⊎ (answer.status ≡ 6)
-refusal_status task.Check seed size bytes answer is = file_status (check_of bytes) answer is
-refusal_status task.Day seed size bytes answer is = file_status (day_of bytes) answer is
-refusal_status task.Make seed size bytes answer is = absurd cc
-refusal_status task.Trial seed size bytes answer is = absurd cc
+limit_status : (refused : Option ConvoyRefusal) (answer : Answer) → option_map answer_to_convoy refused ≡ Some answer → answer.status ≡ 5
+limit_status None answer is = absurd cc
+limit_status (Some refusal) answer is = sym (ap status_by is)
+
+convoy_status : (trucks gap : ℕ) (told : Result CheckFile (ℕ × Cause)) (answer : Answer)
+    → convoy_refusal trucks gap told ≡ Some answer → (answer.status ≡ 5) ⊎ (answer.status ≡ 6)
+convoy_status trucks gap (Ok file) answer is = inl (limit_status (first_refusal (convoy_of file.truck.load.train trucks gap)) answer is)
+convoy_status trucks gap (Err refused) answer is = file_status {T = CheckFile} (Err refused) answer is
+
+pub refusal_status : (t : Task) (options : Options) (bytes : List ℕ) (answer : Answer) → (command_by t options).refusal bytes ≡ Some answer → (answer.status ≡ 5) ⊎ (answer.status ≡ 6)
+refusal_status task.Check options bytes answer is = file_status (check_of bytes) answer is
+refusal_status task.Day options bytes answer is = file_status (day_of bytes) answer is
+refusal_status task.Make options bytes answer is = absurd cc
+refusal_status task.Trial options bytes answer is = absurd cc
+refusal_status task.Design options bytes answer is = file_status (check_of bytes) answer is
+refusal_status task.Convoy options bytes answer is = convoy_status options.trucks options.gap (check_of bytes) answer is
 
 -- neither is plain
 is_another : (n k : ℕ) → (k < 5) ⊎ (6 < k) → (n ≡ 5) ⊎ (n ≡ 6) → n ≡ k → ⊥
@@ -76,11 +93,13 @@ is_refusals n is (inr (inr (inr (inr (inl e))))) = is_another n 7 (inr (omega ar
 is_refusals n is (inr (inr (inr (inr (inr e))))) = is_another n 8 (inr (omega arith)) is e
 
 -- a command that is no day's tells nobody
-pub tells_nobody : (t : Task) (seed size : ℕ) → (t ≡ task.Day → ⊥) → (bytes text : List ℕ) (output : (command_by t seed size).IsOutput bytes text) → (command_by t seed size).recalls bytes text output ≡ None
-tells_nobody task.Check seed size other bytes text output = refl
-tells_nobody task.Day seed size other bytes text output = absurd (other refl)
-tells_nobody task.Make seed size other bytes text output = refl
-tells_nobody task.Trial seed size other bytes text output = refl
+pub tells_nobody : (t : Task) (options : Options) → (t ≡ task.Day → ⊥) → (bytes text : List ℕ) (output : (command_by t options).IsOutput bytes text) → (command_by t options).recalls bytes text output ≡ None
+tells_nobody task.Check options other bytes text output = refl
+tells_nobody task.Day options other bytes text output = absurd (other refl)
+tells_nobody task.Make options other bytes text output = refl
+tells_nobody task.Trial options other bytes text output = refl
+tells_nobody task.Design options other bytes text output = refl
+tells_nobody task.Convoy options other bytes text output = refl
 
 -- a run of a day is one of whatever asks for a day
 pub of_day : {S K : Type 0} (asked : Option Asked) (before after : Outside S K) (status : ℕ) → AsksForDay asked → ((a : Asked) → a.task ≡ task.Day → IsRun (Some a) before after status) → IsRun asked before after status
@@ -197,7 +216,7 @@ module _ {S K : Type 0} (a : Asked) (before after : Outside S K) (most : TookAtM
 
     told_why : (answer : Answer) → c.refusal bytes ≡ Some answer → WroteLine answer.line before.sink after.sink → after.desk ≡ before.desk → IsRun (Some a) before after answer.status
     told_why answer refused told desk =
-        let named : IsPlain answer.status → ⊥ = is_refusals answer.status (refusal_status a.task a.seed a.size bytes answer refused) in record {
+        let named : IsPlain answer.status → ⊥ = is_refusals answer.status (refusal_status a.task a.options bytes answer refused) in record {
           done = λ is. absurd (named (inl is));
           usage = λ is. absurd (named (inr (inl is)));
           unasked = λ none. absurd cc;

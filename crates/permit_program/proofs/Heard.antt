@@ -44,4 +44,4 @@ heard text before after listener done =
 pub heard_all : {S K : Type 0} → ListenersHearAll S K
 heard_all text None before after is listener run = absurd is
 heard_all text (Some a) before after is listener run =
-    heard text before after listener (subst (λ (t : Task). WroteAll (command_by t a.seed a.size) before after) is (run.done refl))
+    heard text before after listener (subst (λ (t : Task). WroteAll (command_by t a.options) before after) is (run.done refl))

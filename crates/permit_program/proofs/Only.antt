@@ -1,5 +1,6 @@
 -- What a command makes of bytes keeps its promise, and is the only text that does.
-use Rattle.std.proofs.Common.{◌≡◌, ℕ, List, Some, Result, Ok, Err, IfOk, Vec, refl, ap, sym, ◌∙◌, subst}
+use Rattle.std.proofs.Common.{◌≡◌, ℕ, List, Some, None, Result, Ok, Err, IfOk, Vec, refl, ap, sym, ◌∙◌, subst}
+use Rattle.std.specs.Prelude.{option_map}
 use Rattle.std.specs.Global.{Global}
 use Rattle.names.specs.declared.refusal.NoMemory.{NoMemory}
 use Rattle.day_text.specs.Refusals.{IsRefusedAs}
@@ -10,6 +11,11 @@ use Rattle.day_text.specs.declared.check_file.CheckFile.{CheckFile}
 use Rattle.day_text.specs.Checks.{check_of}
 use Rattle.day_text.specs.Days.{DayParts, day_of}
 use Rattle.check_report.specs.Reports.{IsOnlyReport, IsReport}
+use Rattle.convoy_moves.specs.Convoys.{EqualTrucks, convoy_of}
+use Rattle.convoy_moves.specs.Refusals.{first_refusal}
+use Rattle.convoy_moves.specs.declared.refusal.ConvoyRefusal.{ConvoyRefusal}
+use Rattle.loading_report.specs.Convoys.{IsConvoyReport, IsOnlyConvoyReport}
+use Rattle.loading_report.specs.Designs.{IsDesignReport, IsOnlyDesignReport}
 use Rattle.journal_text.specs.Journals.{journal_of}
 use Rattle.office_words.specs.declared.entry.Entry.{Entry}
 use Rattle.day_run.specs.Served.{IsServed, LoneActorsAreOne}
@@ -21,8 +27,10 @@ use Rattle.day_trial.specs.Summaries.{summary_of}
 use Rattle.record_text.specs.declared.refusal.Cause.{Cause}
 use Rattle.permit_program.specs.Headline.{Headline}
 use Rattle.permit_program.specs.Check.{check}
-use Rattle.permit_program.specs.Command.{Command, IsAnswerTo, IsRefusalOf, Makes, MakesAndTells, refusal_in}
+use Rattle.permit_program.specs.Command.{Command, IsAnswer, IsAnswerTo, IsRefusalOf, Makes, MakesAndTells, refusal_in}
+use Rattle.permit_program.specs.Convoy.{answer_to_convoy, convoy, convoy_refusal}
 use Rattle.permit_program.specs.Day.{HasFewActors, day}
+use Rattle.permit_program.specs.Design.{design}
 use Rattle.permit_program.specs.Made.{IsTrial, make, trial}
 use Rattle.permit_program.specs.declared.refusal.Refusal.{Refusal}
 use Rattle.permit_program.specs.declared.refusal.Refusal.TheVariants as refusal
@@ -40,6 +48,47 @@ report_made bytes text file read report only = record {
   output = record { file = file; read = read; report = report };
   only = λ free other h. let same : h.file ≡ file = cc (h.read, read) in only other (subst (λ (f : CheckFile). IsReport f other) same h.report);
 }
+
+-- the report of `design` on a check file
+pub design_made : (bytes text : List ℕ) (file : CheckFile) → check_of bytes ≡ Ok file → IsDesignReport file text
+    → IsOnlyDesignReport file text → Makes design bytes text
+design_made bytes text file read report only = record {
+  taken = ap refusal_in read;
+  output = record { file = file; read = read; report = report };
+  only = λ free other h.
+      let same : h.file ≡ file = cc (h.read, read) in
+      only other (subst (λ (f : CheckFile). IsDesignReport f other) same h.report);
+}
+
+-- the report on a convoy, whose trucks pass no limit together
+module _ (trucks gap : ℕ) (bytes : List ℕ) (file : CheckFile) (read : check_of bytes ≡ Ok file) where
+  abbrev pub together : CheckFile → EqualTrucks
+  together f = convoy_of f.truck.load.train trucks gap
+
+  pub convoy_made : (text : List ℕ) → first_refusal (together file) ≡ None
+      → IsConvoyReport (together file) file.probes text → IsOnlyConvoyReport (together file) file.probes text → Makes (convoy trucks gap) bytes text
+  convoy_made text none report only = record {
+    taken = ap (convoy_refusal trucks gap) read ∙ ap (option_map answer_to_convoy) none;
+    output = record { file = file; read = read; report = report };
+    only = λ free other h.
+        let same : h.file ≡ file = cc (h.read, read) in
+        only other (subst (λ (f : CheckFile). IsConvoyReport (together f) f.probes other) same h.report);
+  }
+
+  -- the answer to trucks that are no convoy is the command's
+  pub refused_convoy : (refused : ConvoyRefusal) (r : Refusal) → first_refusal (together file) ≡ Some refused
+      → IsAnswer (answer_to_convoy refused) r → IsRefusalOf (convoy trucks gap) bytes r
+  refused_convoy refused (refusal.Refused status line) first answers =
+      ap (convoy_refusal trucks gap) read ∙ (ap (option_map answer_to_convoy) first ∙ ap Some answers)
+  refused_convoy refused refusal.NoMemory first answers = tt
+
+-- the answer to bytes that are no check file is that of `convoy` too
+pub refused_for_convoy : (trucks gap : ℕ) (bytes : List ℕ) (refused : FileRefusal) (r : Refusal)
+    → IsRefusedAs (check_of bytes) refused → IsAnswerTo refused r → IsRefusalOf (convoy trucks gap) bytes r
+refused_for_convoy trucks gap bytes (file.Refused row cause) (refusal.Refused status line) is answers =
+    ap (convoy_refusal trucks gap) is ∙ ap Some answers
+refused_for_convoy trucks gap bytes file.NoMemory (refusal.Refused status line) is answers = absurd answers
+refused_for_convoy trucks gap bytes refused refusal.NoMemory is answers = tt
 
 -- the journal of a day of at most one actor is one
 only_journal : LoneActorsAreOne → (bytes text other : List ℕ) (file : DayParts) (history : List Entry) → day_of bytes ≡ Ok file → IsRoads file.base.roads → IsServed file history → text ≡ journal_of history

@@ -1,6 +1,7 @@
 -- Which statuses come.
 use Rattle.std.proofs.Common.{◌≡◌, ◌⊎◌, ℕ, Some, None, refl, sym, ◌∙◌, inl, inr}
 use Rattle.command_line.specs.declared.asked.Asked.{Asked}
+use Rattle.command_line.specs.declared.asked.Options.{Options}
 use Rattle.command_line.specs.declared.asked.Task.{Task}
 use Rattle.command_line.specs.declared.asked.Task.TheVariants as task
 use Rattle.permit_program.specs.Commands.{command_by, command_of}
@@ -23,18 +24,20 @@ five_or_six status (inr e) = inr (inr (inr (inr (inr (inl e)))))
 refused_named : {S K : Type 0} (status : ℕ) (a : Asked) (before after : Outside S K) → RefusedBytes status (command_of a) before after ⊎ RefusedFile status (command_of a) before after → IsStatus status
 refused_named status a before after (inl bytes) = five_or_six status (inr bytes.is_status)
 refused_named status a before after (inr refused) =
-    five_or_six status (elim (refusal_status a.task a.seed a.size refused.bytes refused.answer refused.refused) [ inl e ↦ inl (sym refused.is_status ∙ e) | inr e ↦ inr (sym refused.is_status ∙ e) ])
+    five_or_six status (elim (refusal_status a.task a.options refused.bytes refused.answer refused.refused) [ inl e ↦ inl (sym refused.is_status ∙ e) | inr e ↦ inr (sym refused.is_status ∙ e) ])
 
 pub all_named : {S K : Type 0} → EveryStatusIsNamed S K
 all_named None before after status run = elim run.refused [ inl plain ↦ plain_named status plain | inr none ↦ absurd none ]
 all_named (Some a) before after status run = elim run.refused [ inl plain ↦ plain_named status plain | inr refused ↦ refused_named status a before after refused ]
 
-tells : {S K : Type 0} (t : Task) (seed size : ℕ) (before after : Outside S K) → WroteUntold (command_by t seed size) before after → t ≡ task.Day
-tells task.Check seed size before after untold = let none = untold.made.told in absurd cc
-tells task.Day seed size before after untold = refl
-tells task.Make seed size before after untold = let none = untold.made.told in absurd cc
-tells task.Trial seed size before after untold = let none = untold.made.told in absurd cc
+tells : {S K : Type 0} (t : Task) (options : Options) (before after : Outside S K) → WroteUntold (command_by t options) before after → t ≡ task.Day
+tells task.Check options before after untold = let none = untold.made.told in absurd cc
+tells task.Day options before after untold = refl
+tells task.Make options before after untold = let none = untold.made.told in absurd cc
+tells task.Trial options before after untold = let none = untold.made.told in absurd cc
+tells task.Design options before after untold = let none = untold.made.told in absurd cc
+tells task.Convoy options before after untold = let none = untold.made.told in absurd cc
 
 pub only_days : {S K : Type 0} → OnlyDaysTell S K
 only_days None before after run = run.untold refl
-only_days (Some a) before after run = tells a.task a.seed a.size before after (run.untold refl)
+only_days (Some a) before after run = tells a.task a.options before after (run.untold refl)

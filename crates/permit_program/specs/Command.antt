@@ -44,6 +44,11 @@ IsRefusalOf command bytes (Refused status line) =
     command.refusal bytes ≡ Some (record { status = status; line = string_bytes line })
 IsRefusalOf command bytes NoMemory = Unit {0}
 
+-- bytes are answered in this way, unless memory was wanting
+abbrev pub IsAnswer : Answer → Refusal → Type 0
+IsAnswer answer (Refused status line) = answer ≡ record { status = status; line = string_bytes line }
+IsAnswer answer NoMemory = Unit {0}
+
 -- how a refused record is answered
 abbrev pub answer_to : ℕ × Cause → Answer
 answer_to (row, cause) = record { status = status_of cause; line = refusal_line_of row cause }

@@ -3,6 +3,8 @@ pub mod Command
 pub mod Check
 pub mod Day
 pub mod Made
+pub mod Design
+pub mod Convoy
 pub mod Commands
 pub mod Runs
 pub mod Endings

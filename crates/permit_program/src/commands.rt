@@ -1,11 +1,14 @@
 // The list of the commands: which read the source, and what each makes of its bytes.
 
-ghost use Rattle.std.specs.Prelude.{◌≡◌, ◌≢◌, ◌≤◌, IfErr, IfOk};
+ghost use Rattle.std.specs.Prelude.{◌≡◌, ◌≢◌, IfErr, IfOk};
+ghost use Rattle.command_line.specs.Asking.{AreInRange};
 ghost use Rattle.command_line.specs.declared.asked.Task.TheVariants as task;
 ghost use Rattle.permit_program.specs.Command.{IsRefusalOf, Makes};
 ghost use Rattle.permit_program.specs.Commands.{command_of};
 
 use crate::check::make_report;
+use crate::convoy::make_convoy_report;
+use crate::design::make_design_report;
 use crate::made::{make_day_file, make_summary};
 use crate::refusal::Refusal;
 use command_line::{Asked, Task};
@@ -16,7 +19,7 @@ pub(crate) fn reads(asked: Asked) -> bool
     ensures { result ≡ (command_of asked).reads }
 {
     match asked.task {
-        Task::Check | Task::Day => true,
+        Task::Check | Task::Day | Task::Design | Task::Convoy => true,
         Task::Make | Task::Trial => false,
     }
 }
@@ -24,15 +27,17 @@ pub(crate) fn reads(asked: Asked) -> bool
 /// The text that a command makes of bytes, where it needs no threads.
 pub(crate) fn make_text(alloc: Global, asked: Asked, bytes: &[u8]) -> Result<Vec<u8>, Refusal>
     requires alone { asked.task ≢ task.Day }
-    requires seed { asked.seed ≤ 65535 }
-    requires size { (1 ≤ asked.size) × (asked.size ≤ 40) }
+    requires range { AreInRange asked.options }
     ensures made { IfOk result (λ text. Makes (command_of asked) bytes.now text.items) }
     ensures refused { IfErr result (IsRefusalOf (command_of asked) bytes.now) }
 {
+    let options = asked.options;
     match asked.task {
         Task::Check => make_report(alloc, bytes),
-        Task::Make => Ok(make_day_file(alloc, asked.seed, asked.size)?),
-        Task::Trial => Ok(make_summary(alloc, asked.seed, asked.size)?),
+        Task::Make => Ok(make_day_file(alloc, options.seed, options.size)?),
+        Task::Trial => Ok(make_summary(alloc, options.seed, options.size)?),
+        Task::Design => make_design_report(alloc, bytes),
+        Task::Convoy => make_convoy_report(alloc, options, bytes),
         Task::Day => unreachable!(),
     }
 }

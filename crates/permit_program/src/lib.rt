@@ -9,7 +9,9 @@
 
 mod check;
 mod commands;
+mod convoy;
 mod day;
+mod design;
 mod laws;
 mod made;
 mod notices;

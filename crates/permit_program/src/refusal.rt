@@ -1,10 +1,13 @@
 // How bytes are refused.
 
 ghost use Rattle.std.specs.Prelude.{◌≡◌};
-ghost use Rattle.permit_program.specs.Command.{IsAnswerTo};
+ghost use Rattle.permit_program.specs.Command.{IsAnswer, IsAnswerTo};
+ghost use Rattle.permit_program.specs.Convoy.{answer_to_convoy};
 ghost use Rattle.permit_program.specs.declared.refusal.Refusal.TheVariants as refusal;
 
+use convoy_moves::ConvoyRefusal;
 use day_text::FileRefusal;
+use loading_report::convoy_refusal_line;
 use names::NoMemory;
 use refusal_text::{refusal_line, refusal_status};
 use std::alloc::Global;
@@ -34,6 +37,16 @@ impl Refusal {
                 status: refusal_status(cause),
                 line,
             },
+            Err(NoMemory) => Refusal::NoMemory,
+        }
+    }
+
+    /// How trucks that are no convoy are answered: by the first limit that they pass.
+    pub(crate) fn of_convoy(alloc: Global, refused: ConvoyRefusal) -> Refusal
+        ensures { IsAnswer (answer_to_convoy refused) result }
+    {
+        match convoy_refusal_line(alloc, refused) {
+            Ok(line) => Refusal::Refused { status: 5, line },
             Err(NoMemory) => Refusal::NoMemory,
         }
     }

@@ -4,7 +4,7 @@ ghost use Rattle.std.specs.Prelude.{◌≡◌, ◌≢◌, ◌<◌, ◌≤◌, �
 ghost use Rattle.std.specs.String.{string_bytes};
 ghost use Rattle.office_io.specs.Causes.{TookAtMost, UnlessReadFault};
 ghost use Rattle.notice_desk.specs.Standings.{AreNew, standings};
-ghost use Rattle.command_line.specs.Asking.{asked_of};
+ghost use Rattle.command_line.specs.Asking.{AreInRange, asked_of};
 ghost use Rattle.command_line.specs.declared.asked.Asked.{Asked};
 ghost use Rattle.command_line.specs.declared.asked.Task.TheVariants as task;
 ghost use Rattle.permit_program.specs.Runs.{CountedDay, CountsItsDay, DeskAt, IsAlone, IsRun, Took, WroteLine, desk_at, most_bytes};
@@ -69,7 +69,7 @@ const MOST_BYTES: u32 = 4_194_304;
 /// tells the subscribers of a day's recalls, and ends with its status.
 ///
 /// 0 is done; 2 words that ask for nothing; 3 a fault of the source; 4 a fault of the sink while the output was written;
-/// 5 a record that is bad; 6 a record that is one too many of its kind, or more than 4,194,304 bytes; 7 no memory; 8 a fault of
+/// 5 a record that is bad, or trucks that are no convoy; 6 a record that is one too many of its kind, or more than 4,194,304 bytes; 7 no memory; 8 a fault of
 /// an object that is told of recalls, after the whole journal was written.
 ///
 /// A day's actors work on threads of their own, and the gate is told how far each is. The call waits until all are done.
@@ -145,7 +145,7 @@ pub fn refuse_words<K: Sink>(sink: &mut K) -> u8
 {
     refuse(
         sink,
-        b"usage: permit_cli check|day|make|trial [--seed N] [--size N]\n",
+        b"usage: permit_cli check|day|make|trial|design|convoy [--seed N] [--size N] [--trucks N] [--gap N]\n",
         2,
     )
 }
@@ -153,8 +153,7 @@ pub fn refuse_words<K: Sink>(sink: &mut K) -> u8
 // Performs a command that needs no threads: takes what it reads, and writes what it makes of that.
 fn perform<S: Source, K: Sink>(alloc: Global, asked: Asked, source: &mut S, sink: &mut K) -> u8
     requires alone { asked.task ≢ task.Day }
-    requires seed { asked.seed ≤ 65535 }
-    requires size { (1 ≤ asked.size) × (asked.size ≤ 40) }
+    requires range { AreInRange asked.options }
     ensures { let outside = outside_of S.left S.faults K.held K.faults in
         (desk : DeskAt) → IsRun (Some asked) (outside source.old sink.old desk) (outside source.new sink.new desk) result }
 {

@@ -9,6 +9,8 @@ mod days;
 #[cfg(test)]
 mod inputs;
 #[cfg(test)]
+mod loadings;
+#[cfg(test)]
 mod made_days;
 #[cfg(test)]
 mod meetings;

@@ -14,10 +14,14 @@ use std::sync::Wait;
 use std::sync::ledger::{Blank, Ledger};
 use std::thread::Threads;
 
-const FHWA: &str =
+pub(crate) const FHWA: &str =
     "truck,FHWA,ACME,162,102,720,0:12000 192:17000 240:17000 564:17000 612:17000,\nend,,,,,,,\n";
 
-const USAGE: &str = "usage: permit_cli check|day|make|trial [--seed N] [--size N]\n";
+// The HS20-44 truck, on a span that carries it by the least rating that is enough.
+const HS20: &str =
+    "truck,HS20,ACME,150,102,500,0:8000 168:32000 336:32000,\nprobe,240,963,,,,,\nend,,,,,,,\n";
+
+const USAGE: &str = "usage: permit_cli check|day|make|trial|design|convoy [--seed N] [--size N] [--trucks N] [--gap N]\n";
 
 // One actor too many.
 const SEVENTEEN: &str = "\
@@ -219,22 +223,28 @@ fn faults_at<R: Abort + Threads + Wait + AllocGlobal + Sync>(
 fn answers_a_fault_at_each_call(rt: HostRuntime) {
     for fault in FAULTS {
         faults_at(&rt, "check", FHWA, fault);
+        faults_at(&rt, "design", HS20, fault);
+        faults_at(&rt, "convoy", HS20, fault);
         faults_at(&rt, "day", DAYS[ISSUED].0, fault);
     }
     let refused = run_words(&rt, &["day"], b"", &[], &[1]);
+    assert_eq!(rt; refused.status, 5);
+    let refused = run_words(&rt, &["convoy", "--gap", "2500"], FHWA.as_bytes(), &[], &[1]);
     assert_eq!(rt; refused.status, 5);
     let used = run_words(&rt, &[], FHWA.as_bytes(), &[1], &[1]);
     assert_eq!(rt; used.status, 2);
 }
 
 // Words that ask for nothing are answered by how the program is used; which these are is tested where words are read.
-const NO_TASK: [&[&str]; 6] = [
+const NO_TASK: [&[&str]; 8] = [
     &[],
     &["check", "check"],
     &["Day"],
     &["day "],
     &["--help"],
     &["make", "--size", "41"],
+    &["convoy", "--trucks", "1"],
+    &["convoy", "--gap", "3001"],
 ];
 
 #[test]

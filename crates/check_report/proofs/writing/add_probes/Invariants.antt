@@ -1,7 +1,9 @@
 use Rattle.std.proofs.Common.{take}
 use Rattle.std.specs.String.{string_bytes}
-use Rattle.check_report.specs.Reports.{AddsProbes}
+use Rattle.check_report.specs.Probes.{AddsOne, AreTexts}
+use Rattle.check_report.specs.Reports.{IsProbeText}
 use Rattle.check_report.proofs.writing.add_probes.Given as goal
 
 abbrev pub invariant-loop-probe : goal.invariant-loop-probe
-invariant-loop-probe l = AddsProbes l.train (take l.probe-index l.probes) (string_bytes l.fn.text) (string_bytes l.text)
+invariant-loop-probe l =
+    AddsOne (AreTexts (IsProbeText l.train) (take l.probe-index l.probes)) (string_bytes l.fn.text) (string_bytes l.text)

@@ -17,7 +17,7 @@ returns-in-Ok-make_text g c = λ desk.
     let took : Took (command_of asked).reads before.source after.source bytes = subst (λ (r : Bool). Took r before.source after.source bytes) c.reads.ensures c.in-Ok.ensures.took in
     let made : Makes (command_of asked) bytes text = subst (λ (b : List ℕ). Makes (command_of asked) b text) c.as_slice.ensures.value c.in-Ok-make_text.ensures.made in
     let answered : AnswersText text before.sink after.sink c.end_made.result = subst (λ (t : List ℕ). AnswersText t before.sink after.sink c.end_made.result) c.as_slice-in-Ok-make_text.ensures.value c.end_made.ensures in
-    ends_made asked before after c.take_bytes.ensures.most bytes took c.in-Ok.ensures.few c.in-Ok.ensures.calm text made c.end_made.result answered (λ is. tells_nobody asked.task asked.seed asked.size c.requires.alone bytes text made.output) refl
+    ends_made asked before after c.take_bytes.ensures.most bytes took c.in-Ok.ensures.few c.in-Ok.ensures.calm text made c.end_made.result answered (λ is. tells_nobody asked.task asked.options c.requires.alone bytes text made.output) refl
 
 pub returns : goal.returns
 returns g c = λ desk.

@@ -19,9 +19,9 @@ returns-in-Err-make_journal-clause-run g c = λ asked is.
     let before = outside c.args.source.now c.args.sink.now (desk_now c.args.notices.now) in
     let after = outside c.take_bytes.new.source c.end_refused.new.sink (desk_now c.args.notices.now) in
     let bytes = c.in-Ok.bytes.items in
-    let took : Took (command_of asked).reads before.source after.source bytes = subst (λ (t : Task). Took (command_by t asked.seed asked.size).reads before.source after.source bytes) (sym is) c.in-Ok.ensures.took in
+    let took : Took (command_of asked).reads before.source after.source bytes = subst (λ (t : Task). Took (command_by t asked.options).reads before.source after.source bytes) (sym is) c.in-Ok.ensures.took in
     let refusal = c.in-Err-make_journal.refusal in
-    let refused : IsRefusalOf (command_of asked) bytes refusal = subst (λ (t : Task). IsRefusalOf (command_by t asked.seed asked.size) bytes refusal) (sym is)
+    let refused : IsRefusalOf (command_of asked) bytes refusal = subst (λ (t : Task). IsRefusalOf (command_by t asked.options) bytes refusal) (sym is)
     (subst (λ (b : List ℕ). IsRefusalOf day b refusal) c.as_slice.ensures.value c.in-Err-make_journal.ensures.refused) in
     subst (λ (n : ℕ). IsRun (Some asked) before after n) (sym c.uncounted-in-Err-make_journal.ensures.status)
     (ends_refused asked before after c.take_bytes.ensures.most bytes took c.in-Ok.ensures.few c.in-Ok.ensures.calm refusal c.end_refused.result refused c.end_refused.ensures refl)
@@ -33,10 +33,10 @@ returns-in-Ok-deliver-clause-run g c = λ asked is.
     let before = outside c.args.source.now c.args.sink.now (desk_now c.args.notices.now) in
     let after = outside c.take_bytes.new.source c.end_made-status.new.sink (desk_now c.deliver.new.self) in
     let bytes = c.in-Ok.bytes.items in
-    let took : Took (command_of asked).reads before.source after.source bytes = subst (λ (t : Task). Took (command_by t asked.seed asked.size).reads before.source after.source bytes) (sym is) c.in-Ok.ensures.took in
+    let took : Took (command_of asked).reads before.source after.source bytes = subst (λ (t : Task). Took (command_by t asked.options).reads before.source after.source bytes) (sym is) c.in-Ok.ensures.took in
     let text = c.in-Ok-make_journal.day.journal.items in
     let recalls = c.in-Ok-make_journal.day.recalls.items in
-    let made : MakesAndTells (command_of asked) bytes text recalls = subst (λ (t : Task). MakesAndTells (command_by t asked.seed asked.size) bytes text recalls) (sym is)
+    let made : MakesAndTells (command_of asked) bytes text recalls = subst (λ (t : Task). MakesAndTells (command_by t asked.options) bytes text recalls) (sym is)
     (subst (λ (b : List ℕ). MakesAndTells day b text recalls) c.as_slice.ensures.value c.in-Ok-make_journal.ensures.made) in
     let zero : c.end_made-status.result ≡ 0 = search rules in
     let whole_text = c.end_made-status.ensures.whole zero in
@@ -56,10 +56,10 @@ returns-clause-run g c = λ asked is.
     let before = outside c.args.source.now c.args.sink.now (desk_now c.args.notices.now) in
     let after = outside c.take_bytes.new.source c.end_made-status.new.sink (desk_now c.deliver.new.self) in
     let bytes = c.in-Ok.bytes.items in
-    let took : Took (command_of asked).reads before.source after.source bytes = subst (λ (t : Task). Took (command_by t asked.seed asked.size).reads before.source after.source bytes) (sym is) c.in-Ok.ensures.took in
+    let took : Took (command_of asked).reads before.source after.source bytes = subst (λ (t : Task). Took (command_by t asked.options).reads before.source after.source bytes) (sym is) c.in-Ok.ensures.took in
     let text = c.in-Ok-make_journal.day.journal.items in
     let recalls = c.in-Ok-make_journal.day.recalls.items in
-    let made : MakesAndTells (command_of asked) bytes text recalls = subst (λ (t : Task). MakesAndTells (command_by t asked.seed asked.size) bytes text recalls) (sym is)
+    let made : MakesAndTells (command_of asked) bytes text recalls = subst (λ (t : Task). MakesAndTells (command_by t asked.options) bytes text recalls) (sym is)
     (subst (λ (b : List ℕ). MakesAndTells day b text recalls) c.as_slice.ensures.value c.in-Ok-make_journal.ensures.made) in
     let zero : c.end_made-status.result ≡ 0 = search rules in
     let whole_text = c.end_made-status.ensures.whole zero in

@@ -1,8 +1,8 @@
 use Rattle.std.proofs.Common.{refl}
 use Rattle.clap.proofs.OnLiterals.{clap_on_literals}
 use Rattle.command_line.specs.Asking.{asked_of}
-use Rattle.command_line.proofs.laws.four_words_ask_for_their_tasks.Goals as goal
+use Rattle.command_line.proofs.laws.each_word_asks_for_its_task.Goals as goal
 
 pub returns : goal.returns
 unfolding clap_on_literals asked_of
-returns c = (refl, refl, refl, refl)
+returns c = record { check = refl; day = refl; make = refl; trial = refl; design = refl; convoy = refl }

@@ -1,0 +1,2 @@
+pub mod OneDesign
+pub mod OneConvoy

@@ -1,0 +1,3 @@
+pub use Rattle.check_report.specs.Probes
+pub mod Designs
+pub mod Convoys

@@ -1,0 +1,119 @@
+// The text that `convoy` writes, and the line for trucks that are no convoy.
+
+ghost use Rattle.std.specs.Prelude.{◌≡◌, ◌≤◌, IfOk, OnOk};
+ghost use Rattle.std.specs.String.{string_bytes};
+ghost use Rattle.span_rating.specs.Loading.{AreEffects};
+ghost use Rattle.convoy_moves.specs.Convoys.{IsConvoyPlaced};
+ghost use Rattle.day_text.specs.Spans.{AreSpans, IsSpan};
+ghost use Rattle.check_report.specs.Probes.{AddsOne, AreTexts, Grew};
+ghost use Rattle.loading_report.specs.Convoys.{IsConvoyReport, IsConvoyText, IsOnlyConvoyReport, convoy_line, convoy_refusal_line, moment_line, peaks_text, shear_line};
+
+use check_report::{add_rating, add_span};
+use convoy_moves::{Convoy, ConvoyRefusal};
+use day_text::{Probe, Probes};
+use hs20_truck::effects;
+use influence_line::Frac;
+use names::NoMemory;
+use span_rating::{Effects, fits};
+use std::alloc::{AllocError, Global};
+
+/// The report of `convoy`: what the convoy is, and the convoy on each of the probes. There is no other.
+pub fn convoy_report(alloc: Global, convoy: &Convoy, probes: &Probes) -> Result<String, NoMemory>
+    ensures report { IfOk result (λ text. IsConvoyReport convoy.now probes.now (string_bytes text)) }
+    ensures only { IfOk result (λ text. IsOnlyConvoyReport convoy.now probes.now (string_bytes text)) }
+{
+    let text = whole_report(alloc, convoy, probes.as_slice())?;
+    Ok(text)
+}
+
+/// The line for trucks that are no convoy: `refused: convoy C`, ended by one line feed, with the number of the refusal.
+pub fn convoy_refusal_line(alloc: Global, refusal: ConvoyRefusal) -> Result<String, NoMemory>
+    ensures { IfOk result (λ text. string_bytes text ≡ convoy_refusal_line refusal) }
+{
+    let number = refusal.number();
+    let mut text = String::new(alloc);
+    write!(text, "refused: convoy {number}\n")?;
+    Ok(text)
+}
+
+// The report, as its definition has it.
+fn whole_report(alloc: Global, convoy: &Convoy, probes: &[Probe]) -> Result<String, NoMemory>
+    requires { AreSpans probes.now }
+    ensures { IfOk result (λ text. IsConvoyReport convoy.now probes.now (string_bytes text)) }
+{
+    let mut text = String::new(alloc);
+    add_convoy(&mut text, convoy)?;
+    add_probes(&mut text, convoy, probes)?;
+    Ok(text)
+}
+
+// What the convoy is.
+fn add_convoy(text: &mut String, convoy: &Convoy) -> Result<(), AllocError>
+    ensures { OnOk result (Grew text.old text.new (convoy_line convoy.now)) }
+{
+    let trucks = convoy.trucks();
+    let gap = convoy.gap();
+    let axles = convoy.axles();
+    let gross = convoy.gross();
+    write!(
+        text,
+        "convoy {trucks} gap {gap} axles {axles} gross {gross}\n"
+    )
+}
+
+// The convoy on each probe.
+fn add_probes(text: &mut String, convoy: &Convoy, probes: &[Probe]) -> Result<(), AllocError>
+    requires { AreSpans probes.now }
+    ensures { OnOk result (AddsOne (AreTexts (IsConvoyText convoy.now) probes.now) (string_bytes text.old) (string_bytes text.new)) }
+{
+    for probe in probes {
+        add_probe(text, convoy, probe)?;
+    }
+    Ok(())
+}
+
+// The convoy on one probe.
+fn add_probe(text: &mut String, convoy: &Convoy, probe: &Probe) -> Result<(), AllocError>
+    requires { IsSpan probe.now }
+    ensures { OnOk result (AddsOne (IsConvoyText convoy.now probe.now) (string_bytes text.old) (string_bytes text.new)) }
+{
+    let peaks = peaks_of(convoy, probe.inches);
+    let design = effects(probe.inches);
+    add_peaks(text, probe, &peaks)?;
+    add_rating(text, probe.rating, fits(&peaks, &design, probe.rating))
+}
+
+// The peaks of the convoy on a span.
+fn peaks_of(convoy: &Convoy, span: u32) -> Effects
+    requires some { 1 ≤ span }
+    requires long { span ≤ 6000 }
+    ensures { AreEffects (IsConvoyPlaced convoy.now) span result }
+{
+    Effects {
+        moment: convoy.moment(span),
+        shear: convoy.shear(span),
+    }
+}
+
+// The span, and the convoy's peaks on it.
+fn add_peaks(text: &mut String, probe: &Probe, peaks: &Effects) -> Result<(), AllocError>
+    ensures { OnOk result (Grew text.old text.new (peaks_text probe.now peaks.now)) }
+{
+    add_span(text, probe)?;
+    add_moment(text, &peaks.moment)?;
+    add_shear(text, &peaks.shear)
+}
+
+// The convoy's peak moment.
+fn add_moment(text: &mut String, moment: &Frac) -> Result<(), AllocError>
+    ensures { OnOk result (Grew text.old text.new (moment_line moment.now)) }
+{
+    write!(text, "moment {moment}\n")
+}
+
+// The convoy's peak end shear.
+fn add_shear(text: &mut String, shear: &Frac) -> Result<(), AllocError>
+    ensures { OnOk result (Grew text.old text.new (shear_line shear.now)) }
+{
+    write!(text, "shear {shear}\n")
+}

@@ -1,0 +1,102 @@
+// The text that `design` writes.
+
+ghost use Rattle.std.specs.Prelude.{◌≡◌, IfOk, OnOk};
+ghost use Rattle.std.specs.String.{string_bytes};
+ghost use Rattle.day_text.specs.Spans.{AreSpans, IsSpan};
+ghost use Rattle.check_report.specs.Probes.{AddsOne, AreTexts, Grew};
+ghost use Rattle.loading_report.specs.Designs.{IsDesignReport, IsDesignText, IsOnlyDesignReport, governing_moment_line, governing_shear_line, governing_text, load_name};
+
+use axle_train::Train;
+use check_report::{add_rating, add_span};
+use day_text::{CheckFile, Probe};
+use design_loads::{By, GreatestEffects, fits_greatest, greatest};
+use hs20_truck::effects_of;
+use influence_line::Frac;
+use names::NoMemory;
+use std::alloc::{AllocError, Global};
+
+/// The report of `design` on a check file: its truck on each of its probes, beside the greatest of the three design loads.
+/// There is no other.
+pub fn design_report(alloc: Global, file: &CheckFile) -> Result<String, NoMemory>
+    ensures report { IfOk result (λ text. IsDesignReport file.now (string_bytes text)) }
+    ensures only { IfOk result (λ text. IsOnlyDesignReport file.now (string_bytes text)) }
+{
+    let text = truck_report(alloc, file.truck.load.train(), file.probes.as_slice())?;
+    Ok(text)
+}
+
+// The report on a truck with these axles, as its definition has it.
+fn truck_report(alloc: Global, train: &Train, probes: &[Probe]) -> Result<String, NoMemory>
+    requires { AreSpans probes.now }
+    ensures { IfOk result (λ text. AreTexts (IsDesignText train.now) probes.now (string_bytes text)) }
+{
+    let mut text = String::new(alloc);
+    add_probes(&mut text, train, probes)?;
+    Ok(text)
+}
+
+// The truck on each probe.
+fn add_probes(text: &mut String, train: &Train, probes: &[Probe]) -> Result<(), AllocError>
+    requires { AreSpans probes.now }
+    ensures { OnOk result (AddsOne (AreTexts (IsDesignText train.now) probes.now) (string_bytes text.old) (string_bytes text.new)) }
+{
+    for probe in probes {
+        add_probe(text, train, probe)?;
+    }
+    Ok(())
+}
+
+// The truck on one probe.
+fn add_probe(text: &mut String, train: &Train, probe: &Probe) -> Result<(), AllocError>
+    requires { IsSpan probe.now }
+    ensures { OnOk result (AddsOne (IsDesignText train.now probe.now) (string_bytes text.old) (string_bytes text.new)) }
+{
+    let truck = effects_of(train, probe.inches);
+    let design = greatest(probe.inches);
+    add_governing(text, probe, &design)?;
+    add_rating(
+        text,
+        probe.rating,
+        fits_greatest(&truck, &design, probe.rating),
+    )
+}
+
+// The span, and the greatest effects of the design loads on it.
+fn add_governing(
+    text: &mut String,
+    probe: &Probe,
+    design: &GreatestEffects,
+) -> Result<(), AllocError>
+    ensures { OnOk result (Grew text.old text.new (governing_text probe.now design.now)) }
+{
+    add_span(text, probe)?;
+    add_moment(text, &design.moment, design.moment_by)?;
+    add_shear(text, &design.shear, design.shear_by)
+}
+
+// The greatest moment, and the load that it is of.
+fn add_moment(text: &mut String, moment: &Frac, by: By) -> Result<(), AllocError>
+    ensures { OnOk result (Grew text.old text.new (governing_moment_line moment.now by)) }
+{
+    let name = load_name(by);
+    write!(text, "moment {moment} {name}\n")
+}
+
+// The greatest end shear, and the load that it is of.
+fn add_shear(text: &mut String, shear: &Frac, by: By) -> Result<(), AllocError>
+    ensures { OnOk result (Grew text.old text.new (governing_shear_line shear.now by)) }
+{
+    let name = load_name(by);
+    write!(text, "shear {shear} {name}\n")
+}
+
+// The name of a design load.
+fn load_name(by: By) -> &'static str
+    ensures { result.now ≡ load_name by }
+{
+    match by {
+        By::Truck => "truck",
+        By::Lane => "lane",
+        By::Military => "military",
+    }
+}

@@ -1,0 +1,35 @@
+// What `convoy` makes: the report on trucks that follow each other.
+
+ghost use Rattle.std.specs.Prelude.{IfErr, IfOk};
+ghost use Rattle.command_line.specs.Asking.{AreInRange};
+ghost use Rattle.permit_program.specs.Command.{IsRefusalOf, Makes};
+ghost use Rattle.permit_program.specs.Convoy.{convoy};
+
+use crate::refusal::Refusal;
+use command_line::Options;
+use convoy_moves::Convoy;
+use day_text::read_check;
+use loading_report::convoy_report;
+use std::alloc::Global;
+
+/// The report of `convoy` on the check file that the bytes are, with as many trucks and as small a gap as the options say.
+pub(crate) fn make_convoy_report(
+    alloc: Global,
+    options: Options,
+    bytes: &[u8],
+) -> Result<Vec<u8>, Refusal>
+    requires { AreInRange options }
+    ensures made { IfOk result (λ text. Makes (convoy options.trucks options.gap) bytes.now text.items) }
+    ensures refused { IfErr result (IsRefusalOf (convoy options.trucks options.gap) bytes.now) }
+{
+    let file = match read_check(alloc, bytes) {
+        Ok(file) => file,
+        Err(refused) => return Err(Refusal::of_file(alloc, refused)),
+    };
+    let convoy = match Convoy::new(file.truck.load.train(), options.trucks, options.gap) {
+        Ok(convoy) => convoy,
+        Err(refused) => return Err(Refusal::of_convoy(alloc, refused)),
+    };
+    let text = convoy_report(alloc, &convoy, &file.probes)?;
+    Ok(text.into_bytes())
+}
