@@ -20,7 +20,11 @@ use trip_analysis::Base;
 type Actor<'a, R, L> = Worker<Seat<'a, R, L>>;
 
 /// Admits a pass for each script, has the actors carry out their scripts, all at once, and takes the passes in.
-pub(crate) fn work_all<R: Threads + Wait + AllocGlobal + Sync, G: Gate + Sync, L: Ledger + Send + Sync>(
+pub(crate) fn work_all<
+    R: Threads + Wait + AllocGlobal + Sync,
+    G: Gate + Sync,
+    L: Ledger + Send + Sync,
+>(
     rt: &R,
     desk: &Desk<L>,
     root: &mut Root<L>,

@@ -70,10 +70,7 @@ fn post<L: Ledger>(office: &mut CountedOffice<L>, change: Change)
 }
 
 // Posts the last of these changes as caller 1, if one is left. Those that are left then.
-fn interrupt<'a, L: Ledger>(
-    office: &mut CountedOffice<L>,
-    changes: &'a [Change],
-) -> &'a [Change]
+fn interrupt<'a, L: Ledger>(office: &mut CountedOffice<L>, changes: &'a [Change]) -> &'a [Change]
     ensures { Interrupts office.old.office office.new.office }
 {
     match changes.split_last() {
@@ -388,7 +385,12 @@ fn decided<L: Ledger, F: Ledger>(
     let mut seat = OneSeat::new(&mut office, 0);
     let reply = decide::<OneSeat<'_, L>, OpenGate, F>(alloc, &mut seat, wanted, &docket, found);
     let full = full_at(reply);
-    journal_ends(rt, alloc, office.office(), "= issued 1 at 0 route 1\nend 2\n");
+    journal_ends(
+        rt,
+        alloc,
+        office.office(),
+        "= issued 1 at 0 route 1\nend 2\n",
+    );
     drop(office);
     assert_eq!(rt; full, 0);
 }

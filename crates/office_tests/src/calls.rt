@@ -325,8 +325,15 @@ fn check(
     let wanted = last.lines().count().wrapping_mul(most as usize);
     for by_seat in [false, true] {
         let office = office_about(rt, alloc, base(rt, alloc, segments, height), most);
-        let (full, full_then) =
-            full_in::<Brand>(rt, alloc, office, lines, last, by_seat, Blank::new(1));
+        let (full, full_then) = full_in::<Brand>(
+            rt,
+            alloc,
+            office,
+            lines,
+            last,
+            by_seat,
+            Blank::new(1),
+        );
         assert!(rt; full == 0 && full_then as usize == wanted, "{last}");
     }
 }
@@ -369,12 +376,23 @@ fn lists_what_postings_recalled(rt: HostRuntime) {
 2 post segment 1 height 149 = posted 2 recalled 2
 ";
     let alloc = rt.alloc();
-    let mut office = office_about(&rt, alloc, base(&rt, alloc, ALONE, 168), 100);
-    let full = serve_each(&rt, alloc, &mut office, lines, false);
-    has_lines(&rt, alloc, &office, lines, 4);
-    let listed = recalls(alloc, office.base(), office.history());
-    drop(office);
-    are_recalls(&rt, listed.expect(&rt, "memory"));
+    let office = office_about(&rt, alloc, base(&rt, alloc, ALONE, 168), 100);
+    has_recalls::<Brand>(&rt, alloc, office, lines, Blank::new(1));
+}
+
+// The calls of these four lines recall two permits.
+fn has_recalls<L: Ledger>(rt: &impl Abort, alloc: Global, office: Office, lines: &str, blank: Blank)
+    requires name { blank.name ≡ L.name }
+    requires parts { blank.parts ≡ L.parts }
+    requires some { 0 < blank.parts }
+    requires opened { office.history ≡ [] }
+{
+    let mut counted = CountedOffice::<L>::new(office, blank);
+    let full = serve_each(rt, alloc, &mut counted, lines, false);
+    has_lines(rt, alloc, counted.office(), lines, 4);
+    let listed = recalls(alloc, counted.office().base(), counted.office().history());
+    drop(counted);
+    are_recalls(rt, listed.expect(rt, "memory"));
     assert!(rt; full == 0);
 }
 

@@ -13,15 +13,10 @@ use std::marker::Brand;
 use std::process::Abort;
 use std::sync::ledger::{Blank, Ledger};
 use std::sync::{Arc, Wait};
-use std::thread::join_mut;
+use std::thread::{Threads, join_mut};
 
 // A desk of an office about one segment.
-fn start<L: Ledger>(
-    rt: &impl Abort,
-    alloc: Global,
-    most: u32,
-    blank: Blank,
-) -> (Desk<L>, Root<L>)
+fn start<L: Ledger>(rt: &impl Abort, alloc: Global, most: u32, blank: Blank) -> (Desk<L>, Root<L>)
     requires name { blank.name ≡ L.name }
     requires parts { blank.parts ≡ L.parts }
     requires some { 0 < blank.parts }
@@ -59,12 +54,7 @@ fn compare(rt: &impl Abort, alloc: Global, office: &Office, text: &str) {
 }
 
 // Posts a change and looks at a permit, so often.
-fn post_and_show<R: Wait, L: Ledger>(
-    rt: &R,
-    desk: &Desk<L>,
-    pass: &mut Pass<L>,
-    times: u32,
-)
+fn post_and_show<R: Wait, L: Ledger>(rt: &R, desk: &Desk<L>, pass: &mut Pass<L>, times: u32)
     requires { IsReady desk.now pass.old }
     ensures { IsReady desk.now pass.new }
 {
@@ -116,7 +106,7 @@ fn a_look_sees_the_posting_before_it(rt: HostRuntime) {
 }
 
 // Looks behind a posting of the same caller.
-fn look_behind_a_posting<L: Ledger>(rt: &HostRuntime, blank: Blank)
+fn look_behind_a_posting<L: Ledger>(rt: &(impl Abort + Wait + AllocGlobal + Sync), blank: Blank)
     requires name { blank.name ≡ L.name }
     requires parts { blank.parts ≡ L.parts }
     requires some { 0 < blank.parts }
@@ -148,7 +138,7 @@ fn is_full_once_all_turns_are_taken(rt: HostRuntime) {
 }
 
 // Takes the one turn that there is, and two more.
-fn take_all_turns<L: Ledger>(rt: &HostRuntime, blank: Blank)
+fn take_all_turns<L: Ledger>(rt: &(impl Abort + Wait + AllocGlobal + Sync), blank: Blank)
     requires name { blank.name ≡ L.name }
     requires parts { blank.parts ≡ L.parts }
     requires some { 0 < blank.parts }
@@ -176,7 +166,10 @@ fn two_callers_post_and_look_at_once(rt: HostRuntime) {
 }
 
 // Two callers post and look in turns, both at once.
-fn call_at_once<L: Ledger + Send + Sync>(rt: &HostRuntime, blank: Blank)
+fn call_at_once<L: Ledger + Send + Sync>(
+    rt: &(impl Abort + Wait + Threads + AllocGlobal + Sync),
+    blank: Blank,
+)
     requires name { blank.name ≡ L.name }
     requires parts { blank.parts ≡ L.parts }
     requires some { 0 < blank.parts }

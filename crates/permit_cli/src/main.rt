@@ -3,31 +3,25 @@
 #![tactic(auto)]
 
 ghost use Rattle.std.specs.Prelude.{◌≡◌, ◌<◌};
+ghost use Rattle.notice_desk.specs.Standings.{AreNew, standings};
 
 use analyst_pool::OpenGate;
-use notice_desk::Subscribers;
-use office_io::{StdSink, StdSource};
+use notice_desk::{Notice, Subscribers};
+use office_io::{Sink, Source, StdSink, StdSource};
 use permit_program::{Ended, LineNotice, add_listener, refuse_words, run};
 use std::alloc::AllocFailed;
 use std::io::ErrorKind;
 use std::marker::Brand;
 use std::process::ExitCode;
+use std::sync::Wait;
 use std::sync::ledger::{Blank, Ledger};
+use std::thread::Threads;
 use std::{env, io};
 use thiserror::Error;
 
-// Runs the program, with the one counter of what an office tests in its turns.
-fn main(rt: HostRuntime) -> ExitCode {
-    run_words::<Brand>(rt, Blank::new(1))
-}
-
 // Hands the words and the standard streams in, and the status out. A word that is no text is none that the program knows.
 // Standard error is told of all recalls.
-fn run_words<L: Ledger + Send + Sync>(rt: HostRuntime, blank: Blank) -> ExitCode
-    requires name { blank.name ≡ L.name }
-    requires parts { blank.parts ≡ L.parts }
-    requires some { 0 < blank.parts }
-{
+fn main(rt: HostRuntime) -> ExitCode {
     let mut source = StdSource::new(rt.stdin());
     let mut sink = StdSink::new(rt.stdout());
     let mut notices = Subscribers::new(rt.alloc());
@@ -36,22 +30,36 @@ fn run_words<L: Ledger + Send + Sync>(rt: HostRuntime, blank: Blank) -> ExitCode
         Err(_) => false,
     };
     let status = match words_of(&rt) {
-        Ok(words) if is_added => {
-            let ended: Ended<L> = run(
-                &rt,
-                words.as_slice(),
-                &mut source,
-                &mut sink,
-                &mut notices,
-                &OpenGate,
-                blank,
-            );
-            ended.status
-        }
+        Ok(words) if is_added => run_counted::<Brand>(
+            &rt,
+            words.as_slice(),
+            &mut source,
+            &mut sink,
+            &mut notices,
+            Blank::new(1),
+        ),
         Err(WordsFault::NotText) => refuse_words(&mut sink),
         Ok(_) | Err(WordsFault::NoMemory) => 7,
     };
     ExitCode::from(status)
+}
+
+// Runs the program with a gate that keeps no actor waiting, and with a counter of what an office tests in its turns.
+fn run_counted<L: Ledger + Send + Sync>(
+    rt: &(impl Threads + Wait + AllocGlobal + Sync),
+    words: &[String],
+    source: &mut impl Source,
+    sink: &mut impl Sink,
+    notices: &mut Subscribers,
+    blank: Blank,
+) -> u8
+    requires name { blank.name ≡ L.name }
+    requires parts { blank.parts ≡ L.parts }
+    requires counter { 0 < blank.parts }
+    requires notices { AreNew (standings (λ n. (⟦<dyn Notice as Notice>⟧ n.vtable).list n.value) notices.old) }
+{
+    let ended: Ended<L> = run(rt, words, source, sink, notices, &OpenGate, blank);
+    ended.status
 }
 
 // Why there are no words.

@@ -4,4 +4,3 @@ pub mod Ends
 pub mod Heard
 pub mod Serial
 pub mod Statuses
-pub mod Counted

@@ -31,12 +31,11 @@ pub(crate) struct DayOutput<L: Ledger> {
 /// on a thread of its own. The gate is told how far each actor is.
 ///
 /// It waits until all actors are done.
-pub(crate) fn make_journal<R: Threads + Wait + AllocGlobal + Sync, G: Gate + Sync, L: Ledger + Send + Sync>(
-    rt: &R,
-    bytes: &[u8],
-    gate: &G,
-    blank: Blank,
-) -> Result<DayOutput<L>, Refusal>
+pub(crate) fn make_journal<
+    R: Threads + Wait + AllocGlobal + Sync,
+    G: Gate + Sync,
+    L: Ledger + Send + Sync,
+>(rt: &R, bytes: &[u8], gate: &G, blank: Blank) -> Result<DayOutput<L>, Refusal>
     requires name { blank.name ≡ L.name }
     requires parts { blank.parts ≡ L.parts }
     requires counter { 0 < blank.parts }

@@ -63,7 +63,11 @@ pub(crate) fn run_at<R: Abort + Threads + Wait + AllocGlobal + Sync, G: Gate + S
 // The same with a counter of the office's tests. What was built is let go by a call of `drop`: where a scope lets it go, the
 // proof of the whole function goes through its parts.
 #[tactic(auto, using(notice_desk::proofs::Ready::none_new))]
-fn run_counted<R: Abort + Threads + Wait + AllocGlobal + Sync, G: Gate + Sync, L: Ledger + Send + Sync>(
+fn run_counted<
+    R: Abort + Threads + Wait + AllocGlobal + Sync,
+    G: Gate + Sync,
+    L: Ledger + Send + Sync,
+>(
     rt: &R,
     words: &[&str],
     input: &[u8],

@@ -397,14 +397,7 @@ fn follow_lines<L: Ledger>(
 fn follow_store(rt: &impl Abort, alloc: Global, base: &Base) {
     let mut store = Store::start(alloc, base.network()).expect(rt, "memory");
     let mut follower = Follower::new(alloc, base).expect(rt, "memory");
-    follow_lines::<Brand>(
-        rt,
-        alloc,
-        base,
-        &mut store,
-        &mut follower,
-        Blank::new(1),
-    );
+    follow_lines::<Brand>(rt, alloc, base, &mut store, &mut follower, Blank::new(1));
     drop(follower);
     drop(store);
 }

@@ -1,4 +1,4 @@
 use Rattle.permit_cli.proofs.main.Given as goal
 
-abbrev pub ghosts-run_words : goal.ghosts-run_words
-ghosts-run_words a = record { name = a.blank.name; parts = a.blank.parts }
+abbrev pub ghosts-run_counted : goal.ghosts-run_counted
+ghosts-run_counted a = record { name = a.blank.name; parts = a.blank.parts }

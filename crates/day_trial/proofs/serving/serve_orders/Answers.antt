@@ -1,4 +1,6 @@
-use Rattle.std.proofs.Common.{rules, ◌≡◌, ◌∙◌, length}
+use Rattle.std.proofs.Common.{rules, ◌≡◌, ◌∙◌, length, subst, sym}
+use Rattle.office_core.specs.Offices.{Opened}
+use Rattle.day_trial.specs.Serving.{HasServed}
 use Rattle.day_trial.proofs.Carrying.{callers_for, served, sound_for}
 use Rattle.day_trial.proofs.serving.serve_orders.Goals as goal
 
@@ -13,7 +15,11 @@ carry_out_all-requires-clause-callers g c =
 
 pub returns-clause-served : goal.returns-clause-served
 returns-clause-served g c =
-    let base : c.in_ok-office.office.base ≡ c.args.file.base = search rules in
-    let day : c.in_ok-office.office.opening ≡ c.args.file.day = search rules in
-    served c.scripts_are_short.ensures.memory c.args.file c.in_ok-office.office c.carry_out_all.new.office c.as_slice-2.result.now base day
-    (c.as_slice-2.ensures.value ∙ c.into_parts-base.ensures.commands) c.in_ok-carry_out_all.ensures c.history-history.ensures.legal c.history-history.ensures.promises
+    let o = c.in_ok-office.office in let now = c.into_parts-office.result.0 in let orders = c.as_slice-2.result.now in
+    let base : o.base ≡ c.args.file.base = search rules in
+    let day : o.opening ≡ c.args.file.day = search rules in
+    let has : HasServed o now orders =
+    subst (λ (n : Opened). HasServed o n orders) (sym c.into_parts-office.ensures.office)
+    (subst (λ (p : Opened). HasServed p c.carry_out_all.new.office.office orders) c.new-office.ensures.office c.in_ok-carry_out_all.ensures) in
+    served c.scripts_are_short.ensures.memory c.args.file o now orders base day
+    (c.as_slice-2.ensures.value ∙ c.into_parts-base.ensures.commands) has c.history-history.ensures.legal c.history-history.ensures.promises

@@ -11,10 +11,10 @@ pub returns-clause-own : goal.returns-clause-own
 returns-clause-own g c =
     let receipts = c.args.root.receipts in
     subst (λ (o : Opened). All (λ (r : Receipt Entry). entries_by r.number o.history ≡ r.own) receipts)
-    (sym c.into_parts-office.ensures.office) c.close.ensures.own
+    (sym c.into_parts-office.ensures.office) c.close-counted.ensures.own
 
 pub returns-clause-others : goal.returns-clause-others
 returns-clause-others g c =
     let receipts = c.args.root.receipts in
     subst (λ (o : Opened). All (λ (e : Entry). HasReceipt receipts e.caller) o.history)
-    (sym c.into_parts-office.ensures.office) c.close.ensures.others
+    (sym c.into_parts-office.ensures.office) c.close-counted.ensures.others

@@ -1,5 +1,8 @@
 use Rattle.office_desk.proofs.Looking.{told}
 use Rattle.office_desk.proofs.desked.Desked.look.Goals as goal
 
-pub returns-clause-grown : goal.returns-clause-grown
-returns-clause-grown g c = told _ _ _ _ c.step.ensures.grown c.step.ensures.legal
+pub returns-in-Ok-clause-grown : goal.returns-in-Ok-clause-grown
+returns-in-Ok-clause-grown g c = told _ _ _ _ c.step.ensures.grown c.step.ensures.legal
+
+pub returns-in-Err-clause-grown : goal.returns-in-Err-clause-grown
+returns-in-Err-clause-grown g c = told _ _ _ _ c.step.ensures.grown c.step.ensures.legal
