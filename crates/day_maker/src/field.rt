@@ -1,12 +1,11 @@
 // A field of a record that is made.
 
 ghost use Rattle.std.specs.Prelude.{◌≡◌, ◌∷◌, ◌++◌, OnOk, flat_map};
-ghost use Rattle.std.specs.Fmt.{decimal};
 ghost use Rattle.day_maker.specs.Fields.{field_text};
 ghost use Rattle.day_maker.specs.Made.{axle_text, axles_text};
 
 use axle_train::Axle;
-use itoa::Buffer;
+use numerals::write_number;
 use std::alloc::AllocError;
 
 /// A field: a word, a number, a letter with a number, a letter with a row and a column of the grid, or axles.
@@ -39,14 +38,6 @@ pub(crate) fn write_field(out: &mut Vec<u8>, field: &Field) -> Result<(), AllocE
         }
         Field::Axles(axles) => write_axles(out, axles),
     }
-}
-
-// The digits of a number.
-fn write_number(out: &mut Vec<u8>, n: u32) -> Result<(), AllocError>
-    ensures { OnOk result (out.new.items ≡ out.old.items ++ decimal n) }
-{
-    let mut buffer = Buffer::new();
-    out.extend_from_slice(buffer.format(n).as_bytes())
 }
 
 // Axles, with a space between them.

@@ -3,8 +3,8 @@
 ghost use Rattle.std.specs.Prelude.{◌≡◌, ◌≤◌, ◌++◌, ◌*◌, ◌^◌, count_by, length, sum_by, IfOk, OnOk};
 ghost use Rattle.day_trial.specs.Summaries.{is_of, is_no_road, is_not_needed, is_permit, is_refusal, recalled_by, summary_of, told, version_after, version_behind};
 
-use itoa::Buffer;
 use names::NoMemory;
+use numerals::write_number;
 use office_words::{Entry, Reply};
 use std::alloc::{AllocError, Global};
 
@@ -47,10 +47,9 @@ fn text(alloc: Global, history: &[Entry]) -> Result<Vec<u8>, AllocError>
 fn line(out: &mut Vec<u8>, word: &str, n: u128) -> Result<(), AllocError>
     ensures { OnOk result (out.new.items ≡ out.old.items ++ told word.now n) }
 {
-    let mut buffer = Buffer::new();
     out.extend_from_slice(word.as_bytes())?;
     out.push(b' ')?;
-    out.extend_from_slice(buffer.format(n).as_bytes())?;
+    write_number(out, n)?;
     out.push(b'\n')?;
     Ok(())
 }

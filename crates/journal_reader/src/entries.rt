@@ -14,7 +14,7 @@ use crate::numbers::first_place;
 use crate::parts::is_done;
 use crate::replies::reply;
 use crate::words::after;
-use itoa::Buffer;
+use numerals::spells;
 use office_words::Entry;
 use std::alloc::{AllocError, Global};
 
@@ -62,7 +62,8 @@ fn entry_in_words(alloc: Global, line: &[u8]) -> Result<Option<Entry>, AllocErro
 pub fn is_end(line: &[u8], count: usize) -> bool
     ensures { result ≡ bytes_eq line.now (end_line count) }
 {
-    let mut buffer = Buffer::new();
-    let digits = buffer.format(count);
-    line.strip_prefix(b"end ") == Some(digits.as_bytes())
+    match line.strip_prefix(b"end ") {
+        Some(digits) => spells(digits, count),
+        None => false,
+    }
 }

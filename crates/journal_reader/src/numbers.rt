@@ -11,7 +11,7 @@ ghost use Rattle.journal_reader.specs.Fits.{FitsDay, FitsIndex, FitsIndices, Fit
 
 use crate::parts::{first_part, is_done, part};
 use influence_line::Frac;
-use itoa::Buffer;
+use numerals::spells;
 use permit_days::Day;
 use road_graph::Numbers;
 use std::alloc::{AllocError, Global};
@@ -29,7 +29,7 @@ pub fn number_in(word: &[u8]) -> Option<u32>
     ensures sound { IfSome result (λ n. word.now ≡ decimal n) }
 {
     let n = value_in(word);
-    if spells(n, word) { Some(n) } else { None }
+    if spells(word, n) { Some(n) } else { None }
 }
 
 /// The next part, the number that it spells, and what is left behind it. The separator is no digit.
@@ -318,20 +318,12 @@ fn value_in(word: &[u8]) -> u32
     value
 }
 
-// Whether a word is the text of a number.
-fn spells(n: u32, word: &[u8]) -> bool
-    ensures { result ≡ bytes_eq (decimal n) word.now }
-{
-    let mut buffer = Buffer::new();
-    buffer.format(n).as_bytes() == word
-}
-
 // The wide number that a word spells.
 fn wide_in(word: &[u8]) -> Option<u128>
     ensures { result ≡ wide_of word.now }
 {
     let n = wide_value_in(word);
-    if wide_spells(n, word) { Some(n) } else { None }
+    if spells(word, n) { Some(n) } else { None }
 }
 
 #[tactic(auto, using(crate::proofs::Numerals::value_more))]
@@ -345,11 +337,4 @@ fn wide_value_in(word: &[u8]) -> u128
             .saturating_add(u128::from(b.saturating_sub(b'0')));
     }
     value
-}
-
-fn wide_spells(n: u128, word: &[u8]) -> bool
-    ensures { result ≡ bytes_eq (decimal n) word.now }
-{
-    let mut buffer = Buffer::new();
-    buffer.format(n).as_bytes() == word
 }

@@ -6,7 +6,7 @@ ghost use Rattle.influence_line.specs.Fractions.{ratio_text};
 ghost use Rattle.journal_text.specs.Words.{Adds, group, index, list_text, numbers_words, places_words};
 
 use influence_line::Frac;
-use itoa::Buffer;
+use numerals::write_number;
 use permit_days::Day;
 use std::alloc::AllocError;
 
@@ -35,9 +35,7 @@ pub fn day(out: &mut Vec<u8>, day: Day) -> Result<(), AllocError>
 pub fn digits(out: &mut Vec<u8>, n: u64) -> Result<(), AllocError>
     ensures { OnOk result (out.new.items ≡ out.old.items ++ decimal n) }
 {
-    let mut buffer = Buffer::new();
-    out.extend_from_slice(buffer.format(n).as_bytes())?;
-    Ok(())
+    write_number(out, n)
 }
 
 /// The digits of an index, counted from 1.
@@ -258,8 +256,6 @@ fn last_digit(n: u32) -> u8
 fn wide_digits_behind(out: &mut Vec<u8>, before: u8, n: u128) -> Result<(), AllocError>
     ensures { OnOk result (out.new.items ≡ out.old.items ++ (before ∷ decimal n)) }
 {
-    let mut buffer = Buffer::new();
     out.push(before)?;
-    out.extend_from_slice(buffer.format(n).as_bytes())?;
-    Ok(())
+    write_number(out, n)
 }
