@@ -8,6 +8,7 @@ ghost use Rattle.day_run.specs.Served.{IsServed, LoneActorsAreOne};
 use crate::ended::Ended;
 use crate::workers::work_all;
 use analyst_pool::{Gate, most_entries};
+use day_start::prepare;
 use day_text::DayFile;
 use names::NoMemory;
 use office_core::Office;
@@ -30,8 +31,7 @@ pub fn serve<R: Threads + Wait + AllocGlobal + Sync, G: Gate + Sync>(
     ensures base { IfOk result (λ office. office.base ≡ file.base) }
     ensures roads { OnOk result (IsRoads file.base.roads) }
 {
-    let mut file = file;
-    file.learn_applicants(rt.alloc())?;
+    let file = prepare(rt.alloc(), file)?;
     serve_actors(rt, file, gate)
 }
 
