@@ -15,7 +15,9 @@ pub(crate) fn put_nodes(page: &mut Page, size: u32) -> Result<(), AllocError>
     ensures { OnOk result (page.new ≡ after (nodes size) page.old) }
 {
     'rows: for r in 0..size + 1 {
-        put_row_of_nodes(page, r, size)?;
+        'columns: for c in 0..size + 1 {
+            put_node(page, r, c)?;
+        }
     }
     Ok(())
 }
@@ -26,7 +28,9 @@ pub(crate) fn put_segments(page: &mut Page, size: u32) -> Result<(), AllocError>
     ensures { OnOk result (page.new ≡ after (segments size) page.old) }
 {
     'rows: for r in 0..size + 1 {
-        put_row_of_segments(page, r, size)?;
+        'columns: for c in 0..size + 1 {
+            put_joined(page, r, c, size)?;
+        }
     }
     Ok(())
 }
@@ -37,18 +41,9 @@ pub(crate) fn put_spans(page: &mut Page, size: u32) -> Result<(), AllocError>
     ensures { OnOk result (page.new ≡ after (spans size) page.old) }
 {
     'rows: for r in 0..size + 1 {
-        put_row_of_spans(page, r, size)?;
-    }
-    Ok(())
-}
-
-// The nodes of a row.
-fn put_row_of_nodes(page: &mut Page, r: u32, size: u32) -> Result<(), AllocError>
-    requires { size ≤ 40 }
-    ensures { OnOk result (page.new ≡ after (each 0 (size + 1) (λ c. node r c)) page.old) }
-{
-    'columns: for c in 0..size + 1 {
-        put_node(page, r, c)?;
+        'columns: for c in 0..size {
+            put_span(page, r, c)?;
+        }
     }
     Ok(())
 }
@@ -59,18 +54,6 @@ fn put_node(page: &mut Page, r: u32, c: u32) -> Result<(), AllocError>
     ensures { OnOk result (page.new ≡ after (node r c) page.old) }
 {
     page.put("node", &[Field::Cell(b'n', r, c)])
-}
-
-// The segments from the nodes of a row to the east and to the south, and back.
-fn put_row_of_segments(page: &mut Page, r: u32, size: u32) -> Result<(), AllocError>
-    requires size { size ≤ 40 }
-    requires row { r ≤ size }
-    ensures { OnOk result (page.new ≡ after (each 0 (size + 1) (λ c. joined size r c)) page.old) }
-{
-    'columns: for c in 0..size + 1 {
-        put_joined(page, r, c, size)?;
-    }
-    Ok(())
 }
 
 // The segments from a node to the east and to the south, and back.
@@ -130,17 +113,6 @@ fn put_southward(page: &mut Page, r: u32, c: u32, size: u32) -> Result<(), Alloc
         "segment",
         &[Field::Cell(b'u', r, c), there, here, Field::Number(feet)],
     )?;
-    Ok(())
-}
-
-// The spans on the segments of a row.
-fn put_row_of_spans(page: &mut Page, r: u32, size: u32) -> Result<(), AllocError>
-    requires { size ≤ 40 }
-    ensures { OnOk result (page.new ≡ after (each 0 size (λ c. span r c)) page.old) }
-{
-    'columns: for c in 0..size {
-        put_span(page, r, c)?;
-    }
     Ok(())
 }
 

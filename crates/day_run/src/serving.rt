@@ -10,6 +10,7 @@ use crate::ended::Ended;
 use crate::workers::work_all;
 use analyst_pool::{Gate, most_entries};
 use clearance_rules::Steps;
+use day_start::prepare;
 use day_text::DayFile;
 use names::NoMemory;
 use office_core::Office;
@@ -38,8 +39,7 @@ pub fn serve<R: Threads + Wait + AllocGlobal + Sync, G: Gate + Sync, L: Ledger +
     ensures counted { IfOk result (λ done. Counts file.base file.day done.0.history done.1) }
     ensures roads { OnOk result (IsRoads file.base.roads) }
 {
-    let mut file = file;
-    file.learn_applicants(rt.alloc())?;
+    let file = prepare(rt.alloc(), file)?;
     serve_actors(rt, file, gate, blank)
 }
 

@@ -12,7 +12,6 @@ use Rattle.std.proofs.lemmas.List.Quantifiers.{position-Some}
 use Rattle.std.proofs.lemmas.Option.{slice_get-get_or}
 use Rattle.std.proofs.lemmas.Str.Parse.{IsNumeralModel, numerals_by_value, digits_value_short}
 use Rattle.axle_train.specs.declared.axle.Axle.{Axle}
-use Rattle.axle_train.specs.declared.refusal.TrainRefusal.{TrainRefusal}
 use Rattle.axle_train.specs.Bounds.{IsTrain}
 use Rattle.axle_train.specs.Refusals.{refusal_of}
 use Rattle.axle_train.proofs.Accepted.{is_train}
@@ -33,15 +32,14 @@ use Rattle.permit_days.specs.Days.{day_of as day_in_month, month_of, year_of}
 use Rattle.permit_days.specs.declared.refusal.DayRefusal.TheVariants.{NoSuchDay, Shape}
 use Rattle.trip_analysis.specs.declared.application.Application.{Application}
 use Rattle.trip_analysis.specs.declared.base.Truck.{Truck}
-use Rattle.trip_analysis.specs.declared.refusal.ApplicationRefusal.{ApplicationRefusal}
 use Rattle.trip_analysis.specs.Applications.{application_of}
 use Rattle.restriction_log.specs.Changes.{change_of, flag, replaced_by, takes, takes_replaced}
 use Rattle.restriction_log.specs.declared.change.Replaced.{Replaced}
 use Rattle.restriction_log.specs.declared.change.Replaced.TheVariants as replaced
 use Rattle.office_words.specs.declared.entry.Command.{Command}
 use Rattle.office_words.specs.declared.entry.Command.TheVariants as command
-use Rattle.record_text.specs.Causes.{demand, limit, or_bad}
 use Rattle.road_graph.specs.Words.{what_of}
+use Rattle.record_text.specs.Causes.{demand, limit, or_bad, unless_refused}
 use Rattle.record_text.specs.Fields.{day_of as day_field_of, day_or_none, field_of, number_of, posted_of, route_of}
 use Rattle.record_text.specs.Records.{Row, day_in, has_only, judged, name_in, number_in, rows_of}
 use Rattle.record_text.specs.declared.posted.Posted.{Posted}
@@ -49,15 +47,14 @@ use Rattle.record_text.specs.declared.posted.Posted.TheVariants as posted
 use Rattle.record_text.specs.declared.refusal.Cause.{Cause}
 use Rattle.record_text.specs.declared.refusal.RecordCause.TheVariants as bad
 use Rattle.record_text.specs.declared.refusal.Kind.TheVariants as kind
-use Rattle.record_text.proofs.Steps.{Gives, found_some, gives, records_keep, refuses, then_gives, was_demanded, was_within}
+use Rattle.record_text.proofs.Steps.{Gives, found_some, gives, not_refused, records_keep, refuses, then_gives, was_demanded, was_within}
 use Rattle.day_text.specs.Bounds.{DayFilesAreBounded, IsBounded, IsSized, IsWithin}
-use Rattle.day_text.specs.Commands.{all_numbers, applied, apply_fields_of, asked_of, order_of, permit_of, post_of, posting_of, resolved_of, set_day_of, unless_refused, with_order}
+use Rattle.day_text.specs.Commands.{all_numbers, applied, apply_fields_of, asked_of, cause_of, order_of, permit_of, post_of, posting_of, resolved_of, set_day_of, with_order}
 use Rattle.day_text.specs.Days.{ended_day, finished_day, going_on, judge_day, judge_kind, judge_later, judge_opening, opened, opening_of, parts_of, with_actor, with_command, with_road, with_truck}
 use Rattle.day_text.specs.Fleets.{actors_of, fleet_of, truck_names}
 use Rattle.day_text.specs.Kinds.{kind_of}
 use Rattle.day_text.specs.Roads.{limit_of, node_of, roads_of, segment_of, span_of}
-use Rattle.day_text.specs.Trucks.{load_of, truck_fields_of}
-use Rattle.day_text.specs.Trucks.{unless_refused as unless_train_refused}
+use Rattle.day_text.specs.Trucks.{load_of, train_number, truck_fields_of}
 use Rattle.day_text.specs.declared.commands.ApplyFields.{ApplyFields}
 use Rattle.day_text.specs.declared.day_so_far.DaySoFar.{DaySoFar}
 use Rattle.day_text.specs.declared.kind.CommandKind.{CommandKind}
@@ -195,18 +192,14 @@ record IsLoad (load : LoadParts) : Type 0 where
   sizes : is_load load.height load.width load.length ≡ true
   train : IsTrain load.train
 
-train_taken : (axles train : List Axle) (o : Option TrainRefusal) → unless_train_refused axles o ≡ Ok train → (axles ≡ train) × (o ≡ None)
-train_taken axles train None e = (cc, refl)
-train_taken axles train (Some refusal) e = cc
-
 load_gives : (height width long : ℕ) (axles : List Axle) → Gives IsLoad (load_of height width long axles)
 unfolding load_of
 load_gives height width long axles =
     then_gives {r = demand (is_cross_section height) (bad.Range 4)} (λ a high.
     then_gives {r = demand (is_cross_section width) (bad.Range 5)} (λ b wide.
     then_gives {r = demand (is_length long) (bad.Range 6)} (λ c far.
-    then_gives {r = unless_train_refused axles (refusal_of axles)} (λ train taken.
-    let is = train_taken axles train (refusal_of axles) taken in
+    then_gives {r = unless_refused (λ refusal. bad.Train (train_number refusal)) axles (refusal_of axles)} (λ train taken.
+    let is = not_refused (λ refusal. bad.Train (train_number refusal)) axles train (refusal_of axles) taken in
     gives IsLoad (record { height = height; width = width; length = long; train = train }) (record {
       sizes = rw (was_demanded (is_cross_section height) (bad.Range 4) a high, was_demanded (is_cross_section width) (bad.Range 5) b wide) (was_demanded (is_length long) (bad.Range 6) c far);
       train = subst IsTrain is.0 (is_train axles is.1);
@@ -264,10 +257,6 @@ fields_give fields =
 abbrev IsGiven : Roads → Order → Type 0
 IsGiven roads o = IsWithin roads o.command
 
-taken : (a application : Application) (o : Option ApplicationRefusal) → unless_refused a o ≡ Ok application → a ≡ application
-taken a application None e = cc
-taken a application (Some refusal) e = cc
-
 resolved_gives : (d : DaySoFar) (f : ApplyFields) → HasDays f → Gives (IsGiven d.network) (resolved_of d f)
 unfolding resolved_of
 resolved_gives d f h =
@@ -281,7 +270,7 @@ resolved_gives d f h =
     then_gives {r = applied d.network truck from to (asked_of route) first last} (λ application applied_is.
     let a = there_day f.first first h.0 (found_some (bad.Range 7) f.first first first_is) in
     let b = there_day f.last last h.1 (found_some (bad.Range 8) f.last last last_is) in
-    let same = taken (application_of truck from to (asked_of route) first last) application _ applied_is in
+    let same = (not_refused cause_of (application_of truck from to (asked_of route) first last) application _ applied_is).0 in
     gives (IsGiven d.network) (record { actor = actor; command = command.Apply application })
     (subst (λ (x : Application). (is_day_text x.first ≡ true) × (is_day_text x.last ≡ true)) same (a, b))))))))))
 

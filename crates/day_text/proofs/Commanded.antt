@@ -15,7 +15,7 @@ use Rattle.trip_analysis.specs.declared.refusal.ApplicationRefusal.TheVariants.{
 use Rattle.trip_analysis.specs.Applications.{AreAskedThere, AreThere, Sound, application_of, application_refusal, asked_break, route_refusal}
 use Rattle.trip_analysis.specs.Bases.{BaseLists}
 use Rattle.trip_analysis.proofs.Unbroken.{sound_if}
-use Rattle.day_text.specs.Commands.{all_numbers, applied, apply_fields_of, apply_of, asked_of, order_of, permit_of, post_of, posting_of, resolved_of, set_day_of, unless_refused}
+use Rattle.day_text.specs.Commands.{all_numbers, applied, apply_fields_of, apply_of, asked_of, cause_of, order_of, permit_of, post_of, posting_of, resolved_of, set_day_of}
 use Rattle.record_text.specs.Fields.{field_of, posted_of}
 use Rattle.day_text.specs.Fleets.{truck_names}
 use Rattle.office_words.specs.Commands.{MayCarryOut}
@@ -28,7 +28,7 @@ use Rattle.day_text.specs.declared.kind.CommandKind.{CommandKind}
 use Rattle.day_text.specs.declared.kind.CommandKind.TheVariants.{Apply, Post, SetDay, Show, Surrender}
 use Rattle.day_text.specs.declared.orders.Order.{Order}
 use Rattle.record_text.specs.declared.refusal.RecordCause.TheVariants as bad
-use Rattle.record_text.proofs.Steps.{Gives, found_some, gives, then_gives}
+use Rattle.record_text.proofs.Steps.{Gives, found_some, gives, not_refused, then_gives}
 
 -- the number of a name is that of a place
 named_within : (name : List ℕ) (names : List (List ℕ)) (i : ℕ) → number_named name names ≡ Some i → i < length names
@@ -81,10 +81,6 @@ in_order None first last e = (refl, by (is_before last first) e)
     by true e = absurd (cc e)
     by false e = refl
 
-taken : (a application : Application) (o : Option ApplicationRefusal) → unless_refused a o ≡ Ok application → (application ≡ a) × (o ≡ None)
-taken a application None e = (cc, refl)
-taken a application (Some refusal) e = absurd (cc e)
-
 -- the roads and the trucks so far
 abbrev pub base_of : DaySoFar → BaseLists
 base_of d = record { roads = d.network; fleet = d.fleet }
@@ -93,10 +89,10 @@ base_of d = record { roads = d.network; fleet = d.fleet }
 applied_sound : (d : DaySoFar) (truck from to : ℕ) (asked : Option (List ℕ)) (first last : List ℕ) (application : Application)
     → AreThere d.network from to asked → truck < length d.fleet → applied d.network truck from to asked first last ≡ Ok application → Sound (base_of d) application
 applied_sound d truck from to asked first last application there known e =
-    let (is, none) = taken (application_of truck from to asked first last) application (application_refusal d.network from to asked first last) e in
+    let (is, none) = not_refused cause_of (application_of truck from to asked first last) application (application_refusal d.network from to asked first last) e in
     let (away, whole) = apart from to (route_refusal (asked_break d.network.segments from to asked) first last) (from == to) refl none in
     let (unbroken, days) = in_order (asked_break d.network.segments from to asked) first last whole in
-    subst (Sound (base_of d)) (sym is) (sound_if d.network truck from to asked first last there away unbroken days (base_of d) refl known)
+    subst (Sound (base_of d)) is (sound_if d.network truck from to asked first last there away unbroken days (base_of d) refl known)
 
 -- the command is from an actor who is there, and may be given to an office of these roads and trucks
 abbrev pub IsGood : DaySoFar → Order → Type 0

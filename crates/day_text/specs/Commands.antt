@@ -1,6 +1,6 @@
 -- The records of commands: the command that each gives, or the first cause for which it is refused. A command refers to its
 -- actor, its truck and the things of the road network by the names of records before it.
-use Rattle.std.specs.Prelude.{ℕ, ◌==◌, nat_lt, List, [], ◌∷◌, ◌++◌, length, Result, Ok, Err, Option, Some, None, if◌then◌else◌, option_and_then, option_map}
+use Rattle.std.specs.Prelude.{ℕ, ◌==◌, nat_lt, List, [], ◌∷◌, ◌++◌, length, Result, Ok, Option, Some, None, if◌then◌else◌, option_and_then, option_map}
 use Rattle.restriction_log.specs.Changes.{change_of}
 use Rattle.restriction_log.specs.declared.change.Change.{Change}
 use Rattle.restriction_log.specs.declared.change.Change.TheVariants as change
@@ -11,7 +11,7 @@ use Rattle.trip_analysis.specs.declared.application.Application.{Application}
 use Rattle.trip_analysis.specs.declared.refusal.ApplicationRefusal.{ApplicationRefusal}
 use Rattle.trip_analysis.specs.declared.refusal.ApplicationRefusal.TheVariants.{BrokenRoute, DayOrder, SamePlace}
 use Rattle.trip_analysis.specs.Applications.{application_of, application_refusal}
-use Rattle.record_text.specs.Causes.{◌>>=◌, demand, limit, or_bad}
+use Rattle.record_text.specs.Causes.{◌>>=◌, demand, limit, or_bad, unless_refused}
 use Rattle.record_text.specs.Fields.{field_of, posted_of, route_of}
 use Rattle.day_text.specs.Fleets.{truck_names}
 use Rattle.record_text.specs.Records.{Row, day_in, has_only, name_in, number_in}
@@ -24,7 +24,6 @@ use Rattle.day_text.specs.declared.kind.CommandKind.{CommandKind}
 use Rattle.day_text.specs.declared.kind.CommandKind.TheVariants.{Apply, Post, SetDay, Show, Surrender}
 use Rattle.day_text.specs.declared.orders.Order.{Order}
 use Rattle.record_text.specs.declared.refusal.Cause.{Cause}
-use Rattle.record_text.specs.declared.refusal.Cause.TheVariants as why
 use Rattle.record_text.specs.declared.refusal.RecordCause.{RecordCause}
 use Rattle.record_text.specs.declared.refusal.RecordCause.TheVariants as bad
 use Rattle.record_text.specs.declared.refusal.Kind.TheVariants as kind
@@ -56,14 +55,10 @@ cause_of SamePlace = bad.SamePlace
 cause_of (BrokenRoute at) = bad.BrokenRoute
 cause_of DayOrder = bad.DayOrder
 
--- an application that is not refused
-abbrev pub unless_refused : Application → Option ApplicationRefusal → Result Application Cause
-unless_refused application None = Ok application
-unless_refused application (Some refusal) = Err (why.Bad (cause_of refusal))
-
+-- an application that no rule of applications refuses
 abbrev pub applied : Roads → ℕ → ℕ → ℕ → Option (List ℕ) → List ℕ → List ℕ → Result Application Cause
 applied roads truck from to asked first last =
-    unless_refused (application_of truck from to asked first last) (application_refusal roads from to asked first last)
+    unless_refused cause_of (application_of truck from to asked first last) (application_refusal roads from to asked first last)
 
 -- the application of some fields: each name is looked up, each day is one of the calendar, and no rule of applications refuses it
 unfoldable pub resolved_of : DaySoFar → ApplyFields → Result Order Cause

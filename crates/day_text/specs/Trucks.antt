@@ -1,16 +1,15 @@
 -- The record of a truck: truck,NAME,CARRIER,HEIGHT,WIDTH,LENGTH,AXLES
-use Rattle.std.specs.Prelude.{ℕ, List, Option, Some, None, Result, Ok, Err}
+use Rattle.std.specs.Prelude.{ℕ, List, Result, Ok}
 use Rattle.axle_train.specs.declared.axle.Axle.{Axle}
 use Rattle.axle_train.specs.declared.refusal.TrainRefusal.{TrainRefusal}
 use Rattle.axle_train.specs.declared.refusal.TrainRefusal.TheVariants.{TooFew, TooMany, PlaceOrder, Weight, Gross, TooLong}
 use Rattle.axle_train.specs.Refusals.{refusal_of}
-use Rattle.record_text.specs.Causes.{◌>>=◌, demand, or_bad}
+use Rattle.record_text.specs.Causes.{◌>>=◌, demand, or_bad, unless_refused}
 use Rattle.record_text.specs.Fields.{axles_of, field_of}
 use Rattle.record_text.specs.Records.{Row, has_only, name_in, number_in}
 use Rattle.clearance_rules.specs.Loads.{LoadParts, is_cross_section, is_length}
 use Rattle.day_text.specs.declared.truck.TruckFields.{TruckFields}
 use Rattle.record_text.specs.declared.refusal.Cause.{Cause}
-use Rattle.record_text.specs.declared.refusal.Cause.TheVariants as why
 use Rattle.record_text.specs.declared.refusal.RecordCause.TheVariants as bad
 
 -- the fields of the record, each in its form
@@ -25,7 +24,7 @@ truck_fields_of fields = do
   axles ← or_bad (bad.Field 7) (axles_of (field_of fields 6))
   Ok (record { name = name; carrier = carrier; height = height; width = width; length = long; axles = axles })
 
--- the number that a refused train prints
+-- the rule that a refused train breaks, by the number that it prints
 abbrev pub train_number : TrainRefusal → ℕ
 train_number TooFew = 1
 train_number TooMany = 2
@@ -34,16 +33,11 @@ train_number (Weight at) = 4
 train_number Gross = 5
 train_number TooLong = 6
 
--- axles that are a train, or the rule that they break
-abbrev pub unless_refused : List Axle → Option TrainRefusal → Result (List Axle) Cause
-unless_refused axles None = Ok axles
-unless_refused axles (Some refusal) = Err (why.Bad (bad.Train (train_number refusal)))
-
 -- a load: each number in its range, and then the train
 unfoldable pub load_of : ℕ → ℕ → ℕ → List Axle → Result LoadParts Cause
 load_of height width long axles = do
   a ← demand (is_cross_section height) (bad.Range 4)
   b ← demand (is_cross_section width) (bad.Range 5)
   c ← demand (is_length long) (bad.Range 6)
-  train ← unless_refused axles (refusal_of axles)
+  train ← unless_refused (λ refusal. bad.Train (train_number refusal)) axles (refusal_of axles)
   Ok (record { height = height; width = width; length = long; train = train })

@@ -6,12 +6,11 @@ ghost use Rattle.day_text.specs.Days.{day_of, ended_day, parts_of};
 ghost use Rattle.day_text.specs.Laws.{IsDayFile};
 ghost use Rattle.day_text.specs.Refusals.{IsRefusedAs};
 
-use crate::applicants::learn_applicants;
 use crate::day_so_far::DaySoFar;
 use crate::name_set::Names;
 use crate::orders::Order;
 use crate::progress::DayProgress;
-use names::{Name, NoMemory};
+use names::Name;
 use permit_days::Day;
 use record_text::{FileRefusal, RecordCause, RecordRefusal, read_records};
 use std::alloc::Global;
@@ -64,12 +63,16 @@ impl DayFile {
         self.commands.as_slice()
     }
 
-    /// Has the base keep what each truck that applies asks of spans of each length on its roads: whoever serves the day then
-    /// looks it up, and else computes it at each test. Nothing that contracts see changes. `NoMemory` where no memory was left.
-    pub fn learn_applicants(&mut self, alloc: Global) -> Result<(), NoMemory>
-        ensures { self.new ≡ self.old }
+    /// The day file of these parts. Takes no memory.
+    pub fn of_parts(base: Base, day: Day, actors: Names, commands: Vec<Order>) -> DayFile
+        ensures { result ≡ record { base = base; day = day; actors = actors; commands = commands.items } }
     {
-        learn_applicants(alloc, &mut self.base, &self.commands)
+        DayFile {
+            base,
+            day,
+            actors,
+            commands,
+        }
     }
 
     /// The roads and the trucks, the opening day, the actors and the commands. Takes no memory.

@@ -10,6 +10,7 @@ ghost use Rattle.day_trial.specs.Serving.{FollowsOffice, HasCarriedOut, HasServe
 use analyst_pool::{
     Docket, Finder, OpenGate, carry_out, most_entries, scripts_are_short, unfoldings_are_short,
 };
+use day_start::prepare;
 use day_text::{DayFile, Order};
 use names::NoMemory;
 use office_core::{CountedOffice, Office, OneSeat};
@@ -27,8 +28,7 @@ pub fn serve_in_order(alloc: Global, file: DayFile) -> Result<Office, NoMemory>
     ensures served { IfOk result (λ office. IsSerial file office.history) }
     ensures roads { OnOk result (IsRoads file.base.roads) }
 {
-    let mut file = file;
-    file.learn_applicants(alloc)?;
+    let file = prepare(alloc, file)?;
     serve_orders::<Brand, Brand>(alloc, file, Blank::new(1), Blank::new(1))
 }
 

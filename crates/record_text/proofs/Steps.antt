@@ -1,6 +1,6 @@
 -- What a chain of steps keeps, where it is not refused.
 use Rattle.std.proofs.Common.{◌≡◌, ◌+◌, ◌∷◌, [], List, ℕ, Bool, true, false, cond, Result, Ok, Err, Option, Some, None, IfOk, refl, subst}
-use Rattle.record_text.specs.Causes.{◌>>=◌, demand, limit, or_bad}
+use Rattle.record_text.specs.Causes.{◌>>=◌, demand, limit, or_bad, unless_refused}
 use Rattle.record_text.specs.Records.{Row, go_on, is_record, judge_record, judged}
 use Rattle.record_text.specs.declared.refusal.Cause.{Cause}
 use Rattle.record_text.specs.declared.refusal.Cause.TheVariants as why
@@ -30,6 +30,11 @@ then_gives {A} {B} {P} {r} {f} h = by r h
 pub found_some : {A : Type 0} (cause : RecordCause) (o : Option A) (x : A) → or_bad cause o ≡ Ok x → o ≡ Some x
 found_some cause None x e = cc
 found_some cause (Some y) x e = cc
+
+-- a value that nothing refused
+pub not_refused : {A R : Type 0} (cause : R → RecordCause) (x y : A) (o : Option R) → unless_refused cause x o ≡ Ok y → (x ≡ y) × (o ≡ None)
+not_refused cause x y None e = (cc, refl)
+not_refused cause x y (Some refusal) e = absurd (cc e)
 
 pub was_demanded : (b : Bool) (cause : RecordCause) (x : Unit {0}) → demand b cause ≡ Ok x → b ≡ true
 was_demanded true cause x e = refl

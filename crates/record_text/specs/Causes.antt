@@ -20,6 +20,11 @@ abbrev pub or_bad : {A : Type 0} → RecordCause → Option A → Result A Cause
 or_bad cause None = Err (why.Bad cause)
 or_bad cause (Some x) = Ok x
 
+-- a value, or this record is bad for what refuses it
+abbrev pub unless_refused : {A R : Type 0} → (R → RecordCause) → A → Option R → Result A Cause
+unless_refused cause x None = Ok x
+unless_refused cause x (Some refusal) = Err (why.Bad (cause refusal))
+
 -- where a test fails, this record is bad
 abbrev pub demand : Bool → RecordCause → Result (Unit {0}) Cause
 demand holds cause = if holds then Ok tt else Err (why.Bad cause)

@@ -1,4 +1,5 @@
 use crate::fixtures::same;
+use day_start::prepare;
 use day_text::{Cause, DayFile, FileRefusal, Kind, Order, RecordCause, read_check, read_day};
 use office_words::Command;
 use std::alloc::Global;
@@ -153,8 +154,8 @@ fn are_scripts(rt: &impl Abort, scripts: &[Vec<Command>], wanted: Scripts) {
 }
 
 fn deal(rt: &impl Abort, alloc: Global, text: &str, wanted: Scripts) {
-    let mut file = read_day(alloc, text.as_bytes()).expect(rt, text);
-    file.learn_applicants(alloc).expect(rt, "memory");
+    let file = read_day(alloc, text.as_bytes()).expect(rt, text);
+    let file = prepare(alloc, file).expect(rt, "memory");
     let (base, _, scripts) = file.into_scripts(alloc).expect(rt, "memory");
     are_scripts(rt, scripts.as_slice(), wanted);
     drop(base);

@@ -4,8 +4,13 @@ use Rattle.day_maker.specs.Made.{span}
 use Rattle.day_maker.proofs.Pages.{each_end, each_more}
 use Rattle.day_maker.proofs.roads.put_spans.Goals as goal
 
+pub columns-preserved : goal.columns-preserved
+columns-preserved c = each_more (λ k. span c.rows.r k) c.columns.page c.put_span.new.page _ c.columns.c c.args.size (omega arith) c.columns.invariant c.in_ok-put_span.ensures
+
 pub rows-preserved : goal.rows-preserved
-rows-preserved c = each_more (λ r. each 0 c.args.size (λ k. span r k)) c.rows.page c.put_row_of_spans.new.page _ c.rows.r (c.args.size + 1) (omega arith) c.rows.invariant c.in_ok-put_row_of_spans.ensures
+rows-preserved c =
+    let row = each_end (λ k. span c.rows.r k) c.columns.page _ c.columns.c c.args.size (omega arith) c.columns.invariant in
+    each_more (λ r. each 0 c.args.size (λ k. span r k)) c.rows.page c.columns.page _ c.rows.r (c.args.size + 1) (omega arith) c.rows.invariant row
 
 pub returns : goal.returns
 returns c = each_end (λ r. each 0 c.args.size (λ k. span r k)) c.rows.page _ c.rows.r (c.args.size + 1) (omega arith) c.rows.invariant

@@ -1,8 +1,0 @@
-use Rattle.std.proofs.Common.{◌≡◌, ◌+◌, ◌-◌}
-use Rattle.day_maker.specs.Making.{each}
-use Rattle.day_maker.specs.Made.{joined}
-use Rattle.day_maker.specs.Texts.{after}
-use Rattle.day_maker.proofs.roads.put_row_of_segments.Given as goal
-
-abbrev pub invariant-columns : goal.invariant-columns
-invariant-columns l = after (each l.c (l.size + 1 - l.c) (λ k. joined l.size l.r k)) l.page ≡ after (each 0 (l.size + 1) (λ k. joined l.size l.r k)) l.fn.page
