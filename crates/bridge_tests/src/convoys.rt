@@ -81,7 +81,12 @@ fn peaks_of_two_trucks_by_hand(rt: HostRuntime) -> Result<(), Fail> {
     let near = Convoy::new(&truck(), 2, 48)?;
     same(&rt, 48, &(near.trucks(), near.gap()), &(2, 48));
     same(&rt, 48, &(near.axles(), near.closest().len()), &(6, 6));
-    same(&rt, 48, &(near.gross(), near.closest().gross()), &(144000, 144000));
+    same(
+        &rt,
+        48,
+        &(near.gross(), near.closest().gross()),
+        &(144000, 144000),
+    );
     // The rear axle of the first truck and the front axle of the second: 40000 * 115.2 * 115.2 / 240. The shear has the
     // middle axle of the first truck at the left support: 32000 + 32000 * 72 / 240 + 8000 * 24 / 240.
     peaks(&rt, &near, 240, 2211840, 42400);

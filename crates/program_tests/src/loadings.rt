@@ -53,7 +53,11 @@ const REFUSED: [(&[&str], &str, &str); 6] = [
         "truck,HEAVY,ACME,150,102,500,0:200000 1:200000 2:200000 3:200000 4:200000 5:200000,\nend,,,,,,,\n",
         "refused: convoy 3\n",
     ),
-    (&["convoy", "--gap", "2500"], MEETING, "refused: record 1 kind\n"),
+    (
+        &["convoy", "--gap", "2500"],
+        MEETING,
+        "refused: record 1 kind\n",
+    ),
     (&["design"], MEETING, "refused: record 1 kind\n"),
     (&["design"], "", "refused: record 1 end\n"),
 ];

@@ -21,7 +21,8 @@ pub(crate) const FHWA: &str =
 const HS20: &str =
     "truck,HS20,ACME,150,102,500,0:8000 168:32000 336:32000,\nprobe,240,963,,,,,\nend,,,,,,,\n";
 
-const USAGE: &str = "usage: permit_cli check|day|make|trial|design|convoy [--seed N] [--size N] [--trucks N] [--gap N]\n";
+const USAGE: &str =
+    "usage: permit_cli check|day|make|trial|design|convoy [--seed N] [--size N] [--trucks N] [--gap N]\n";
 
 // One actor too many.
 const SEVENTEEN: &str = "\
@@ -233,7 +234,13 @@ fn answers_a_fault_at_each_call(rt: HostRuntime) {
     }
     let refused = run_words(&rt, &["day"], b"", &[], &[1]);
     assert_eq!(rt; refused.status, 5);
-    let refused = run_words(&rt, &["convoy", "--gap", "2500"], FHWA.as_bytes(), &[], &[1]);
+    let refused = run_words(
+        &rt,
+        &["convoy", "--gap", "2500"],
+        FHWA.as_bytes(),
+        &[],
+        &[1],
+    );
     assert_eq!(rt; refused.status, 5);
     let used = run_words(&rt, &[], FHWA.as_bytes(), &[1], &[1]);
     assert_eq!(rt; used.status, 2);
