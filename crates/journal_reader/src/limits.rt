@@ -194,14 +194,14 @@ fn tridem_limit(segment: u32, rest: &[u8]) -> Option<(Limit, &[u8])>
     let (axles, rest) = word(rest)?;
     let (i, j) = group_in(axles)?;
     let (weight, rest) = named_number(rest, "weight")?;
-    let (allowed, rest) = named_number(rest, "over")?;
+    let (pounds, rest) = named_number(rest, "over")?;
     Some((
         Limit::Tridem {
             segment,
             i,
             j,
             weight,
-            allowed,
+            allowed: pounds,
         },
         rest,
     ))
