@@ -5,7 +5,7 @@ use Rattle.csv.specs.Records.{field_at}
 use Rattle.csv.specs.Reading.{strip_bom}
 use Rattle.csv.specs.Writing.{fields_text, is_blank}
 use Rattle.record_text.specs.Records.{Row, rows_of}
-use Rattle.day_text.specs.Days.{DayParts, day_of, finished_day, judge_day, opened, opening_of, parts_of}
+use Rattle.day_text.specs.Days.{DayParts, day_of, finished_day, judge_day, fresh_day, opening_of, file_parts_of}
 use Rattle.record_text.specs.Records.{judged}
 use Rattle.day_maker.specs.Making.{Maker, ◌>>◌}
 use Rattle.day_maker.specs.Made.{actors, commands, ending, made_day, made_rows, nodes, segments, spans, trucks}
@@ -26,7 +26,7 @@ later z = nodes z >> (segments z >> (spans z >> (trucks >> (actors >> (commands 
 
 ending_ends : (z : ℕ) → Ends (InTraffic z four_trucks four_actors (20 * z)) ending
 unfolding field_at
-ending_ends z = ends_put (InTraffic z four_trucks four_actors (20 * z)) (row (codes "end" ∷ [])) (refl, (refl, (refl, (refl, (refl, (refl, (refl, (refl, (refl, tt))))))))) (λ d. (_, refl, record { file = parts_of d; told = λ j. refl }))
+ending_ends z = ends_put (InTraffic z four_trucks four_actors (20 * z)) (row (codes "end" ∷ [])) (refl, (refl, (refl, (refl, (refl, (refl, (refl, (refl, (refl, tt))))))))) (λ d. (_, refl, record { file = file_parts_of d; told = λ j. refl }))
 
 later_ends : (z : ℕ) → 1 ≤ z → z ≤ 40 → Ends (InNodes z 0 0) (later z)
 later_ends z some small =
@@ -45,15 +45,15 @@ later_ends z some small =
 opening_plain : IsPlainRow (row (codes "day" ∷ codes "2026-01-01" ∷ []))
 opening_plain = (refl, (refl, (refl, (refl, (refl, (refl, (refl, (refl, (refl, tt)))))))))
 
-begins : (z : ℕ) → InNodes z 0 0 (opened (codes "2026-01-01"))
+begins : (z : ℕ) → InNodes z 0 0 (fresh_day (codes "2026-01-01"))
 begins z = record { nodes = grid_none 110 (z + 1) z; few = omega arith; segments = refl; spans = refl; fleet = refl; actors = refl; orders = refl }
 
 -- from the state before the opening day to the end
-whole : (seed z : ℕ) (start : DayProgress) (rows : List Row) → 1 ≤ z → z ≤ 40 → rows ≡ made_rows seed z → judge_day start (row (codes "day" ∷ codes "2026-01-01" ∷ [])) ≡ Ok (open_day (opened (codes "2026-01-01")))
+whole : (seed z : ℕ) (start : DayProgress) (rows : List Row) → 1 ≤ z → z ≤ 40 → rows ≡ made_rows seed z → judge_day start (row (codes "day" ∷ codes "2026-01-01" ∷ [])) ≡ Ok (open_day (fresh_day (codes "2026-01-01")))
     → (file : DayParts) × (finished_day (judged judge_day 1 start rows) ≡ Ok file)
 whole seed z start rows some small same first =
-    let (q, rest, end) = (later_ends z some small).ends seed (opened (codes "2026-01-01")) (begins z) in
-    let (j, told) = from_append start (open_day (opened (codes "2026-01-01"))) q (row (codes "day" ∷ codes "2026-01-01" ∷ []) ∷ []) (later z seed).rows (from_one start (open_day (opened (codes "2026-01-01"))) (row (codes "day" ∷ codes "2026-01-01" ∷ [])) opening_plain first) rest 1 in
+    let (q, rest, end) = (later_ends z some small).ends seed (fresh_day (codes "2026-01-01")) (begins z) in
+    let (j, told) = from_append start (open_day (fresh_day (codes "2026-01-01"))) q (row (codes "day" ∷ codes "2026-01-01" ∷ []) ∷ []) (later z seed).rows (from_one start (open_day (fresh_day (codes "2026-01-01"))) (row (codes "day" ∷ codes "2026-01-01" ∷ [])) opening_plain first) rest 1 in
     (end.file, ap (λ (t : List Row). finished_day (judged judge_day 1 start t)) same ∙ (ap finished_day told ∙ end.told j))
 
 -- what is written is read

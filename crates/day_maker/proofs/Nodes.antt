@@ -5,7 +5,7 @@ use Rattle.csv.specs.Records.{field_at}
 use Rattle.road_graph.specs.Adding.{with_node}
 use Rattle.road_graph.specs.Roads.{has_name}
 use Rattle.day_text.specs.Days.{judge_day}
-use Rattle.day_text.specs.Roads.{node_of}
+use Rattle.day_text.specs.Roads.{with_node_of}
 use Rattle.day_maker.specs.Making.{each}
 use Rattle.day_maker.specs.Made.{node, node_name, nodes}
 use Rattle.day_maker.specs.Texts.{row}
@@ -33,7 +33,7 @@ few_places z r c h k l =
     omega arith
 
 node_leads : (z r c : ℕ) → z ≤ 40 → r ≤ z → c ≤ z → Leads (InNodes z r c) (node r c) (InNodes z r (c + 1))
-unfolding node node_of field_at
+unfolding node with_node_of field_at
 node_leads z r c small hr hc =
     leads_put (InNodes z r c) (InNodes z r (c + 1)) (row (codes "node" ∷ node_name r c ∷ []))
     (refl, (refl, (cell_plain 110 r c refl (omega arith) (omega arith), (refl, (refl, (refl, (refl, (refl, (refl, tt)))))))))

@@ -9,7 +9,7 @@ use Rattle.road_graph.specs.Adding.{new_segment, with_segment}
 use Rattle.road_graph.specs.Roads.{has_name, segment_names}
 use Rattle.road_graph.specs.declared.segment.Segment.{Segment}
 use Rattle.day_text.specs.Days.{judge_day}
-use Rattle.day_text.specs.Roads.{segment_of}
+use Rattle.day_text.specs.Roads.{with_segment_of}
 use Rattle.day_maker.specs.Making.{◌>>◌, each, when}
 use Rattle.day_maker.specs.Made.{cell, east_name, eastward, joined, node_name, north_name, segment, segments, south_name, southward, west_name}
 use Rattle.day_maker.specs.Texts.{row}
@@ -53,7 +53,7 @@ Ends z a b a' b' = (a ≤ z) × (b ≤ z) × (a' ≤ z) × (b' ≤ z)
 -- one segment
 segment_leads : (z r c l a b a' b' feet : ℕ) (done : List ℕ) → z ≤ 40 → r ≤ z → c ≤ z → is_name_byte l ≡ true → is_plain l ≡ true → ¬ (IsIn l done) → length done < 4 → Ends z a b a' b' → 1 ≤ feet → feet ≤ 10000000
     → Leads (InSegments z r c done) (segment (cell l r c) (node_name a b) (node_name a' b') feet) (InSegments z r c (l ∷ done))
-unfolding segment_of field_at
+unfolding with_segment_of field_at
 segment_leads z r c l a b a' b' feet done small hr hc good plain free short (ha, hb, ha', hb') low high =
     leads_put (InSegments z r c done) (InSegments z r c (l ∷ done)) (row (codes "segment" ∷ cell l r c ∷ node_name a b ∷ node_name a' b' ∷ decimal feet ∷ []))
     (refl, (refl, (cell_plain l r c plain (omega arith) (omega arith), (cell_plain 110 a b refl (omega arith) (omega arith), (cell_plain 110 a' b' refl (omega arith) (omega arith), (number_plain feet (omega arith), (refl, (refl, (refl, tt)))))))))

@@ -10,7 +10,7 @@ use Rattle.road_graph.specs.Roads.{has_name, segment_names, span_names}
 use Rattle.road_graph.specs.Roads.{number_of as number_named}
 use Rattle.road_graph.specs.declared.segment.Span.{Span}
 use Rattle.day_text.specs.Days.{judge_day}
-use Rattle.day_text.specs.Roads.{span_of}
+use Rattle.day_text.specs.Roads.{with_span_of}
 use Rattle.day_maker.specs.Making.{◌>>=◌, draw, each, put}
 use Rattle.day_maker.specs.Made.{east_name, span, span_name, spans}
 use Rattle.day_maker.specs.Texts.{row}
@@ -78,7 +78,7 @@ apart z r c p names t small hr hc is at e =
 -- one span
 span_put : (z r c inches rating : ℕ) → z ≤ 40 → r ≤ z → c < z → 1 ≤ inches → inches ≤ 6000 → rating ≤ 100000
     → Leads (InSpans z r c) (put (row (codes "span" ∷ span_name r c ∷ east_name r c ∷ decimal inches ∷ decimal rating ∷ []))) (InSpans z r (c + 1))
-unfolding span_of field_at
+unfolding with_span_of field_at
 span_put z r c inches rating small hr hc some long light =
     leads_put (InSpans z r c) (InSpans z r (c + 1)) (row (codes "span" ∷ span_name r c ∷ east_name r c ∷ decimal inches ∷ decimal rating ∷ []))
     (refl, (refl, (cell_plain 98 r c refl (omega arith) (omega arith), (cell_plain 101 r c refl (omega arith) (omega arith), (number_plain inches (omega arith), (number_plain rating (omega arith), (refl, (refl, (refl, tt)))))))))

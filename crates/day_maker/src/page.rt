@@ -23,13 +23,13 @@ pub(crate) struct Page {
 impl Model for Page {
     ghost use Rattle.std.specs.Option.{ForSome};
     ghost use Rattle.day_maker.specs.Texts.{PageParts};
-    ghost use Rattle.day_maker.specs.Writers.{IsReady, written};
+    ghost use Rattle.day_maker.specs.Writers.{IsBetweenRecords, given_text};
 
     ghost Value = { PageParts };
 
-    ghost view = { λ a. record { text = written a.writer; number = a.number } };
+    ghost view = { λ a. record { text = given_text a.writer; number = a.number } };
 
-    ghost invariant = { λ a. ForSome a.writer (λ w. IsReady w) };
+    ghost invariant = { λ a. ForSome a.writer (λ w. IsBetweenRecords w) };
 }
 
 impl Page {

@@ -49,11 +49,11 @@ use Rattle.record_text.specs.declared.refusal.RecordCause.TheVariants as bad
 use Rattle.record_text.specs.declared.refusal.Kind.TheVariants as kind
 use Rattle.record_text.proofs.Steps.{Gives, found_some, gives, not_refused, records_keep, refuses, then_gives, was_demanded, was_within}
 use Rattle.day_text.specs.Bounds.{DayFilesAreBounded, IsBounded, IsSized, IsWithin}
-use Rattle.day_text.specs.Commands.{all_numbers, applied, apply_fields_of, asked_of, cause_of, order_of, permit_of, post_of, posting_of, resolved_of, set_day_of, with_order}
-use Rattle.day_text.specs.Days.{ended_day, finished_day, going_on, judge_day, judge_kind, judge_later, judge_opening, opened, opening_of, parts_of, with_actor, with_command, with_road, with_truck}
+use Rattle.day_text.specs.Commands.{all_numbers, applied, apply_fields_of, asked_route_of, cause_of, order_of, asked_permit_of, post_of, posting_of, resolved_of, set_day_of, with_order}
+use Rattle.day_text.specs.Days.{ended_day, finished_day, going_on, judge_day, judge_kind, judge_later, judge_opening, fresh_day, opening_of, file_parts_of, with_actor, with_command, with_road, with_truck}
 use Rattle.day_text.specs.Fleets.{actors_of, fleet_of, truck_names}
 use Rattle.day_text.specs.Kinds.{kind_of}
-use Rattle.day_text.specs.Roads.{limit_of, node_of, roads_of, segment_of, span_of}
+use Rattle.day_text.specs.Roads.{with_limit_of, with_node_of, roads_of, with_segment_of, with_span_of}
 use Rattle.day_text.specs.Trucks.{load_of, train_number, truck_fields_of}
 use Rattle.day_text.specs.declared.commands.ApplyFields.{ApplyFields}
 use Rattle.day_text.specs.declared.day_so_far.DaySoFar.{DaySoFar}
@@ -102,8 +102,8 @@ named_within : (name : List ℕ) (names : List (List ℕ)) (i : ℕ) → number_
 named_within name names i e = (position-Some (bytes_eq name) names i name e).0
 
 -- the records of the roads
-node_gives : (roads : Roads) (fields : Row) → IsRoads roads → Gives IsRoads (node_of roads fields)
-unfolding node_of
+node_gives : (roads : Roads) (fields : Row) → IsRoads roads → Gives IsRoads (with_node_of roads fields)
+unfolding with_node_of
 node_gives roads fields h =
     then_gives {r = has_only 2 fields} (λ rest _.
     then_gives {r = name_in 2 fields} (λ name _.
@@ -114,8 +114,8 @@ node_gives roads fields h =
 defaults : AreInRange default_values
 defaults = record { height = refl; width = refl; length = refl; gross = refl; allowance = refl; tridem = refl }
 
-segment_gives : (roads : Roads) (fields : Row) → IsRoads roads → Gives IsRoads (segment_of roads fields)
-unfolding segment_of
+segment_gives : (roads : Roads) (fields : Row) → IsRoads roads → Gives IsRoads (with_segment_of roads fields)
+unfolding with_segment_of
 segment_gives roads fields h =
     then_gives {r = has_only 5 fields} (λ rest _.
     then_gives {r = name_in 2 fields} (λ name _.
@@ -146,8 +146,8 @@ span_there roads name i e =
     let many : length (span_names roads.spans) ≡ length roads.spans = length-map roads.spans (λ (s : Span). s.name) in
     omega (arith, many, named_within name (span_names roads.spans) i e)
 
-limit_gives : (roads : Roads) (fields : Row) → IsRoads roads → Gives IsRoads (limit_of roads fields)
-unfolding limit_of
+limit_gives : (roads : Roads) (fields : Row) → IsRoads roads → Gives IsRoads (with_limit_of roads fields)
+unfolding with_limit_of
 limit_gives roads fields h =
     then_gives {r = has_only 4 fields} (λ rest _.
     then_gives {r = name_in 2 fields} (λ name _.
@@ -158,8 +158,8 @@ limit_gives roads fields h =
     let there = segment_there roads name i (found_some (bad.Unknown 2) (number_named name (segment_names roads.segments)) i known) in
     gives IsRoads (with_limit roads i what value) (roads-limit roads i (segment_at roads.segments i) what value h (slice_get-get_or roads.segments i no_segment there) (was_demanded (is_limit what value) (bad.Range 4) a within))))))))
 
-span_gives : (roads : Roads) (fields : Row) → IsRoads roads → Gives IsRoads (span_of roads fields)
-unfolding span_of
+span_gives : (roads : Roads) (fields : Row) → IsRoads roads → Gives IsRoads (with_span_of roads fields)
+unfolding with_span_of
 span_gives roads fields h =
     then_gives {r = has_only 5 fields} (λ rest _.
     then_gives {r = name_in 2 fields} (λ name _.
@@ -267,10 +267,10 @@ resolved_gives d f h =
     then_gives {r = or_bad (bad.Unknown 6) (all_numbers (segment_names d.network.segments) f.route)} (λ route _.
     then_gives {r = or_bad (bad.Range 7) f.first} (λ first first_is.
     then_gives {r = or_bad (bad.Range 8) f.last} (λ last last_is.
-    then_gives {r = applied d.network truck from to (asked_of route) first last} (λ application applied_is.
+    then_gives {r = applied d.network truck from to (asked_route_of route) first last} (λ application applied_is.
     let a = there_day f.first first h.0 (found_some (bad.Range 7) f.first first first_is) in
     let b = there_day f.last last h.1 (found_some (bad.Range 8) f.last last last_is) in
-    let same = (not_refused cause_of (application_of truck from to (asked_of route) first last) application _ applied_is).0 in
+    let same = (not_refused cause_of (application_of truck from to (asked_route_of route) first last) application _ applied_is).0 in
     gives (IsGiven d.network) (record { actor = actor; command = command.Apply application })
     (subst (λ (x : Application). (is_day_text x.first ≡ true) × (is_day_text x.last ≡ true)) same (a, b))))))))))
 
@@ -327,8 +327,8 @@ set_day_gives d fields =
 abbrev IsSmall : ℕ × ℕ → Type 0
 IsSmall x = x.1 ≤ 999999999
 
-permit_gives : (d : DaySoFar) (fields : Row) → Gives IsSmall (permit_of d fields)
-unfolding permit_of
+permit_gives : (d : DaySoFar) (fields : Row) → Gives IsSmall (asked_permit_of d fields)
+unfolding asked_permit_of
 permit_gives d fields =
     then_gives {r = has_only 3 fields} (λ rest _.
     then_gives {r = name_in 2 fields} (λ name _.
@@ -340,8 +340,8 @@ order_gives : (d : DaySoFar) (kind : CommandKind) (fields : Row) → Gives (IsGi
 order_gives d ordered.Apply fields = then_gives {r = apply_fields_of fields} (λ f e. resolved_gives d f ((fields_give fields).ok f e))
 order_gives d ordered.Post fields = post_gives d fields
 order_gives d ordered.SetDay fields = set_day_gives d fields
-order_gives d ordered.Surrender fields = then_gives {r = permit_of d fields} (λ x e. gives (IsGiven d.network) (record { actor = x.0; command = command.Surrender x.1 }) ((permit_gives d fields).ok x e))
-order_gives d ordered.Show fields = then_gives {r = permit_of d fields} (λ x e. gives (IsGiven d.network) (record { actor = x.0; command = command.Show x.1 }) ((permit_gives d fields).ok x e))
+order_gives d ordered.Surrender fields = then_gives {r = asked_permit_of d fields} (λ x e. gives (IsGiven d.network) (record { actor = x.0; command = command.Surrender x.1 }) ((permit_gives d fields).ok x e))
+order_gives d ordered.Show fields = then_gives {r = asked_permit_of d fields} (λ x e. gives (IsGiven d.network) (record { actor = x.0; command = command.Show x.1 }) ((permit_gives d fields).ok x e))
 
 -- roads that have more take what fewer took
 record HasMore (old new : Roads) : Type 0 where
@@ -368,8 +368,8 @@ still_within old new more (command.Day day) h = h
 still_within old new more (command.Surrender number) h = h
 still_within old new more (command.Show number) h = h
 
-node_more : (roads : Roads) (fields : Row) → Gives (HasMore roads) (node_of roads fields)
-unfolding node_of
+node_more : (roads : Roads) (fields : Row) → Gives (HasMore roads) (with_node_of roads fields)
+unfolding with_node_of
 node_more roads fields =
     then_gives {r = has_only 2 fields} (λ rest _.
     then_gives {r = name_in 2 fields} (λ name _.
@@ -377,8 +377,8 @@ node_more roads fields =
     then_gives {r = limit (nat_lt (length roads.nodes) 4096) kind.Nodes} (λ b _.
     gives (HasMore roads) (with_node roads name) (record { segments = omega arith; spans = omega arith })))))
 
-segment_more : (roads : Roads) (fields : Row) → Gives (HasMore roads) (segment_of roads fields)
-unfolding segment_of
+segment_more : (roads : Roads) (fields : Row) → Gives (HasMore roads) (with_segment_of roads fields)
+unfolding with_segment_of
 segment_more roads fields =
     then_gives {r = has_only 5 fields} (λ rest _.
     then_gives {r = name_in 2 fields} (λ name _.
@@ -393,8 +393,8 @@ segment_more roads fields =
     let s : Segment = new_segment name i j feet in
     gives (HasMore roads) (with_segment roads s) (record { segments = omega (arith, length-append roads.segments (s ∷ [])); spans = omega arith })))))))))))
 
-limit_more : (roads : Roads) (fields : Row) → Gives (HasMore roads) (limit_of roads fields)
-unfolding limit_of
+limit_more : (roads : Roads) (fields : Row) → Gives (HasMore roads) (with_limit_of roads fields)
+unfolding with_limit_of
 limit_more roads fields =
     then_gives {r = has_only 4 fields} (λ rest _.
     then_gives {r = name_in 2 fields} (λ name _.
@@ -407,8 +407,8 @@ limit_more roads fields =
       spans = omega arith;
     })))))))
 
-span_more : (roads : Roads) (fields : Row) → Gives (HasMore roads) (span_of roads fields)
-unfolding span_of
+span_more : (roads : Roads) (fields : Row) → Gives (HasMore roads) (with_span_of roads fields)
+unfolding with_span_of
 span_more roads fields =
     then_gives {r = has_only 5 fields} (λ rest _.
     then_gives {r = name_in 2 fields} (λ name _.
@@ -497,7 +497,7 @@ opening_gives fields =
     }))
 
 opening_keeps : (kind : RecordKind) (fields : Row) → Gives Holds (judge_opening kind fields)
-opening_keeps record_kind.Day fields = then_gives {r = opening_of fields} (λ day e. gives Holds (so_far.Open (opened day)) (record {
+opening_keeps record_kind.Day fields = then_gives {r = opening_of fields} (λ day e. gives Holds (so_far.Open (fresh_day day)) (record {
   roads = none_fit;
   fleet = record { few = omega arith; sizes = All-nil _; trains = All-nil _ };
   day = (opening_gives fields).ok day e;
@@ -525,7 +525,7 @@ kind_keeps (so_far.Ended d) kind fields h = refuses Holds _
 step_keeps : (p : DayProgress) (fields : Row) → Holds p → Gives Holds (judge_day p fields)
 step_keeps p fields h = then_gives {r = or_bad bad.Kind (kind_of (field_of fields 0))} (λ kind _. kind_keeps p kind fields h)
 
-bounded : (d : DaySoFar) → IsKept d → IsBounded (parts_of d)
+bounded : (d : DaySoFar) → IsKept d → IsBounded (file_parts_of d)
 bounded d h = record {
   roads = h.roads;
   base = record { few = h.fleet.few; trains = h.fleet.trains };

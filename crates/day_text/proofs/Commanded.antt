@@ -15,7 +15,7 @@ use Rattle.trip_analysis.specs.declared.refusal.ApplicationRefusal.TheVariants.{
 use Rattle.trip_analysis.specs.Applications.{AreAskedThere, AreThere, Sound, application_of, application_refusal, asked_break, route_refusal}
 use Rattle.trip_analysis.specs.Bases.{BaseLists}
 use Rattle.trip_analysis.proofs.Unbroken.{sound_if}
-use Rattle.day_text.specs.Commands.{all_numbers, applied, apply_fields_of, apply_of, asked_of, cause_of, order_of, permit_of, post_of, posting_of, resolved_of, set_day_of}
+use Rattle.day_text.specs.Commands.{all_numbers, applied, apply_fields_of, apply_of, asked_route_of, cause_of, order_of, asked_permit_of, post_of, posting_of, resolved_of, set_day_of}
 use Rattle.record_text.specs.Fields.{field_of, posted_of}
 use Rattle.day_text.specs.Fleets.{truck_names}
 use Rattle.office_words.specs.Commands.{MayCarryOut}
@@ -61,7 +61,7 @@ one_number_more known route front i n name low here is so_far =
     by None = refl
     by (Some more) = ap (λ (l : List ℕ). Some l) (append_assoc front (n ∷ []) more)
 
-asked_there : (roads : Roads) (route : List ℕ) → All (λ i. i < length roads.segments) route → AreAskedThere roads (asked_of route)
+asked_there : (roads : Roads) (route : List ℕ) → All (λ i. i < length roads.segments) route → AreAskedThere roads (asked_route_of route)
 asked_there roads route h = by (length route == 0)
   where
     by : (b : Bool) → AreAskedThere roads (cond b None (Some route))
@@ -108,11 +108,11 @@ resolved_good d f =
     then_gives {r = or_bad (bad.Unknown 6) (all_numbers (segment_names d.network.segments) f.route)} (λ route route_is.
     then_gives {r = or_bad (bad.Range 7) f.first} (λ first _.
     then_gives {r = or_bad (bad.Range 8) f.last} (λ last _.
-    then_gives {r = applied d.network truck from to (asked_of route) first last} (λ application application_is.
+    then_gives {r = applied d.network truck from to (asked_route_of route) first last} (λ application application_is.
     let segments = numbers_within (segment_names d.network.segments) f.route route (found_some (bad.Unknown 6) (all_numbers (segment_names d.network.segments) f.route) route route_is) in
     let many : length (segment_names d.network.segments) ≡ length d.network.segments = length-map d.network.segments (λ (s : Segment). s.name) in
     let trucks : length (truck_names d.fleet) ≡ length d.fleet = length-map d.fleet (λ (t : Truck). t.name) in
-    let there : AreThere d.network from to (asked_of route) = record {
+    let there : AreThere d.network from to (asked_route_of route) = record {
       begins = named_within f.from d.network.nodes from (found_some (bad.Unknown 4) (number_named f.from d.network.nodes) from from_is);
       ends = named_within f.to d.network.nodes to (found_some (bad.Unknown 5) (number_named f.to d.network.nodes) to to_is);
       along = asked_there d.network route (subst (λ (n : ℕ). All (λ i. i < n) route) many segments);
@@ -120,7 +120,7 @@ resolved_good d f =
     let known = subst (λ (n : ℕ). truck < n) trucks (named_within f.truck (truck_names d.fleet) truck (found_some (bad.Unknown 3) (number_named f.truck (truck_names d.fleet)) truck truck_is)) in
     let who = named_within f.actor d.actors actor (found_some (bad.Unknown 2) (number_named f.actor d.actors) actor actor_is) in
     gives (IsGood d) (record { actor = actor; command = command.Apply application })
-    (who, applied_sound d truck from to (asked_of route) first last application there known application_is)))))))))
+    (who, applied_sound d truck from to (asked_route_of route) first last application there known application_is)))))))))
 
 apply_good : (d : DaySoFar) (fields : Row) → Gives (IsGood d) (apply_of d fields)
 apply_good d fields = then_gives {r = apply_fields_of fields} (λ f _. resolved_good d f)
@@ -151,8 +151,8 @@ set_day_good d fields =
 abbrev IsFrom : DaySoFar → ℕ × ℕ → Type 0
 IsFrom d x = x.0 < length d.actors
 
-permit_good : (d : DaySoFar) (fields : Row) → Gives (IsFrom d) (permit_of d fields)
-unfolding permit_of
+permit_good : (d : DaySoFar) (fields : Row) → Gives (IsFrom d) (asked_permit_of d fields)
+unfolding asked_permit_of
 permit_good d fields =
     then_gives {r = has_only 3 fields} (λ rest _.
     then_gives {r = name_in 2 fields} (λ name _.
@@ -164,5 +164,5 @@ pub order_good : (d : DaySoFar) (kind : CommandKind) (fields : Row) → Gives (I
 order_good d Apply fields = apply_good d fields
 order_good d Post fields = post_good d fields
 order_good d SetDay fields = set_day_good d fields
-order_good d Surrender fields = then_gives {r = permit_of d fields} (λ x e. gives (IsGood d) (record { actor = x.0; command = command.Surrender x.1 }) ((permit_good d fields).ok x e, tt))
-order_good d Show fields = then_gives {r = permit_of d fields} (λ x e. gives (IsGood d) (record { actor = x.0; command = command.Show x.1 }) ((permit_good d fields).ok x e, tt))
+order_good d Surrender fields = then_gives {r = asked_permit_of d fields} (λ x e. gives (IsGood d) (record { actor = x.0; command = command.Surrender x.1 }) ((permit_good d fields).ok x e, tt))
+order_good d Show fields = then_gives {r = asked_permit_of d fields} (λ x e. gives (IsGood d) (record { actor = x.0; command = command.Show x.1 }) ((permit_good d fields).ok x e, tt))

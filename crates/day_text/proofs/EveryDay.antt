@@ -8,7 +8,7 @@ use Rattle.trip_analysis.specs.Bases.{BaseLists}
 use Rattle.trip_analysis.specs.declared.base.Truck.{Truck}
 use Rattle.record_text.specs.Causes.{Tells, demand, limit, or_bad}
 use Rattle.day_text.specs.Commands.{order_of, with_order}
-use Rattle.day_text.specs.Days.{DayParts, day_of, ended_day, finished_day, going_on, judge_day, judge_kind, judge_later, judge_opening, opened, opening_of, parts_of, with_actor, with_command, with_road, with_truck}
+use Rattle.day_text.specs.Days.{DayParts, day_of, ended_day, finished_day, going_on, judge_day, judge_kind, judge_later, judge_opening, fresh_day, opening_of, file_parts_of, with_actor, with_command, with_road, with_truck}
 use Rattle.day_text.specs.Fleets.{actors_of, fleet_of, most_actors, truck_names}
 use Rattle.record_text.specs.Fields.{field_of}
 use Rattle.day_text.specs.Kinds.{kind_of}
@@ -44,7 +44,7 @@ sound_more old new kept fleet (command.Surrender number) s = tt
 sound_more old new kept fleet (command.Show number) s = tt
 
 abbrev Keeps : DaySoFar → Type 0
-Keeps d = IsDayFile (parts_of d)
+Keeps d = IsDayFile (file_parts_of d)
 
 all_sound : (old new : BaseLists) → IsKept old.roads new.roads → length old.fleet ≤ length new.fleet → (orders : List Order) → All (λ (o : Order). MayCarryOut old o.command) orders → All (λ (o : Order). MayCarryOut new o.command) orders
 all_sound old new kept fleet orders h = All-weaker (λ (o : Order). MayCarryOut old o.command) (λ (o : Order). MayCarryOut new o.command) (λ o s. sound_more old new kept fleet o.command s) orders h
@@ -130,7 +130,7 @@ Holds (so_far.Ended d) = Keeps d
 goes_on : (r : Result DaySoFar Cause) → Gives Keeps r → Gives Holds (going_on r)
 goes_on r h = then_gives {r = r} (λ d e. gives Holds (so_far.Open d) (h.ok d e))
 
-opens : (day : List ℕ) → Keeps (opened day)
+opens : (day : List ℕ) → Keeps (fresh_day day)
 opens day = record {
   few_actors = omega arith;
   few_commands = omega arith;
@@ -139,7 +139,7 @@ opens day = record {
 }
 
 opening_keeps : (kind : RecordKind) (fields : Row) → Gives Holds (judge_opening kind fields)
-opening_keeps Day fields = then_gives {r = opening_of fields} (λ day _. gives Holds (so_far.Open (opened day)) (opens day))
+opening_keeps Day fields = then_gives {r = opening_of fields} (λ day _. gives Holds (so_far.Open (fresh_day day)) (opens day))
 opening_keeps (Road kind) fields = refuses Holds _
 opening_keeps truck_kind fields = refuses Holds _
 opening_keeps Actor fields = refuses Holds _

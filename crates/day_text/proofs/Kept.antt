@@ -19,7 +19,7 @@ use Rattle.road_graph.specs.Ranges.{is_feet, is_inches, is_limit, is_rating}
 use Rattle.record_text.specs.declared.refusal.Kind.TheVariants as kind
 use Rattle.record_text.specs.Records.{Row, has_only, name_in, number_in}
 use Rattle.record_text.specs.declared.refusal.RecordCause.TheVariants as bad
-use Rattle.day_text.specs.Roads.{limit_of, node_of, roads_of, segment_of, span_of}
+use Rattle.day_text.specs.Roads.{with_limit_of, with_node_of, roads_of, with_segment_of, with_span_of}
 use Rattle.day_text.specs.declared.kind.RoadKind.{RoadKind}
 use Rattle.day_text.specs.declared.kind.RoadKind.TheVariants.{Limit, Node, Segment as segment_kind, Span}
 use Rattle.record_text.proofs.Steps.{Gives, gives, then_gives}
@@ -65,8 +65,8 @@ set_alike (a ∷ xs) (suc i) v same (suc j) s h = set_alike xs i v same j s h
 limit_alike : (xs : List Segment) (i : ℕ) (what : What) (value : ℕ) → LeadAlike xs (set xs i (limited (segment_at xs i) what value))
 limit_alike xs i what value = set_alike xs i (limited (segment_at xs i) what value) (λ u at. let e = get_or_from_slice_get xs i u no_segment at in (ap (λ (s : Segment). s.from) e, ap (λ (s : Segment). s.to) e))
 
-node_kept : (roads : Roads) (fields : Row) → Gives (IsKept roads) (node_of roads fields)
-unfolding node_of
+node_kept : (roads : Roads) (fields : Row) → Gives (IsKept roads) (with_node_of roads fields)
+unfolding with_node_of
 node_kept roads fields =
     then_gives {r = has_only 2 fields} (λ rest _.
     then_gives {r = name_in 2 fields} (λ name _.
@@ -74,8 +74,8 @@ node_kept roads fields =
     then_gives {r = limit (nat_lt (length roads.nodes) 4096) kind.Nodes} (λ b _.
     gives (IsKept roads) _ (record { nodes = omega (arith, length-append roads.nodes (name ∷ [])); segments = λ i s h. (s, h, refl, refl) })))))
 
-segment_kept : (roads : Roads) (fields : Row) → Gives (IsKept roads) (segment_of roads fields)
-unfolding segment_of
+segment_kept : (roads : Roads) (fields : Row) → Gives (IsKept roads) (with_segment_of roads fields)
+unfolding with_segment_of
 segment_kept roads fields =
     then_gives {r = has_only 5 fields} (λ rest _.
     then_gives {r = name_in 2 fields} (λ name _.
@@ -89,8 +89,8 @@ segment_kept roads fields =
     then_gives {r = limit (nat_lt (length roads.segments) 16384) kind.Segments} (λ c _.
     gives (IsKept roads) _ (record { nodes = omega arith; segments = λ i s h. (s, get-front roads.segments _ i s h, refl, refl) })))))))))))
 
-limit_kept : (roads : Roads) (fields : Row) → Gives (IsKept roads) (limit_of roads fields)
-unfolding limit_of
+limit_kept : (roads : Roads) (fields : Row) → Gives (IsKept roads) (with_limit_of roads fields)
+unfolding with_limit_of
 limit_kept roads fields =
     then_gives {r = has_only 4 fields} (λ rest _.
     then_gives {r = name_in 2 fields} (λ name _.
@@ -100,8 +100,8 @@ limit_kept roads fields =
     then_gives {r = demand (is_limit what value) (bad.Range 4)} (λ a _.
     gives (IsKept roads) _ (record { nodes = omega arith; segments = limit_alike roads.segments i what value })))))))
 
-span_kept : (roads : Roads) (fields : Row) → Gives (IsKept roads) (span_of roads fields)
-unfolding span_of
+span_kept : (roads : Roads) (fields : Row) → Gives (IsKept roads) (with_span_of roads fields)
+unfolding with_span_of
 span_kept roads fields =
     then_gives {r = has_only 5 fields} (λ rest _.
     then_gives {r = name_in 2 fields} (λ name _.

@@ -17,8 +17,8 @@ abbrev pub is_check_kind : Row → Bool
 is_check_kind fields = has_kind (codes "truck") fields || has_kind (codes "probe") fields || has_kind (codes "end") fields
 
 -- truck,NAME,CARRIER,HEIGHT,WIDTH,LENGTH,AXLES: each cause in its order
-unfoldable pub truck_of : Row → Result Truck Cause
-truck_of fields = do
+unfoldable pub checked_truck_of : Row → Result Truck Cause
+checked_truck_of fields = do
   t ← truck_fields_of fields
   load ← load_of t.height t.width t.length t.axles
   Ok (record { name = t.name; carrier = t.carrier; load = load })
@@ -37,7 +37,7 @@ probe_of probes fields = do
 -- the first record: it is a truck
 unfoldable pub judge_truck : Row → Result CheckProgress Cause
 judge_truck fields =
-    if has_kind (codes "truck") fields then truck_of fields >>= (λ truck. Ok (so_far.Open (record { truck = truck; probes = [] })))
+    if has_kind (codes "truck") fields then checked_truck_of fields >>= (λ truck. Ok (so_far.Open (record { truck = truck; probes = [] })))
     else Err (why.Bad bad.Order)
 
 -- a record behind the truck: a probe or the end

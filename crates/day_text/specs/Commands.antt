@@ -46,8 +46,8 @@ all_numbers known [] = Some []
 all_numbers known (name ∷ names) = option_and_then (λ i. option_map (λ numbers. i ∷ numbers) (all_numbers known names)) (number_named name known)
 
 -- an empty route asks for none
-abbrev pub asked_of : List ℕ → Option (List ℕ)
-asked_of route = if length route == 0 then None else Some route
+abbrev pub asked_route_of : List ℕ → Option (List ℕ)
+asked_route_of route = if length route == 0 then None else Some route
 
 -- the cause of a record whose application is refused
 abbrev pub cause_of : ApplicationRefusal → RecordCause
@@ -70,7 +70,7 @@ resolved_of d f = do
   route ← or_bad (bad.Unknown 6) (all_numbers (segment_names d.network.segments) f.route)
   first ← or_bad (bad.Range 7) f.first
   last ← or_bad (bad.Range 8) f.last
-  application ← applied d.network truck from to (asked_of route) first last
+  application ← applied d.network truck from to (asked_route_of route) first last
   Ok (record { actor = actor; command = command.Apply application })
 
 -- apply,ACTOR,TRUCK,FROM,TO,ROUTE,FIRST,LAST: the fields in their forms first, and then what they refer to
@@ -111,8 +111,8 @@ set_day_of d fields = do
   Ok (record { actor = actor; command = command.Day day })
 
 -- surrender,ACTOR,NUMBER and show,ACTOR,NUMBER: the actor and the number of a permit
-unfoldable pub permit_of : DaySoFar → Row → Result (ℕ × ℕ) Cause
-permit_of d fields = do
+unfoldable pub asked_permit_of : DaySoFar → Row → Result (ℕ × ℕ) Cause
+asked_permit_of d fields = do
   rest ← has_only 3 fields
   name ← name_in 2 fields
   number ← number_in 3 fields
@@ -120,10 +120,10 @@ permit_of d fields = do
   Ok (actor, number)
 
 abbrev pub surrender_of : DaySoFar → Row → Result Order Cause
-surrender_of d fields = permit_of d fields >>= (λ x. Ok (record { actor = x.0; command = command.Surrender x.1 }))
+surrender_of d fields = asked_permit_of d fields >>= (λ x. Ok (record { actor = x.0; command = command.Surrender x.1 }))
 
 abbrev pub show_of : DaySoFar → Row → Result Order Cause
-show_of d fields = permit_of d fields >>= (λ x. Ok (record { actor = x.0; command = command.Show x.1 }))
+show_of d fields = asked_permit_of d fields >>= (λ x. Ok (record { actor = x.0; command = command.Show x.1 }))
 
 -- the command of a record
 abbrev pub order_of : DaySoFar → CommandKind → Row → Result Order Cause

@@ -37,12 +37,12 @@ opening_of fields = do
   or_bad (bad.Range 2) text
 
 -- a day on which nothing else was said
-abbrev pub opened : List ℕ → DaySoFar
-opened day = record { network = no_roads; day = day; fleet = []; actors = []; orders = [] }
+abbrev pub fresh_day : List ℕ → DaySoFar
+fresh_day day = record { network = no_roads; day = day; fleet = []; actors = []; orders = [] }
 
 -- the first record: it is a day
 abbrev pub judge_opening : RecordKind → Row → Result DayProgress Cause
-judge_opening Day fields = opening_of fields >>= (λ day. Ok (so_far.Open (opened day)))
+judge_opening Day fields = opening_of fields >>= (λ day. Ok (so_far.Open (fresh_day day)))
 judge_opening (Road kind) fields = Err (why.Bad bad.Order)
 judge_opening Truck fields = Err (why.Bad bad.Order)
 judge_opening Actor fields = Err (why.Bad bad.Order)
@@ -87,14 +87,14 @@ abbrev pub judge_day : DayProgress → Row → Result DayProgress Cause
 judge_day progress fields = or_bad bad.Kind (kind_of (field_of fields 0)) >>= (λ kind. judge_kind progress kind fields)
 
 -- the parts of a day file whose records said so much
-abbrev pub parts_of : DaySoFar → DayParts
-parts_of d = record { base = record { roads = d.network; fleet = d.fleet }; day = d.day; actors = d.actors; commands = d.orders }
+abbrev pub file_parts_of : DaySoFar → DayParts
+file_parts_of d = record { base = record { roads = d.network; fleet = d.fleet }; day = d.day; actors = d.actors; commands = d.orders }
 
 -- the file, where its end was told; else the row after the last one is refused
 abbrev pub ended_day : ℕ × DayProgress → Result DayParts (ℕ × Cause)
 ended_day (row, so_far.Start) = Err (row, why.Bad bad.End)
 ended_day (row, so_far.Open d) = Err (row, why.Bad bad.End)
-ended_day (row, so_far.Ended d) = Ok (parts_of d)
+ended_day (row, so_far.Ended d) = Ok (file_parts_of d)
 
 -- the file that was told, or the first refusal
 abbrev pub finished_day : Result (ℕ × DayProgress) (ℕ × Cause) → Result DayParts (ℕ × Cause)

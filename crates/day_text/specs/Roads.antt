@@ -15,8 +15,8 @@ use Rattle.record_text.specs.declared.refusal.RecordCause.TheVariants as bad
 use Rattle.record_text.specs.declared.refusal.Kind.TheVariants as kind
 
 -- node,NAME
-unfoldable pub node_of : Roads → Row → Result Roads Cause
-node_of roads fields = do
+unfoldable pub with_node_of : Roads → Row → Result Roads Cause
+with_node_of roads fields = do
   rest ← has_only 2 fields
   name ← name_in 2 fields
   a ← demand (not (has_name name roads.nodes)) bad.Same
@@ -24,8 +24,8 @@ node_of roads fields = do
   Ok (with_node roads name)
 
 -- segment,NAME,FROM,TO,FEET
-unfoldable pub segment_of : Roads → Row → Result Roads Cause
-segment_of roads fields = do
+unfoldable pub with_segment_of : Roads → Row → Result Roads Cause
+with_segment_of roads fields = do
   rest ← has_only 5 fields
   name ← name_in 2 fields
   from ← name_in 3 fields
@@ -39,8 +39,8 @@ segment_of roads fields = do
   Ok (with_segment roads (new_segment name i j feet))
 
 -- limit,SEGMENT,WHAT,VALUE: the last record for a limit of a segment holds
-unfoldable pub limit_of : Roads → Row → Result Roads Cause
-limit_of roads fields = do
+unfoldable pub with_limit_of : Roads → Row → Result Roads Cause
+with_limit_of roads fields = do
   rest ← has_only 4 fields
   name ← name_in 2 fields
   what ← or_bad (bad.Field 3) (what_of (field_of fields 2))
@@ -50,8 +50,8 @@ limit_of roads fields = do
   Ok (with_limit roads i what value)
 
 -- span,NAME,SEGMENT,INCHES,RATING
-unfoldable pub span_of : Roads → Row → Result Roads Cause
-span_of roads fields = do
+unfoldable pub with_span_of : Roads → Row → Result Roads Cause
+with_span_of roads fields = do
   rest ← has_only 5 fields
   name ← name_in 2 fields
   segment ← name_in 3 fields
@@ -67,7 +67,7 @@ span_of roads fields = do
 
 -- the road network after a record of it
 abbrev pub roads_of : Roads → RoadKind → Row → Result Roads Cause
-roads_of roads Node fields = node_of roads fields
-roads_of roads Segment fields = segment_of roads fields
-roads_of roads Limit fields = limit_of roads fields
-roads_of roads Span fields = span_of roads fields
+roads_of roads Node fields = with_node_of roads fields
+roads_of roads Segment fields = with_segment_of roads fields
+roads_of roads Limit fields = with_limit_of roads fields
+roads_of roads Span fields = with_span_of roads fields

@@ -5,7 +5,7 @@ ghost use Rattle.csv.specs.Records.{fields_of};
 ghost use Rattle.day_text.specs.Refusals.{IsRefusedAs};
 ghost use Rattle.day_text.specs.Spans.{AreSpans, IsSpan};
 ghost use Rattle.record_text.specs.Causes.{Judges, Tells};
-ghost use Rattle.day_text.specs.Checks.{check_of, ended_check, is_check_kind, judge_check, judge_check_kind, judge_probe, judge_truck, probe_of, truck_of};
+ghost use Rattle.day_text.specs.Checks.{check_of, ended_check, is_check_kind, judge_check, judge_check_kind, judge_probe, judge_truck, probe_of, checked_truck_of};
 
 use crate::truck::{load_of, parse_truck};
 use csv::StringRecord;
@@ -151,7 +151,7 @@ fn take_kind(
 }
 
 // Where the first record leads: it is a truck.
-#[tactic(auto, unfolding(crate::specs::Checks::judge_truck, crate::specs::Checks::truck_of))]
+#[tactic(auto, unfolding(crate::specs::Checks::judge_truck, crate::specs::Checks::checked_truck_of))]
 fn take_truck(alloc: Global, row: &StringRecord) -> Result<CheckProgress, RecordRefusal>
     ensures { Judges result (judge_truck (fields_of row.now)) }
 {

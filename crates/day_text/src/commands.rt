@@ -5,7 +5,7 @@ ghost use Rattle.csv.specs.Records.{fields_of};
 ghost use Rattle.road_graph.specs.Roads.{segment_names};
 ghost use Rattle.trip_analysis.specs.Applications.{AreAskedThere};
 ghost use Rattle.record_text.specs.Causes.{Judges};
-ghost use Rattle.day_text.specs.Commands.{all_numbers, apply_fields_of, apply_of, asked_of, cause_of, order_of, permit_of, post_of, posting_of, resolved_of, set_day_of, show_of, surrender_of};
+ghost use Rattle.day_text.specs.Commands.{all_numbers, apply_fields_of, apply_of, asked_route_of, cause_of, order_of, asked_permit_of, post_of, posting_of, resolved_of, set_day_of, show_of, surrender_of};
 
 use crate::day_so_far::DaySoFar;
 use crate::kind::CommandKind;
@@ -84,7 +84,7 @@ fn resolve(alloc: Global, so_far: &DaySoFar, fields: &ApplyFields) -> Result<Ord
     )?;
     let first = or_bad(fields.first, RecordCause::Range(7))?;
     let last = or_bad(fields.last, RecordCause::Range(8))?;
-    let asked = asked_of(&so_far.network, route);
+    let asked = asked_route_of(&so_far.network, route);
     match Application::on(&so_far.network, truck, from, to, asked, first, last) {
         Ok(application) => Ok(Order {
             actor,
@@ -193,9 +193,9 @@ fn numbers_of(
 }
 
 // The route that is asked for; an empty one asks for none.
-fn asked_of(network: &Network, route: Numbers) -> Option<Numbers>
+fn asked_route_of(network: &Network, route: Numbers) -> Option<Numbers>
     requires { All (λ s. s < length network.now.segments) route }
-    ensures value { result ≡ asked_of route }
+    ensures value { result ≡ asked_route_of route }
     ensures there { AreAskedThere network.now result }
 {
     if route.as_slice().is_empty() {
@@ -239,9 +239,9 @@ fn posting(network: &Network, what: Posted, item: &Name, value: u32) -> Result<C
 }
 
 // The actor and the permit's number of a record.
-#[tactic(auto, unfolding(crate::specs::Commands::permit_of))]
+#[tactic(auto, unfolding(crate::specs::Commands::asked_permit_of))]
 fn parse_permit(so_far: &DaySoFar, row: &StringRecord) -> Result<(u32, u32), Cause>
-    ensures { result ≡ permit_of so_far.now (fields_of row.now) }
+    ensures { result ≡ asked_permit_of so_far.now (fields_of row.now) }
 {
     has_only(row, 3)?;
     let actor = name_in(row, 2)?;

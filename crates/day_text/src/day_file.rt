@@ -2,7 +2,7 @@
 
 ghost use Rattle.std.specs.Prelude.{◌≡◌, Ok, IfErr, IfOk};
 ghost use Rattle.record_text.specs.Causes.{Tells};
-ghost use Rattle.day_text.specs.Days.{day_of, ended_day, parts_of};
+ghost use Rattle.day_text.specs.Days.{day_of, ended_day, file_parts_of};
 ghost use Rattle.day_text.specs.Laws.{IsDayFile};
 ghost use Rattle.day_text.specs.Refusals.{IsRefusedAs};
 
@@ -112,7 +112,7 @@ fn finish(progress: DayProgress, row: u64) -> Result<DayFile, FileRefusal>
 
 // The file of what the records said.
 fn closed(so_far: DaySoFar) -> DayFile
-    ensures { result ≡ parts_of so_far }
+    ensures { result ≡ file_parts_of so_far }
 {
     let DaySoFar {
         network,

@@ -3,7 +3,7 @@
 ghost use Rattle.std.specs.Prelude.{◌≡◌};
 ghost use Rattle.csv.specs.Records.{fields_of};
 ghost use Rattle.record_text.specs.Causes.{Grows};
-ghost use Rattle.day_text.specs.Roads.{limit_of, node_of, roads_of, segment_of, span_of};
+ghost use Rattle.day_text.specs.Roads.{with_limit_of, with_node_of, roads_of, with_segment_of, with_span_of};
 
 use crate::kind::RoadKind;
 use csv::StringRecord;
@@ -29,9 +29,9 @@ pub(crate) fn add_road(
 }
 
 // Adds the node of a record.
-#[tactic(auto, unfolding(crate::specs::Roads::node_of))]
+#[tactic(auto, unfolding(crate::specs::Roads::with_node_of))]
 fn add_node(network: &mut Network, row: &StringRecord) -> Result<(), RecordRefusal>
-    ensures { Grows result network.new (node_of network.old (fields_of row.now)) }
+    ensures { Grows result network.new (with_node_of network.old (fields_of row.now)) }
 {
     has_only(row, 2)?;
     let name = name_in(row, 2)?;
@@ -45,9 +45,9 @@ fn add_node(network: &mut Network, row: &StringRecord) -> Result<(), RecordRefus
 }
 
 // Adds the segment of a record.
-#[tactic(auto, using(crate::proofs::Naming::numbered_is_there), unfolding(crate::specs::Roads::segment_of))]
+#[tactic(auto, using(crate::proofs::Naming::numbered_is_there), unfolding(crate::specs::Roads::with_segment_of))]
 fn add_segment(network: &mut Network, row: &StringRecord) -> Result<(), RecordRefusal>
-    ensures { Grows result network.new (segment_of network.old (fields_of row.now)) }
+    ensures { Grows result network.new (with_segment_of network.old (fields_of row.now)) }
 {
     has_only(row, 5)?;
     let name = name_in(row, 2)?;
@@ -67,9 +67,9 @@ fn add_segment(network: &mut Network, row: &StringRecord) -> Result<(), RecordRe
 }
 
 // Sets the limit of a record.
-#[tactic(auto, unfolding(crate::specs::Roads::limit_of))]
+#[tactic(auto, unfolding(crate::specs::Roads::with_limit_of))]
 fn set_limit(network: &mut Network, row: &StringRecord) -> Result<(), RecordRefusal>
-    ensures { Grows result network.new (limit_of network.old (fields_of row.now)) }
+    ensures { Grows result network.new (with_limit_of network.old (fields_of row.now)) }
 {
     has_only(row, 4)?;
     let segment = name_in(row, 2)?;
@@ -84,9 +84,9 @@ fn set_limit(network: &mut Network, row: &StringRecord) -> Result<(), RecordRefu
 }
 
 // Adds the span of a record.
-#[tactic(auto, using(crate::proofs::Naming::numbered_is_there), unfolding(crate::specs::Roads::span_of))]
+#[tactic(auto, using(crate::proofs::Naming::numbered_is_there), unfolding(crate::specs::Roads::with_span_of))]
 fn add_span(network: &mut Network, row: &StringRecord) -> Result<(), RecordRefusal>
-    ensures { Grows result network.new (span_of network.old (fields_of row.now)) }
+    ensures { Grows result network.new (with_span_of network.old (fields_of row.now)) }
 {
     has_only(row, 5)?;
     let name = name_in(row, 2)?;
