@@ -142,10 +142,13 @@ pub so_far_next : (axles : List Axle) (n : ℕ) (best : Option Heaviest) → n +
 so_far_next axles n best within so_far = by (is_tridem axles n) refl best so_far
   where
     none : is_tridem axles n ≡ false → (i j : ℕ) → IsTridem axles i j → i < n + 1 → i < n
-    none e i j is h = elim (cases_lt i n) [ inl before ↦ before | inr from ↦ (
-        let same : i ≡ n = omega (arith, h, from) in
-        absurd (true≢false (sym (tridem_tests axles i j is) ∙ ap (is_tridem axles) same ∙ e))
-        ) ]
+    none e i j is h = elim (cases_lt i n) [
+      | inl before ↦ before
+      | inr from ↦ (
+          let same : i ≡ n = omega (arith, h, from) in
+          absurd (true≢false (sym (tridem_tests axles i j is) ∙ ap (is_tridem axles) same ∙ e))
+          )
+    ]
 
     -- a group that begins with the next axle, where those before it are lighter
     takes : is_tridem axles n ≡ true → ((i j : ℕ) → IsTridem axles i j → i < n → group_weight axles i j < weight_of axles n) → IsHeaviestBefore axles (n + 1) (three_at axles n)
@@ -153,10 +156,13 @@ so_far_next axles n best within so_far = by (is_tridem axles n) refl best so_far
       is_tridem = tridem_means axles n within e;
       weight_is = refl;
       before = omega arith;
-      greatest = λ i j is h. elim (cases_lt i n) [ inl before ↦ omega (arith, lighter i j is before) | inr from ↦ (
-          let same : i ≡ n = omega (arith, h, from) in
-          rw (is.three, same) (omega arith)
-          ) ];
+      greatest = λ i j is h. elim (cases_lt i n) [
+        | inl before ↦ omega (arith, lighter i j is before)
+        | inr from ↦ (
+            let same : i ≡ n = omega (arith, h, from) in
+            rw (is.three, same) (omega arith)
+            )
+      ];
       first = lighter;
     }
 
@@ -171,10 +177,13 @@ so_far_next axles n best within so_far = by (is_tridem axles n) refl best so_far
           is_tridem = so.is_tridem;
           weight_is = so.weight_is;
           before = omega (arith, so.before);
-          greatest = λ i j is inside. elim (cases_lt i n) [ inl before ↦ so.greatest i j is before | inr from ↦ (
-              let same : i ≡ n = omega (arith, inside, from) in
-              rw (is.three, same) (leb-true (weight_of axles n) g.weight h)
-              ) ];
+          greatest = λ i j is inside. elim (cases_lt i n) [
+            | inl before ↦ so.greatest i j is before
+            | inr from ↦ (
+                let same : i ≡ n = omega (arith, inside, from) in
+                rw (is.three, same) (leb-true (weight_of axles n) g.weight h)
+                )
+          ];
           first = so.first;
         }
         chosen false h = takes e (λ i j is before.

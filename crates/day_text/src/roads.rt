@@ -73,7 +73,10 @@ fn set_limit(network: &mut Network, row: &StringRecord) -> Result<(), RecordRefu
 {
     has_only(row, 4)?;
     let segment = name_in(row, 2)?;
-    let what = or_bad(What::of_word(field(row, 2).as_bytes()), RecordCause::Field(3))?;
+    let what = or_bad(
+        What::of_word(field(row, 2).as_bytes()),
+        RecordCause::Field(3),
+    )?;
     let value = number_in(row, 4)?;
     let segment = or_bad(network.segment_named(&segment), RecordCause::Unknown(2))?;
     match network.set_limit(segment, what, value) {

@@ -29,8 +29,15 @@ pub enum Change {
 /// What a change replaces, and by which number: a limit of a segment, or the rating of a span.
 #[derive(Clone, Copy)]
 pub enum Replaced {
-    Limit { segment: u32, what: What, value: u32 },
-    Rating { span: u32, permille: u32 },
+    Limit {
+        segment: u32,
+        what: What,
+        value: u32,
+    },
+    Rating {
+        span: u32,
+        permille: u32,
+    },
 }
 
 impl Change {

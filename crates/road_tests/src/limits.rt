@@ -39,12 +39,7 @@ const TWO_TANDEMS: [(u32, u32); 5] = [
 ];
 
 // A steering axle and three axles 108 in from first to last, to which the bridge formula gives 42,500 lb.
-const THREE_AXLES: [(u32, u32); 4] = [
-    (0, 12_000),
-    (180, 17_000),
-    (234, 17_000),
-    (288, 17_000),
-];
+const THREE_AXLES: [(u32, u32); 4] = [(0, 12_000), (180, 17_000), (234, 17_000), (288, 17_000)];
 
 // Two axles 10 ft apart. On 20 ft the moment is 60,000/(4*240)*180*180, and the shear 30,000 + 15,000.
 const TWO_AXLES: [(u32, u32); 2] = [(0, 30_000), (120, 30_000)];
@@ -419,7 +414,12 @@ fn tridem(pounds: u32, limit: Option<Limit>) -> Row {
     (Change::Tridem { segment: 0, pounds }, limit)
 }
 
-fn weigh_tridems(rt: &impl Abort, alloc: Global, network: &Network, load: &Load) -> Result<(), Fail> {
+fn weigh_tridems(
+    rt: &impl Abort,
+    alloc: Global,
+    network: &Network,
+    load: &Load,
+) -> Result<(), Fail> {
     let over = Some(Limit::Tridem {
         segment: 0,
         i: 1,
@@ -427,7 +427,13 @@ fn weigh_tridems(rt: &impl Abort, alloc: Global, network: &Network, load: &Load)
         weight: 51_000,
         allowed: 50_999,
     });
-    try_each(rt, alloc, network, load, &[tridem(51_000, None), tridem(50_999, over)])?;
+    try_each(
+        rt,
+        alloc,
+        network,
+        load,
+        &[tridem(51_000, None), tridem(50_999, over)],
+    )?;
     let rows = [
         // 51,000 lb of 42,500 lb are 1,200 thousandths
         (

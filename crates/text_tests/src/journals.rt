@@ -144,9 +144,18 @@ const BAD_JOURNALS: [(&str, u64); 24] = [
     ("permit-journal 2", 1),
     ("permit-journal 2\n", 2),
     // what the first format has no words for, posted or named
-    ("permit-journal 1\n1 post segment 1 tridem 50999 = posted 1 recalled -\nend 1\n", 2),
-    ("permit-journal 1\n1 snapshot = refused 0 segment 1 tridem 2-4 weight 51000 over 50999\nend 1\n", 2),
-    ("permit-journal 1\n1 snapshot = outdated 0 fails segment 1 tridem 2-4 weight 51000 over 50999\nend 1\n", 2),
+    (
+        "permit-journal 1\n1 post segment 1 tridem 50999 = posted 1 recalled -\nend 1\n",
+        2,
+    ),
+    (
+        "permit-journal 1\n1 snapshot = refused 0 segment 1 tridem 2-4 weight 51000 over 50999\nend 1\n",
+        2,
+    ),
+    (
+        "permit-journal 1\n1 snapshot = outdated 0 fails segment 1 tridem 2-4 weight 51000 over 50999\nend 1\n",
+        2,
+    ),
     ("permit-journal 1\n", 2),
     // a zero in front; the same line is bad whatever follows
     ("permit-journal 1\n1 snapshot = at 00\nend 1\n", 2),

@@ -6,8 +6,7 @@ use axle_train::Axle;
 use csv::StringRecord;
 use record_text::{
     Cause, FileRefusal, Posted, Progress, RecordCause, RecordRefusal, has_only, number_in,
-    parse_axles, parse_day, parse_name, parse_number, parse_posted, parse_route,
-    read_records,
+    parse_axles, parse_day, parse_name, parse_number, parse_posted, parse_route, read_records,
 };
 use road_graph::What;
 use std::alloc::Global;

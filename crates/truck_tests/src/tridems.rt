@@ -15,10 +15,7 @@ fn train(rt: &impl Abort, alloc: Global, pairs: &[(u32, u32)]) -> Result<Train, 
 }
 
 // Places and weights of axles, and the first axle, the last axle and the weight of the heaviest tridem group, if there is one.
-type Row = (
-    &'static [(u32, u32)],
-    Option<(usize, usize, u32)>,
-);
+type Row = (&'static [(u32, u32)], Option<(usize, usize, u32)>);
 
 const ROWS: [Row; 11] = [
     // three axles 96, 97, 144 and 145 in from first to last
@@ -36,22 +33,40 @@ const ROWS: [Row; 11] = [
     ),
     // the heavier one of two, wherever it stands
     (
-        &[(0, 10), (50, 10), (100, 10), (400, 10), (450, 11), (500, 10)],
+        &[
+            (0, 10),
+            (50, 10),
+            (100, 10),
+            (400, 10),
+            (450, 11),
+            (500, 10),
+        ],
         Some((3, 5, 31)),
     ),
     (
-        &[(0, 10), (50, 11), (100, 10), (400, 10), (450, 10), (500, 10)],
+        &[
+            (0, 10),
+            (50, 11),
+            (100, 10),
+            (400, 10),
+            (450, 10),
+            (500, 10),
+        ],
         Some((0, 2, 31)),
     ),
     // of two that weigh the same the first, also where they share axles
     (
-        &[(0, 10), (50, 10), (100, 10), (400, 10), (450, 10), (500, 10)],
+        &[
+            (0, 10),
+            (50, 10),
+            (100, 10),
+            (400, 10),
+            (450, 10),
+            (500, 10),
+        ],
         Some((0, 2, 30)),
     ),
-    (
-        &[(0, 10), (50, 10), (100, 10), (150, 10)],
-        Some((0, 2, 30)),
-    ),
+    (&[(0, 10), (50, 10), (100, 10), (150, 10)], Some((0, 2, 30))),
 ];
 
 #[test]
