@@ -5,7 +5,7 @@ use Rattle.std.specs.Prelude.{◌==◌, nat_lt}
 use Rattle.std.proofs.lemmas.Bool.{leb-true, ltb-true}
 use Rattle.std.proofs.lemmas.List.Elements.{All-filter, All-map, All-weaker}
 use Rattle.std.proofs.lemmas.List.Sums.{count_by-le-length, length-filter}
-use Rattle.road_graph.specs.Ranges.{is_rating}
+use Rattle.road_graph.specs.Ranges.{is_limit, is_rating}
 use Rattle.road_graph.specs.Roads.{IsRoads, Roads}
 use Rattle.restriction_log.specs.Changes.{replaced_by, takes, takes_replaced}
 use Rattle.restriction_log.specs.declared.change.Replaced.{Replaced}
@@ -106,5 +106,5 @@ journals_read_back bytes history answer h is = printed_is_read history answer (h
 pub journals_have_one_history : DayJournalsHaveOneHistory
 journals_have_one_history bytes other history second h k same =
     one_history history second (journal_of history)
-    (format_for history, has_journal history (histories_fit bytes history h), refl)
-    (format_for second, has_journal second (histories_fit other second k), same)
+    (format_for history, (has_journal history (histories_fit bytes history h), refl))
+    (format_for second, (has_journal second (histories_fit other second k), same))
