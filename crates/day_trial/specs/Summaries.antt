@@ -35,9 +35,9 @@ is_of NoRoad r = is_no_road r
 is_of NotNeeded r = is_not_needed r
 
 -- how many permits a reply recalls
-abbrev pub recalled_by : Reply → ℕ
-recalled_by (reply.Posted version recalled) = length recalled
-recalled_by _ = 0
+abbrev pub recalled_count : Reply → ℕ
+recalled_count (reply.Posted version recalled) = length recalled
+recalled_count _ = 0
 
 -- the version behind a reply: a posting's own, and else that before it
 abbrev pub version_behind : ℕ → Reply → ℕ
@@ -45,9 +45,9 @@ version_behind before (reply.Posted version recalled) = version
 version_behind before _ = before
 
 -- the version behind some entries, from that before them on
-abbrev pub version_after : ℕ → List Entry → ℕ
-version_after before [] = before
-version_after before (e ∷ es) = version_after (version_behind before e.reply) es
+abbrev pub last_version_from : ℕ → List Entry → ℕ
+last_version_from before [] = before
+last_version_from before (e ∷ es) = last_version_from (version_behind before e.reply) es
 
 -- a word, a space, a number and a line feed
 abbrev pub told : List ℕ → ℕ → List ℕ
@@ -62,5 +62,5 @@ summary_of history =
     ++ (told (codes "refused") (count_by (λ e. is_refusal e.reply) history)
     ++ (told (codes "noroad") (count_by (λ e. is_no_road e.reply) history)
     ++ (told (codes "notneeded") (count_by (λ e. is_not_needed e.reply) history)
-    ++ (told (codes "recalled") (sum_by (λ e. recalled_by e.reply) history)
-    ++ told (codes "version") (version_after 0 history))))))
+    ++ (told (codes "recalled") (sum_by (λ e. recalled_count e.reply) history)
+    ++ told (codes "version") (last_version_from 0 history))))))

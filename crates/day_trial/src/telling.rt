@@ -1,7 +1,7 @@
 // The summary of a history.
 
 ghost use Rattle.std.specs.Prelude.{◌≡◌, ◌≤◌, ◌++◌, ◌*◌, ◌^◌, count_by, length, sum_by, IfOk, OnOk};
-ghost use Rattle.day_trial.specs.Summaries.{is_of, is_no_road, is_not_needed, is_permit, is_refusal, recalled_by, summary_of, told, version_after, version_behind};
+ghost use Rattle.day_trial.specs.Summaries.{is_of, is_no_road, is_not_needed, is_permit, is_refusal, recalled_count, summary_of, told, last_version_from, version_behind};
 
 use names::NoMemory;
 use numerals::write_number;
@@ -81,7 +81,7 @@ fn is_of_kind(kind: Kind, reply: &Reply) -> bool
 
 // How many permits are recalled.
 fn recalled(history: &[Entry]) -> u128
-    ensures { result ≡ sum_by (λ e. recalled_by e.reply) history.now }
+    ensures { result ≡ sum_by (λ e. recalled_count e.reply) history.now }
 {
     let mut sum = 0;
     'history: for entry in history {
@@ -92,7 +92,7 @@ fn recalled(history: &[Entry]) -> u128
 
 // How many permits a reply recalls.
 fn recalled_in(reply: &Reply) -> usize
-    ensures { result ≡ recalled_by reply.now }
+    ensures { result ≡ recalled_count reply.now }
 {
     match reply {
         Reply::Posted { recalled, .. } => recalled.as_slice().len(),
@@ -102,7 +102,7 @@ fn recalled_in(reply: &Reply) -> usize
 
 // The version that the last posting names, 0 where there is none.
 fn last_version(history: &[Entry]) -> u32
-    ensures { result ≡ version_after 0 history.now }
+    ensures { result ≡ last_version_from 0 history.now }
 {
     let mut version = 0;
     'history: for entry in history {

@@ -170,7 +170,7 @@ impl Register {
         self.book.len() + 1
     }
 
-    /// The allocator of what it makes.
+    /// The allocator of what it makes, which has no value in contracts.
     pub(crate) fn alloc(&self) -> Global {
         self.alloc
     }
@@ -202,8 +202,10 @@ impl Register {
         ensures change { IfOk result (λ next. next.change ≡ change.now) }
         ensures next { IfOk result (IsNext self.now) }
         ensures of_roads { IfOk result (λ next. AreOf self.now.base.roads next.state) }
-        ensures elsewhere { IfOk result (λ next. MeetElsewhere self.now next.state (touched self.now.base.roads change.now)) }
-        ensures refused { IfErr result (IsPostCause (post_refusal self.now.base.roads self.now.machine.postings change.now)) }
+        ensures elsewhere { IfOk result
+            (λ next. MeetElsewhere self.now next.state (touched self.now.base.roads change.now)) }
+        ensures refused { IfErr result
+            (IsPostCause (post_refusal self.now.base.roads self.now.machine.postings change.now)) }
     {
         self.store.next(self.base.network(), *change)
     }

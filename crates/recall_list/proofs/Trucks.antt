@@ -17,7 +17,7 @@ use Rattle.office_core.specs.Offices.{entry}
 use Rattle.office_core.specs.Happened.{History, Stands}
 use Rattle.office_core.specs.Recalled.{RecalledWereIssued, WasIssuedOnce}
 use Rattle.office_core.proofs.Once.{stands_in}
-use Rattle.recall_list.specs.RecallLists.{HasTrucks, IsThere, truck_by, truck_in}
+use Rattle.recall_list.specs.RecallLists.{HasTrucks, HasTruck, truck_by, truck_in}
 
 abbrev later : ℕ → Option ℕ → Entry → Option ℕ
 later n found e = option_or (truck_by n e.call e.reply) found
@@ -78,5 +78,5 @@ has_trucks base es issued k d within = by (get_or es k d).reply refl
         let on = is_in_from_among n ns j (slice_get-get_or ns j c h) in
         let stands : Stands es (take k es) (entry (get_or es k d).caller (get_or es k d).call (reply.Posted v ns)) = (drop (suc k) es, parts ∙ ap (λ r. take k es ++ entry (get_or es k d).caller (get_or es k d).call r ∷ drop (suc k) es) same) in
         let once = issued (take k es) n (v, ((get_or es k d).caller, (get_or es k d).call, ns, on, stands)) in
-        subst (IsThere base) (sym (found_truck base es (take k es) n once (get_or es k d ∷ drop (suc k) es) parts)) once.there
-    by _ same = All-nil (λ n. IsThere base (truck_in es n))
+        subst (HasTruck base) (sym (found_truck base es (take k es) n once (get_or es k d ∷ drop (suc k) es) parts)) once.there
+    by _ same = All-nil (λ n. HasTruck base (truck_in es n))

@@ -36,9 +36,9 @@ abbrev pub recalls_in : BaseLists → History → List Recall
 recalls_in base es = flat_map (λ e. recalls_by base (truck_in es) e.reply) es
 
 -- what is known of a permit's truck is the number of one that is there
-abbrev pub IsThere : BaseLists → Option ℕ → Type 0
-IsThere base (Some truck) = truck < length base.fleet
-IsThere base None = ⊥
+abbrev pub HasTruck : BaseLists → Option ℕ → Type 0
+HasTruck base (Some truck) = truck < length base.fleet
+HasTruck base None = ⊥
 
 -- the numbers that an answer recalls
 abbrev pub recalled_numbers : Reply → Numbers
@@ -47,4 +47,4 @@ recalled_numbers _ = []
 
 -- the truck of each permit that an answer recalls is known and there
 abbrev pub HasTrucks : BaseLists → (ℕ → Option ℕ) → Reply → Type 0
-HasTrucks base trucks r = All (λ n. IsThere base (trucks n)) (recalled_numbers r)
+HasTrucks base trucks r = All (λ n. HasTruck base (trucks n)) (recalled_numbers r)

@@ -7,7 +7,7 @@ ghost use Rattle.std.specs.Option.{option_or};
 ghost use Rattle.std.specs.Ordering.{nat_cmp};
 ghost use Rattle.office_core.specs.Happened.{application_in};
 ghost use Rattle.office_core.specs.Recalled.{RecalledWereIssued};
-ghost use Rattle.recall_list.specs.RecallLists.{HasTrucks, IsThere, recall_of, recalls_by, recalls_in, truck_by, truck_in};
+ghost use Rattle.recall_list.specs.RecallLists.{HasTrucks, HasTruck, recall_of, recalls_by, recalls_in, truck_by, truck_in};
 
 use names::NoMemory;
 use notice_desk::Recall;
@@ -105,7 +105,7 @@ fn push_each(
     version: u32,
     numbers: &[u32],
 ) -> Result<(), NoMemory>
-    requires { All (λ n. IsThere base.now (get nat_cmp trucks.now n)) numbers.now }
+    requires { All (λ n. HasTruck base.now (get nat_cmp trucks.now n)) numbers.now }
     ensures { OnOk result (recalls.new.items
         ≡ recalls.old.items ++ map (recall_of base.now (get nat_cmp trucks.now) version) numbers.now) }
 {
@@ -117,7 +117,7 @@ fn push_each(
 
 // The recall of a permit of which the truck is known.
 fn recall_of(base: &Base, trucks: &BTreeMap<u32, u32>, version: u32, permit: u32) -> Recall
-    requires { IsThere base.now (get nat_cmp trucks.now permit) }
+    requires { HasTruck base.now (get nat_cmp trucks.now permit) }
     ensures { result ≡ recall_of base.now (get nat_cmp trucks.now) version permit }
 {
     match trucks.get(&permit) {

@@ -1,10 +1,10 @@
 use Rattle.std.proofs.Common.{◌≡◌, ◌≤◌, ◌*◌, take}
 use Rattle.std.specs.Prelude.{sum_by}
-use Rattle.day_trial.specs.Summaries.{recalled_by}
+use Rattle.day_trial.specs.Summaries.{recalled_count}
 use Rattle.day_trial.proofs.telling.recalled.Given as goal
 
 abbrev pub invariant-history : goal.invariant-history
 invariant-history l = record {
-  sum : l.sum ≡ sum_by (λ e. recalled_by e.reply) (take l.entry-index l.history);
+  sum : l.sum ≡ sum_by (λ e. recalled_count e.reply) (take l.entry-index l.history);
   small : l.sum ≤ 18446744073709551615 * l.entry-index;
 }

@@ -1,7 +1,7 @@
 use Rattle.std.proofs.Common.{◌++◌, ap, ◌∙◌, ℕ, length}
 use Rattle.std.specs.Prelude.{codes, count_by, sum_by}
 use Rattle.office_words.specs.declared.entry.Entry.{Entry}
-use Rattle.day_trial.specs.Summaries.{is_no_road, is_not_needed, is_permit, is_refusal, recalled_by, told, version_after}
+use Rattle.day_trial.specs.Summaries.{is_no_road, is_not_needed, is_permit, is_refusal, recalled_count, told, last_version_from}
 use Rattle.day_trial.proofs.Lines.{seven_add}
 use Rattle.day_trial.proofs.telling.text.Goals as goal
 
@@ -13,8 +13,8 @@ returns c =
     (told (codes "refused") (count_by (λ (e : Entry). is_refusal e.reply) c.args.history.now))
     (told (codes "noroad") (count_by (λ (e : Entry). is_no_road e.reply) c.args.history.now))
     (told (codes "notneeded") (count_by (λ (e : Entry). is_not_needed e.reply) c.args.history.now))
-    (told (codes "recalled") (sum_by (λ (e : Entry). recalled_by e.reply) c.args.history.now))
-    (told (codes "version") (version_after 0 c.args.history.now))
+    (told (codes "recalled") (sum_by (λ (e : Entry). recalled_count e.reply) c.args.history.now))
+    (told (codes "version") (last_version_from 0 c.args.history.now))
     c.new-out.ensures.items
     c.in_ok-line.ensures
     (c.in_ok-line-2.ensures ∙ ap (λ (n : ℕ). c.line.new.out.items ++ told (codes "issued") n) c.count.ensures)
