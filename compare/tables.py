@@ -190,10 +190,10 @@ def wrong_governing(program: str | None, name: str) -> Iterator[str]:
     lines = said(program, "design", HS20, [row.inches for row in rows])
     moments = [line.split()[1:] for line in lines if line.startswith("moment")]
     shears = [line.split()[1:] for line in lines if line.startswith("shear")]
-    for row, moment, shear in zip(rows, moments, shears):
+    for row, most, shear in zip(rows, moments, shears):
         loads = ["lane" if row in lane and row.inches >= 1740 else "truck", "lane" if row in lane else "truck"]
-        if not is_printed(row, moment[0], shear[0]) or [moment[1], shear[1]] != loads:
-            yield f"{name}: the design loads on {row.inches} in: {moment} and {shear} are not what is printed"
+        if not is_printed(row, most[0], shear[0]) or [most[1], shear[1]] != loads:
+            yield f"{name}: the design loads on {row.inches} in: {most} and {shear} are not what is printed"
     if not len(moments) == len(shears) == len(rows):
         yield f"{name}: {len(moments)} of {len(rows)} spans are told"
 

@@ -80,4 +80,5 @@ def heaviest_tridem(axles: Axles) -> Group | None:
     """The heaviest group of exactly three axles that are over 96 and at most 144 in apart; the first of equal ones."""
     tridems = [group for group in groups(axles) if group.last - group.first == 2
                and TANDEM_SPREAD < axles[group.last][0] - axles[group.first][0] <= TRIDEM_SPREAD]
-    return max(tridems, key=lambda group: group.weight, default=None)
+    heaviest = max(tridems, key=lambda group: group.weight, default=None)
+    return heaviest
