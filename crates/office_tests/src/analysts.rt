@@ -18,9 +18,8 @@ use std::cell::Cell;
 use std::marker::Brand;
 use std::process::Abort;
 use std::sync::Arc;
-use std::sync::atomic::{AtomicU64, Ordering};
 use std::sync::ledger::{Blank, Ledger};
-use std::thread::{Threads, join_mut, yield_now};
+use std::thread::Threads;
 use trip_analysis::Base;
 
 // Writes down what it is told as the digits of a number: 1 first, then 0 ahead of the command, the number
@@ -447,134 +446,76 @@ fn script(
     Ok(script)
 }
 
-// An actor of this number carries out a script of the row's kinds, for an office that nobody else calls.
-fn run_one<R: Threads + Abort + AllocGlobal + Sync, G: Gate + Sync, L: Ledger + Send + Sync>(
-    rt: &R,
+// An actor of this number with commands of these kinds, for an office that nobody else calls.
+fn worker<'a, L: Ledger>(
+    rt: &impl Abort,
+    alloc: Global,
     base: &Base,
-    office: &mut CountedOffice<L>,
+    office: &'a mut CountedOffice<L>,
     actor: u32,
-    gate: &G,
-    scripted: &Scripted,
-)
-    requires { office.old.office.base ≡ base.now }
+    kinds: &[u32],
+) -> Worker<OneSeat<'a, L>>
+    requires base { office.old.office.base ≡ base.now }
+    ensures { IsReady base.now calls_of result }
 {
-    let &(_, kinds, wanted, entries) = scripted;
-    let script = script(rt, rt.alloc(), base, kinds).expect(rt, "memory");
-    let mut workers = [Worker::new(OneSeat::new(office, 0), actor, script)];
-    run_actors(rt, rt.alloc(), base, &mut workers, gate);
-    assert!(rt; workers[0].outcome() == wanted);
-    drop(workers);
-    assert!(rt; office.office().history().len() == entries);
+    let script = script(rt, alloc, base, kinds).expect(rt, "memory");
+    Worker::new(OneSeat::new(office, 0), actor, script)
 }
 
-// Two actors do so at once, each for an office of its own.
-fn run_each<
-    R: Threads + Abort + AllocGlobal + Sync,
-    G: Gate + Sync,
-    L: Ledger + Send + Sync,
-    F: Ledger + Send + Sync,
->(
-    rt: &R,
-    base: &Base,
-    pair: (Office, Office),
-    gate: &G,
-    scripted: &Scripted,
-    tests: Blank,
-    found: Blank,
-)
-    requires tests_name { tests.name ≡ L.name }
-    requires tests_parts { tests.parts ≡ L.parts }
-    requires tests_some { 0 < tests.parts }
-    requires found_name { found.name ≡ F.name }
-    requires found_parts { found.parts ≡ F.parts }
-    requires found_some { 0 < found.parts }
-    requires one { (pair.0.base ≡ base.now) × (pair.0.history ≡ []) }
-    requires two { (pair.1.base ≡ base.now) × (pair.1.history ≡ []) }
-{
-    let (one, two) = pair;
-    let mut one = CountedOffice::<L>::new(one, tests);
-    let mut two = CountedOffice::<F>::new(two, found);
-    join_mut(
-        rt,
-        &mut || run_one(rt, base, &mut one, 0, gate, scripted),
-        &mut || run_one(rt, base, &mut two, 1, gate, scripted),
-    );
-}
-
-// Two actors carry out the same script, each for an office of its own.
-fn carries_out_twice<R: Threads + Abort + AllocGlobal + Sync, G: Gate + Sync>(
+// A worker carries out its script, and ends with this outcome.
+fn run_worker<R: Threads + Abort + Sync, C: OfficeCalls + Send + Drop>(
     rt: &R,
     alloc: Global,
-    gate: &G,
+    base: &Base,
+    worker: Worker<C>,
+    wanted: Outcome,
+) -> Result<(), AllocError>
+    requires { IsReady base.now C.view worker }
+{
+    let mut workers = Vec::new(alloc);
+    workers.push(worker)?;
+    run_actors(rt, alloc, base, &mut workers, &OpenGate);
+    for worker in &workers {
+        assert!(rt; worker.outcome() == wanted);
+    }
+    Ok(())
+}
+
+// An actor carries out a script of the row's kinds, for this office.
+fn run_one<R: Threads + Abort + Sync, L: Ledger + Send + Sync>(
+    rt: &R,
+    alloc: Global,
+    base: &Base,
+    office: Office,
     scripted: &Scripted,
-) {
-    let most = scripted.0;
+    blank: Blank,
+)
+    requires name { blank.name ≡ L.name }
+    requires parts { blank.parts ≡ L.parts }
+    requires some { 0 < blank.parts }
+    requires base { office.base ≡ base.now }
+    requires opened { office.history ≡ [] }
+{
+    let &(_, kinds, wanted, entries) = scripted;
+    let mut office = CountedOffice::<L>::new(office, blank);
+    let worker = worker(rt, alloc, base, &mut office, 1, kinds);
+    let ran = run_worker(rt, alloc, base, worker, wanted);
+    assert!(rt; ran.is_ok());
+    let held = office.office().history().len();
+    drop(office);
+    assert!(rt; held == entries);
+}
+
+fn carries_out<R: Threads + Abort + Sync>(rt: &R, alloc: Global, scripted: &Scripted) {
     let base = shared_base(rt, alloc, ALONE, 168);
-    let one = office(rt, alloc, share(rt, &base), most);
-    let two = office(rt, alloc, share(rt, &base), most);
-    run_each::<R, G, Brand, Brand>(
-        rt,
-        &base,
-        (one, two),
-        gate,
-        scripted,
-        Blank::new(1),
-        Blank::new(1),
-    );
+    let office = office(rt, alloc, share(rt, &base), scripted.0);
+    run_one::<R, Brand>(rt, alloc, &base, office, scripted, Blank::new(1));
     drop(base);
 }
 
 #[test]
 fn carries_out_scripts(rt: HostRuntime) {
     for scripted in SCRIPTS {
-        carries_out_twice(&rt, rt.alloc(), &OpenGate, scripted);
+        carries_out(&rt, rt.alloc(), scripted);
     }
-}
-
-// Keeps each of two actors ahead of its command, and behind what it found for it, until the other has come
-// as far. It has failed where one has looked 10,000,000 times and the other has not come.
-#[derive(Drop)]
-struct Meeting {
-    came: AtomicU64,
-    failed: AtomicU64,
-}
-
-impl Meeting {
-    fn wait_for(&self, wanted: u64) {
-        self.came.fetch_add(1, Ordering::SeqCst);
-        for _ in 0..10_000_000 {
-            if self.came.load(Ordering::SeqCst) >= wanted {
-                return;
-            }
-            yield_now();
-        }
-        self.failed.store(1, Ordering::SeqCst);
-    }
-}
-
-impl Gate for Meeting {
-    fn before(&self, _actor: u32, _command: u32) {
-        self.wait_for(2);
-    }
-
-    fn between(&self, _actor: u32, _command: u32, _attempt: u32) {
-        self.wait_for(4);
-    }
-
-    fn answered(&self, _actor: u32, _command: u32) {
-        self.came.fetch_add(1, Ordering::SeqCst);
-    }
-}
-
-// Each actor begins before the other has what it proposes, and has that before the other submits.
-#[test]
-fn two_actors_find_what_they_propose_at_once(rt: HostRuntime) {
-    let meeting = Meeting {
-        came: AtomicU64::new(0),
-        failed: AtomicU64::new(0),
-    };
-    let once = (100, [0].as_slice(), Outcome::Done, 2);
-    carries_out_twice(&rt, rt.alloc(), &meeting, &once);
-    assert_eq!(rt; meeting.failed.load(Ordering::SeqCst), 0);
-    assert_eq!(rt; meeting.came.load(Ordering::SeqCst), 6);
 }

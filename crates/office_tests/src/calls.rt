@@ -294,8 +294,7 @@ fn full_in<L: Ledger>(
     rt: &impl Abort,
     alloc: Global,
     office: Office,
-    lines: &str,
-    last: &str,
+    texts: &(&str, &str),
     by_seat: bool,
     blank: Blank,
 ) -> (u32, u32)
@@ -304,6 +303,7 @@ fn full_in<L: Ledger>(
     requires some { 0 < blank.parts }
     requires opened { office.history ≡ [] }
 {
+    let &(lines, last) = texts;
     let mut office = CountedOffice::<L>::new(office, blank);
     let full = serve_each(rt, alloc, &mut office, lines, by_seat);
     let full_then = serve_each(rt, alloc, &mut office, last, by_seat);
@@ -329,8 +329,7 @@ fn check(
             rt,
             alloc,
             office,
-            lines,
-            last,
+            &(lines, last),
             by_seat,
             Blank::new(1),
         );
@@ -367,29 +366,30 @@ fn recalls_just_what_a_posting_makes_fail(rt: HostRuntime) {
 }
 
 // A posting for each of two trucks, of two carriers.
-#[test]
-fn lists_what_postings_recalled(rt: HostRuntime) {
-    let lines = "\
+const TWO_RECALLED: &str = "\
 1 held truck 1 from 1 to 2 asked none days 2026-03-02 2026-03-06 = issued 1 at 0 route 1
 1 held truck 2 from 1 to 2 asked none days 2026-03-02 2026-03-06 = issued 2 at 0 route 1
 2 post segment 1 height 167 = posted 1 recalled 1
 2 post segment 1 height 149 = posted 2 recalled 2
 ";
+
+#[test]
+fn lists_what_postings_recalled(rt: HostRuntime) {
     let alloc = rt.alloc();
     let office = office_about(&rt, alloc, base(&rt, alloc, ALONE, 168), 100);
-    has_recalls::<Brand>(&rt, alloc, office, lines, Blank::new(1));
+    has_recalls::<Brand>(&rt, alloc, office, Blank::new(1));
 }
 
-// The calls of these four lines recall two permits.
-fn has_recalls<L: Ledger>(rt: &impl Abort, alloc: Global, office: Office, lines: &str, blank: Blank)
+// The calls of its lines recall two permits.
+fn has_recalls<L: Ledger>(rt: &impl Abort, alloc: Global, office: Office, blank: Blank)
     requires name { blank.name ≡ L.name }
     requires parts { blank.parts ≡ L.parts }
     requires some { 0 < blank.parts }
     requires opened { office.history ≡ [] }
 {
     let mut counted = CountedOffice::<L>::new(office, blank);
-    let full = serve_each(rt, alloc, &mut counted, lines, false);
-    has_lines(rt, alloc, counted.office(), lines, 4);
+    let full = serve_each(rt, alloc, &mut counted, TWO_RECALLED, false);
+    has_lines(rt, alloc, counted.office(), TWO_RECALLED, 4);
     let listed = recalls(alloc, counted.office().base(), counted.office().history());
     drop(counted);
     are_recalls(rt, listed.expect(rt, "memory"));

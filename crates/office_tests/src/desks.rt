@@ -106,7 +106,10 @@ fn a_look_sees_the_posting_before_it(rt: HostRuntime) {
 }
 
 // Looks behind a posting of the same caller.
-fn look_behind_a_posting<L: Ledger>(rt: &(impl Abort + Wait + AllocGlobal + Sync), blank: Blank)
+fn look_behind_a_posting<L: Ledger + Send + Sync>(
+    rt: &(impl Abort + Wait + AllocGlobal + Sync),
+    blank: Blank,
+)
     requires name { blank.name ≡ L.name }
     requires parts { blank.parts ≡ L.parts }
     requires some { 0 < blank.parts }
@@ -177,14 +180,27 @@ fn call_at_once<L: Ledger + Send + Sync>(
     let (desk, mut root) = start::<L>(rt, rt.alloc(), 1_000, blank);
     let mut one = desk.admit(&mut root);
     let mut two = desk.admit(&mut root);
-    join_mut(
-        rt,
-        &mut || post_and_show(rt, &desk, &mut one, 200),
-        &mut || post_and_show(rt, &desk, &mut two, 200),
-    );
+    both_at_once(rt, &desk, &mut one, &mut two);
     desk.leave(&mut root, one);
     desk.leave(&mut root, two);
     let (office, _tests) = desk.close(root);
     assert_eq!(rt; office.version(), 400);
     assert_eq!(rt; count_calls(rt, &office), [400, 400]);
+}
+
+// Two passes do so at once.
+fn both_at_once<'a, R: Threads + Wait + Sync, L: Ledger + Send + Sync>(
+    rt: &'a R,
+    desk: &'a Desk<L>,
+    one: &'a mut Pass<L>,
+    two: &'a mut Pass<L>,
+)
+    requires one { IsReady desk.now one.old }
+    requires two { IsReady desk.now two.old }
+    ensures one { IsReady desk.now one.new }
+    ensures two { IsReady desk.now two.new }
+{
+    let mut first = || post_and_show(rt, desk, one, 200);
+    let mut second = || post_and_show(rt, desk, two, 200);
+    join_mut(rt, &mut first, &mut second);
 }

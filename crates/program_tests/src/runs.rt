@@ -283,14 +283,14 @@ fn hear<R: Abort + Threads + Wait + AllocGlobal + Sync>(
     failing: &[u32],
     again: &[Recall],
 ) -> (Ran, Vec<Recall>) {
-    hear_counted::<R, Brand>(rt, input, failing, again, Blank::new(1))
+    hear_counted::<R, Brand>(rt, input.as_bytes(), failing, again, Blank::new(1))
 }
 
 // The same with a counter of the office's tests.
 #[tactic(auto, using(notice_desk::proofs::Ready::none_new))]
 fn hear_counted<R: Abort + Threads + Wait + AllocGlobal + Sync, L: Ledger + Send + Sync>(
     rt: &R,
-    input: &str,
+    input: &[u8],
     failing: &[u32],
     again: &[Recall],
     blank: Blank,
@@ -304,7 +304,7 @@ fn hear_counted<R: Abort + Threads + Wait + AllocGlobal + Sync, L: Ledger + Send
     let failing = failing.to_vec(alloc).expect(rt, "memory");
     let notice = MemoryNotice::new(alloc, 4, failing).expect(rt, "memory");
     assert!(rt; add_listener(&mut notices, Box::new(alloc, notice).expect(rt, "memory")));
-    let mut source = source_of(rt, alloc, input.as_bytes(), &[]);
+    let mut source = source_of(rt, alloc, input, &[]);
     let mut sink = sink_of(rt, alloc, &[]);
     let words = list_of(rt, alloc, &["day"]);
     let ended = run::<R, MemorySource, MemorySink, OpenGate, L>(

@@ -414,25 +414,30 @@ fn tridem(pounds: u32, limit: Option<Limit>) -> Row {
     (Change::Tridem { segment: 0, pounds }, limit)
 }
 
+// The group of 51,000 lb is over this limit by a pound.
+fn over_tridem() -> Row {
+    let over = Limit::Tridem {
+        segment: 0,
+        i: 1,
+        j: 3,
+        weight: 51_000,
+        allowed: 50_999,
+    };
+    tridem(50_999, Some(over))
+}
+
 fn weigh_tridems(
     rt: &impl Abort,
     alloc: Global,
     network: &Network,
     load: &Load,
 ) -> Result<(), Fail> {
-    let over = Some(Limit::Tridem {
-        segment: 0,
-        i: 1,
-        j: 3,
-        weight: 51_000,
-        allowed: 50_999,
-    });
     try_each(
         rt,
         alloc,
         network,
         load,
-        &[tridem(51_000, None), tridem(50_999, over)],
+        &[tridem(51_000, None), over_tridem()],
     )?;
     let rows = [
         // 51,000 lb of 42,500 lb are 1,200 thousandths
@@ -450,7 +455,7 @@ fn weigh_tridems(
                 allowance: 1_199,
             }),
         ),
-        tridem(50_999, over),
+        over_tridem(),
         // on 20 ft: 17,000/4*240 of the axle in the middle, and 17,000*66/240*120 of each at its side, twice
         rated(0, 0, moment(rt, 0, 2_142_000, 1_920_000, 0)),
     ];

@@ -1,0 +1,4 @@
+use Rattle.office_tests.proofs.analysts.carries_out.Given as goal
+
+abbrev pub ghosts-run_one : goal.ghosts-run_one
+ghosts-run_one g a = record { name = a.blank.name; parts = a.blank.parts }
