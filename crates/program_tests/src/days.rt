@@ -307,6 +307,52 @@ pub(crate) const MET: &str = "\
     1 submit truck 1 from 1 to 2 asked none days 2026-03-02 2026-03-06 seen 1 cut 1 = refused 1 segment 1 height 168 over 167\n\
     end 5\n";
 
+/// A day of two actors who apply for the same road.
+pub(crate) const BOTH: &str = "\
+    day,2026-03-02,,,,,,\n\
+    node,A,,,,,,\n\
+    node,B,,,,,,\n\
+    segment,S1,A,B,5000,,,\n\
+    limit,S1,height,168,,,,\n\
+    truck,T1,ACME,168,102,720,0:12000 180:17000 228:17000,\n\
+    actor,ann,,,,,,\n\
+    actor,bob,,,,,,\n\
+    apply,ann,T1,A,B,,2026-03-02,2026-03-06\n\
+    apply,bob,T1,A,B,,2026-03-02,2026-03-06\n\
+    end,,,,,,,\n";
+
+/// Its journals, where each has found a route before either submits: who looks first may submit last.
+pub(crate) const BOTH_ISSUED: [&str; 4] = [
+    "\
+    permit-journal 1\n\
+    1 snapshot = at 0\n\
+    2 snapshot = at 0\n\
+    1 submit truck 1 from 1 to 2 asked none days 2026-03-02 2026-03-06 seen 0 route 1 = issued 1 at 0 route 1\n\
+    2 submit truck 1 from 1 to 2 asked none days 2026-03-02 2026-03-06 seen 0 route 1 = issued 2 at 0 route 1\n\
+    end 4\n",
+    "\
+    permit-journal 1\n\
+    1 snapshot = at 0\n\
+    2 snapshot = at 0\n\
+    2 submit truck 1 from 1 to 2 asked none days 2026-03-02 2026-03-06 seen 0 route 1 = issued 1 at 0 route 1\n\
+    1 submit truck 1 from 1 to 2 asked none days 2026-03-02 2026-03-06 seen 0 route 1 = issued 2 at 0 route 1\n\
+    end 4\n",
+    "\
+    permit-journal 1\n\
+    2 snapshot = at 0\n\
+    1 snapshot = at 0\n\
+    1 submit truck 1 from 1 to 2 asked none days 2026-03-02 2026-03-06 seen 0 route 1 = issued 1 at 0 route 1\n\
+    2 submit truck 1 from 1 to 2 asked none days 2026-03-02 2026-03-06 seen 0 route 1 = issued 2 at 0 route 1\n\
+    end 4\n",
+    "\
+    permit-journal 1\n\
+    2 snapshot = at 0\n\
+    1 snapshot = at 0\n\
+    2 submit truck 1 from 1 to 2 asked none days 2026-03-02 2026-03-06 seen 0 route 1 = issued 1 at 0 route 1\n\
+    1 submit truck 1 from 1 to 2 asked none days 2026-03-02 2026-03-06 seen 0 route 1 = issued 2 at 0 route 1\n\
+    end 4\n",
+];
+
 /// A day of two actors on the same road: one applies, the other shuts the road and opens it, four times.
 pub(crate) const OVERTAKING: &str = "\
     day,2026-03-02,,,,,,\n\

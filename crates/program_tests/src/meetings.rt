@@ -1,6 +1,6 @@
 // Days of two actors who meet between what the one finds and its submit, for the tests.
 
-use crate::days::{MEETING, MET, OVERTAKEN, OVERTAKING};
+use crate::days::{BOTH, BOTH_ISSUED, MEETING, MET, OVERTAKEN, OVERTAKING};
 use crate::runs::run_at;
 use analyst_pool::Gate;
 use std::process::Abort;
@@ -84,4 +84,57 @@ fn meets<R: Abort + Threads + Wait + AllocGlobal + Sync>(
 fn posts_while_another_analyses(rt: HostRuntime) {
     meets(&rt, MEETING, 1, MET);
     meets(&rt, OVERTAKING, 8, OVERTAKEN);
+}
+
+// Keeps each of two actors ahead of its command, and behind what it found for it, until the other has come as far. A wait that
+// is too long marks the gate.
+#[derive(Drop)]
+struct Together {
+    came: AtomicU64,
+    failed: AtomicU64,
+}
+
+impl Together {
+    // One more has come. Waits until so many have.
+    fn wait_for(&self, wanted: u64) {
+        self.came.fetch_add(1, Ordering::SeqCst);
+        for _ in 0..100_000_000u64 {
+            if self.came.load(Ordering::SeqCst) >= wanted {
+                return;
+            }
+            yield_now();
+        }
+        self.failed.store(1, Ordering::SeqCst);
+    }
+}
+
+impl Gate for Together {
+    fn before(&self, _actor: u32, _command: u32) {
+        self.wait_for(2);
+    }
+
+    fn between(&self, _actor: u32, _command: u32, _attempt: u32) {
+        self.wait_for(4);
+    }
+
+    fn answered(&self, _actor: u32, _command: u32) {
+        self.came.fetch_add(1, Ordering::SeqCst);
+    }
+}
+
+// Each actor begins before the other has what it proposes, and has that before the other submits.
+#[test]
+fn two_actors_find_what_they_propose_at_once(rt: HostRuntime) {
+    let gate = Together {
+        came: AtomicU64::new(0),
+        failed: AtomicU64::new(0),
+    };
+    let ran = run_at(&rt, &["day"], BOTH.as_bytes(), &[], &[], &gate);
+    let came = gate.came.load(Ordering::SeqCst);
+    assert!(rt; ran.status == 0 && came == 6 && gate.failed.load(Ordering::SeqCst) == 0);
+    let mut is_issued = false;
+    for journal in BOTH_ISSUED {
+        is_issued |= ran.text.as_slice() == journal.as_bytes();
+    }
+    assert!(rt; is_issued);
 }
