@@ -15,6 +15,7 @@ from office_view.journal import read_journal  # noqa: E402
 
 DAY = (EXAMPLES / "template.csv").read_bytes()
 JOURNAL = (EXAMPLES / "template.journal").read_bytes()
+TRIDEM = (EXAMPLES / "tridem.journal").read_bytes()
 
 
 class Shown(html.parser.HTMLParser):
@@ -239,7 +240,7 @@ class BadInput(unittest.TestCase):
 
     def test_what_is_no_journal(self) -> None:
         self.refuses(DAY, b"refused: record 2 kind\n", 5, "the line of a refusal: refused: record 2 kind")
-        self.refuses(DAY, DAY, 5, "is no journal: line 1 is not permit-journal 1")
+        self.refuses(DAY, DAY, 5, "is no journal: line 1 is neither permit-journal 1 nor permit-journal 2")
         self.refuses(b"nothing", JOURNAL, 5, "is no day file (refused: record 1 fields)")
 
     def test_names_the_first_bad_line(self) -> None:
@@ -247,7 +248,9 @@ class BadInput(unittest.TestCase):
         cases = [
             (b"", 1),
             (b"permit-journal 1", 1),
-            (b"permit-journal 2\nend 0\n", 1),
+            (b"permit-journal 3\nend 0\n", 1),
+            (TRIDEM.replace(b"journal 2", b"journal 1", 1), 4),
+            (TRIDEM.replace(b"tridem 2-4", b"tridem 2", 1), 6),
             (b"permit-journal 1\nend 1\n", 2),
             (b"permit-journal 1\nend 0\nx", 3),
             (b"permit-journal 1\nend 0\n\n", 3),
