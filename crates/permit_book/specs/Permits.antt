@@ -8,9 +8,9 @@ use Rattle.permit_book.specs.declared.permit.Mark.TheVariants as mark
 use Rattle.permit_book.specs.declared.permit.Status.{Status}
 use Rattle.permit_book.specs.declared.permit.Status.TheVariants as status
 
--- the trip of a caller's truck along a route, from a first day to a last one
-abbrev pub trip_of : ℕ → ℕ → List ℕ → List ℕ → List ℕ → Trip
-trip_of caller truck route first last = record { caller = caller; truck = truck; route = route; first = first; last = last }
+-- the trip of a caller's truck along any of some routes, each a list of segments, from a first day to a last one
+abbrev pub trip_of : ℕ → ℕ → List (List ℕ) → List ℕ → List ℕ → Trip
+trip_of caller truck routes first last = record { caller = caller; truck = truck; routes = routes; first = first; last = last }
 
 -- what stands where no permit does
 abbrev pub no_permit : Permit

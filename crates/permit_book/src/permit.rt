@@ -30,7 +30,7 @@ pub enum Status {
     Expired,
 }
 
-/// A permit for one trip.
+/// A permit for a trip, once or throughout a year.
 #[derive(Drop)]
 pub struct Permit {
     /// Its number, from 1 on.
@@ -39,7 +39,7 @@ pub struct Permit {
     pub trip: Trip,
     /// The number of the last posting when it was issued.
     pub version: u32,
-    /// The number of the last posting when its route was found.
+    /// The number of the last posting when its routes were found.
     pub seen: u32,
     /// What became of it.
     pub mark: Mark,

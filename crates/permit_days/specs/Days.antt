@@ -1,5 +1,5 @@
 -- Days and their text, YYYY-MM-DD: the extended form of a calendar date in ISO 8601.
-use Rattle.std.specs.Prelude.{ℕ, ◌+◌, ◌-◌, ◌*◌, ℤ, pos, Bool, not, ◌&&◌, ◌==◌, nat_le, List, length, slice_index, slice_range, Result, Ok, Err, if◌then◌else◌}
+use Rattle.std.specs.Prelude.{ℕ, ◌+◌, ◌-◌, ◌*◌, ℤ, pos, negsuc, ◌-ℤ◌, Bool, not, ◌&&◌, ◌==◌, nat_le, List, length, slice_index, slice_range, Result, Ok, Err, if◌then◌else◌}
 use Rattle.std.specs.List.{list_all}
 use Rattle.std.specs.Char.{is_ascii_digit}
 use Rattle.std.specs.Cmp.Lexicographic.{slice_cmp}
@@ -45,6 +45,15 @@ is_day_text text = has_shape text && is_day (year_of text) (month_of text) (day_
 -- the number of the day that a text writes: how many days it lies after 1 January 1970
 abbrev pub number_of : List ℕ → ℤ
 number_of text = days_from_civil (pos (year_of text)) (month_of text) (day_of text)
+
+-- a whole number, or 0 where it is negative
+abbrev pub or_zero : ℤ → ℕ
+or_zero (pos n) = n
+or_zero (negsuc n) = 0
+
+-- how many days the last day lies after the first one; 0 where it does not
+abbrev pub days_between : List ℕ → List ℕ → ℕ
+days_between first last = or_zero (number_of last -ℤ number_of first)
 
 -- the day that a text writes, or why it is none: its shape, or that there is no such day
 abbrev pub reading_of : List ℕ → Result (List ℕ) DayRefusal

@@ -1,10 +1,10 @@
 // What a text that may be a day writes, and whether the calendar has it.
 
-ghost use Rattle.std.specs.Prelude.{◌≡◌, ◌≤◌, ◌<◌, pos, slice_index, true};
+ghost use Rattle.std.specs.Prelude.{◌≡◌, ◌≤◌, ◌<◌, pos, slice_index, true, ◌-ℤ◌};
 ghost use Rattle.std.specs.List.{list_all};
 ghost use Rattle.std.specs.Char.{is_ascii_digit};
 ghost use Rattle.jiff_core.specs.Calendar.{days_from_civil};
-ghost use Rattle.permit_days.specs.Days.{day_of, digit_at, has_shape, is_day, month_of, number_of, pair_at, year_of};
+ghost use Rattle.permit_days.specs.Days.{day_of, digit_at, has_shape, is_day, month_of, number_of, or_zero, pair_at, year_of};
 
 use jiff_core::civil::Date;
 
@@ -94,4 +94,12 @@ pub(crate) fn number(text: &[u8]) -> i32
     ensures { result ≡ number_of text.now }
 {
     number_on_calendar(year(text), pair(text, 5), pair(text, 8))
+}
+
+/// How far the second number lies above the first; 0 where it does not.
+pub(crate) fn days_above(first: i32, last: i32) -> u32
+    ensures { result ≡ or_zero (last -ℤ first) }
+{
+    let days = i64::from(last) - i64::from(first);
+    days.max(0) as u32
 }

@@ -1,9 +1,9 @@
 // A day.
 
 ghost use Rattle.std.specs.Prelude.{◌≡◌, Some, Ok, Err, true};
-ghost use Rattle.permit_days.specs.Days.{is_day_text, number_of, reading_of};
+ghost use Rattle.permit_days.specs.Days.{days_between, is_day_text, number_of, reading_of};
 
-use crate::calendar::{is_shaped, is_there, number};
+use crate::calendar::{days_above, is_shaped, is_there, number};
 use crate::refusal::DayRefusal;
 use std::cmp::Ordering;
 use std::hash::{Hash, Hasher};
@@ -59,6 +59,13 @@ impl Day {
         ensures { result ≡ number_of self }
     {
         number(&self.text())
+    }
+
+    /// How many days it lies after a first day; 0 where it does not. Takes no memory.
+    pub fn days_since(self, first: Day) -> u32
+        ensures { result ≡ days_between first self }
+    {
+        days_above(first.number(), self.number())
     }
 }
 
