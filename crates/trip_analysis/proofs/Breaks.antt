@@ -19,7 +19,7 @@ begins_here segments start from to i path s at begins =
     subst (λ (t : Segment). cond (t.from == from) (break_from segments (start + 1) t.to to path) (Some start) ≡ break_from segments (start + 1) s.to to path) (sym same)
     (ap (λ b. cond b (break_from segments (start + 1) s.to to path) (Some start)) (eq-eqb s.from from begins))
 
-walk_unbroken : (segments : List Segment) (start from to : ℕ) (route : List ℕ) → IsWalk segments every from to route → break_from segments start from to route ≡ None
+pub walk_unbroken : (segments : List Segment) (start from to : ℕ) (route : List ℕ) → IsWalk segments every from to route → break_from segments start from to route ≡ None
 walk_unbroken segments start from to [] walk = ap (λ b. cond b None (Some start)) (eq-eqb from to walk)
 walk_unbroken segments start from to (i ∷ path) walk =
     let (s, at, may, begins, rest) = walk in begins_here segments start from to i path s at begins ∙ walk_unbroken segments (start + 1) s.to to path rest

@@ -1,13 +1,12 @@
 -- What is found holds in the state in which it was found, and speaks of what is there.
 use Rattle.std.proofs.Common.{◌≡◌, ◌+◌, ◌-◌, ◌<◌, ◌≤◌, ◌∷◌, [], ◌==◌, ◌||◌, ◌&&◌, not, ℕ, zero, suc, List, Bool, cond, true, false, length, filter, get_or, refl, ap, sym, ◌∙◌, subst, inl, inr, arith, Option, Some, None, is_none}
 use Rattle.std.specs.Prelude.{slice_get}
-use Rattle.std.specs.List.{All, AllByRecursion as ByRecursion, range_with_len}
-use Rattle.std.proofs.lemmas.List.Elements.{All-from_recursion}
+use Rattle.std.specs.List.{All, AllByRecursion as ByRecursion, concat, range_with_len}
+use Rattle.std.proofs.lemmas.List.Elements.{All-same, recursion_from_All}
 use Rattle.std.proofs.lemmas.Bool.{cases_Bool, eq-eqb, eqb-true}
 use Rattle.std.proofs.lemmas.List.FromFn.{get_or-map-range_with_len}
 use Rattle.std.proofs.lemmas.Option.{slice_get-get_or}
 use Rattle.restriction_log.specs.States.{InForce}
-use Rattle.road_graph.specs.declared.segment.Segment.{Segment}
 use Rattle.road_graph.specs.Roads.{IsRoads, no_segment, segment_at}
 use Rattle.road_graph.proofs.Places.{get_within}
 use Rattle.clearance_rules.specs.declared.limit.Limit.{Limit}
@@ -22,6 +21,7 @@ use Rattle.trip_analysis.specs.declared.finding.Failing.{Failing}
 use Rattle.trip_analysis.specs.Bases.{BaseLists}
 use Rattle.trip_analysis.specs.Applications.{IsAskedWalk, Sound}
 use Rattle.trip_analysis.specs.Findings.{HoldsIn, InRange, IsFinding, IsFoundBy, asked_finding, first_meeting, first_on, first_or, flags_of, is_in, is_passable, leaves, leaving, limit_for, needs_none, what_of}
+use Rattle.trip_analysis.proofs.Joined.{one_joined, walks_there}
 
 pub pick : {A : Type 0} (P : A → Type 0) (b : Bool) (x y : A) → (b ≡ true → P x) → (b ≡ false → P y) → P (cond b x y)
 pick P true x y p q = p refl
@@ -102,8 +102,9 @@ pub record IsUsable (base : BaseLists) (state : InForce) (truck : ℕ) (w : What
 
 free_usable : (base : BaseLists) (state : InForce) (a : Application) (f : Shortest) → IsRoads base.roads → Sound base a → IsShortest base.roads (flags_of base state a.truck) a.from a.to f → IsUsable base state a.truck (what_of f)
 free_usable base state a (shortest.Route segments feet) ok sound h = record {
-  range = λ k d within. shortest_in_range base.roads (flags_of base state a.truck) a.from a.to (shortest.Route segments feet) ok sound.from h k (get_or segments k d) (slice_get-get_or segments k d within);
-  holds = walk_meets base state a.truck a.from a.to segments h.route.walk;
+  range = All-same (λ s. s < length base.roads.segments) (concat (segments ∷ [])) segments (one_joined segments)
+      (λ k d within. shortest_in_range base.roads (flags_of base state a.truck) a.from a.to (shortest.Route segments feet) ok sound.from h k (get_or segments k d) (slice_get-get_or segments k d within));
+  holds = ap (first_on base state a.truck) (one_joined segments) ∙ walk_meets base state a.truck a.from a.to segments h.route.walk;
 }
 free_usable base state a (shortest.Cut reached) ok sound h = record {
   range = record { rising = h.nodes.rising };
@@ -127,20 +128,17 @@ fails_on : (base : BaseLists) (state : InForce) (truck : ℕ) (P : ℕ → Type 
 fails_on base state truck P [] h = tt
 fails_on base state truck P (s ∷ rest) h = fails_first base state truck P s (limit_for base state truck s) (first_on base state truck rest) refl h.0 (fails_on base state truck P rest h.1)
 
-asked_usable : (base : BaseLists) (state : InForce) (truck : ℕ) (route : List ℕ) (f : Option Failing) → first_on base state truck route ≡ f → All (λ s. s < length base.roads.segments) route → FailsWith base state truck (λ s. s < length base.roads.segments) f → IsUsable base state truck (asked_finding f route)
-asked_usable base state truck route (Some f) e all h = record { range = h.0; holds = h.1 }
-asked_usable base state truck route None e all h = record { range = all; holds = e }
+asked_usable : (base : BaseLists) (state : InForce) (truck : ℕ) (routes : List (List ℕ)) (f : Option Failing) → first_on base state truck (concat routes) ≡ f → All (λ s. s < length base.roads.segments) (concat routes) → FailsWith base state truck (λ s. s < length base.roads.segments) f
+    → IsUsable base state truck (asked_finding f routes)
+asked_usable base state truck routes (Some f) e all h = record { range = h.0; holds = h.1 }
+asked_usable base state truck routes None e all h = record { range = all; holds = e }
 
--- the segments of a walk are there
-pub walk_there : (segments : List Segment) (may : ℕ → Bool) (a b : ℕ) (path : List ℕ) → IsWalk segments may a b path → ByRecursion (λ s. s < length segments) path
-walk_there segments may a b [] walk = tt
-walk_there segments may a b (i ∷ path) walk = let (s, at, may1, from, rest) = walk in (get_within segments i s at, walk_there segments may s.to b path rest)
-
-by_usable : (base : BaseLists) (state : InForce) (a : Application) (w : What) (asked : Option (List ℕ)) → IsRoads base.roads → Sound base a → IsAskedWalk base.roads a.from a.to asked → IsFoundBy base state a asked w → IsUsable base state a.truck w
-by_usable base state a w (Some route) ok sound walk h =
-    let there = walk_there base.roads.segments every a.from a.to route walk in
-    subst (IsUsable base state a.truck) (sym h) (asked_usable base state a.truck route (first_on base state a.truck route) refl (All-from_recursion (λ s. s < length base.roads.segments) route there) (fails_on base state a.truck (λ s. s < length base.roads.segments) route there))
-by_usable base state a w None ok sound walk h =
+by_usable : (base : BaseLists) (state : InForce) (a : Application) (w : What) (asked : Option (List (List ℕ))) → IsRoads base.roads → Sound base a → IsAskedWalk base.roads a.from a.to asked → IsFoundBy base state a asked w → IsUsable base state a.truck w
+by_usable base state a w (Some routes) ok sound walks h =
+    let there = walks_there base.roads.segments every a.from a.to routes walks in
+    let each = recursion_from_All (λ s. s < length base.roads.segments) (concat routes) there in
+    subst (IsUsable base state a.truck) (sym h) (asked_usable base state a.truck routes (first_on base state a.truck (concat routes)) refl there (fails_on base state a.truck (λ s. s < length base.roads.segments) (concat routes) each))
+by_usable base state a w None ok sound walks h =
     let (f, is_found, same) = h in subst (IsUsable base state a.truck) (sym same) (free_usable base state a f ok sound is_found)
 
 pub usable : (base : BaseLists) (state : InForce) (a : Application) (w : What) → IsRoads base.roads → Sound base a → IsFinding base state a w → IsUsable base state a.truck w

@@ -9,3 +9,6 @@ pub mod Flags
 pub mod KnownAt
 pub mod Following
 pub mod Counting
+pub mod Joined
+pub mod Learning
+pub mod Routes

@@ -1,7 +1,7 @@
 -- What findings mean on the road.
 use Rattle.std.proofs.Common.{◌≡◌, ◌<◌, ◌∷◌, [], ℕ, List, Bool, true, length, refl, ap, sym, ◌∙◌, subst, inl, inr, Option, Some, None}
 use Rattle.std.specs.Prelude.{is_none}
-use Rattle.std.specs.List.{All, AllByRecursion as ByRecursion}
+use Rattle.std.specs.List.{All, AllByRecursion as ByRecursion, concat}
 use Rattle.std.proofs.lemmas.Bool.{cases_Bool}
 use Rattle.std.proofs.lemmas.List.Elements.{All-cons, All-from_recursion, All-nil}
 use Rattle.restriction_log.specs.States.{InForce}
@@ -54,12 +54,15 @@ flags_allow base state truck i within may = sym (flag_is base state truck i with
 allow_flags : (base : BaseLists) (state : InForce) (truck : ℕ) → Allows base.roads.segments (is_passable base state truck) (flagged (flags_of base state truck))
 allow_flags base state truck i within may = flag_is base state truck i within ∙ may
 
-free_route : (base : BaseLists) (state : InForce) (truck a b : ℕ) (route : List ℕ) (f : Shortest) → IsShortest base.roads (flags_of base state truck) a b f → what.Route route ≡ what_of f → IsRoute base.roads.segments (is_passable base state truck) a b route
-free_route base state truck a b route (shortest.Route segments feet) h e =
-    let same : segments ≡ route = cc in
-    subst (IsRoute base.roads.segments (is_passable base state truck) a b) same (route_by base.roads.segments (flagged (flags_of base state truck)) (is_passable base state truck) a b segments (flags_allow base state truck) (allow_flags base state truck) h.route)
-free_route base state truck a b route (shortest.Cut reached) h e = absurd (cc)
-free_route base state truck a b route (shortest.NoRoad reached) h e = absurd (cc)
+free_route : (base : BaseLists) (state : InForce) (truck a b : ℕ) (routes : List (List ℕ)) (f : Shortest) → IsShortest base.roads (flags_of base state truck) a b f → what.Route routes ≡ what_of f
+    → (route : List ℕ) × (routes ≡ route ∷ []) × IsRoute base.roads.segments (is_passable base state truck) a b route
+free_route base state truck a b routes (shortest.Route segments feet) h e = (
+  segments,
+  cc,
+  route_by base.roads.segments (flagged (flags_of base state truck)) (is_passable base state truck) a b segments (flags_allow base state truck) (allow_flags base state truck) h.route,
+)
+free_route base state truck a b routes (shortest.Cut reached) h e = absurd (cc)
+free_route base state truck a b routes (shortest.NoRoad reached) h e = absurd (cc)
 
 free_cut : (base : BaseLists) (state : InForce) (truck a b : ℕ) (nodes : List ℕ) (f : Shortest) → IsShortest base.roads (flags_of base state truck) a b f → what.Cut nodes ≡ what_of f → IsCut base state truck a b nodes
 free_cut base state truck a b nodes (shortest.Route segments feet) h e = absurd (cc)
@@ -79,16 +82,16 @@ free_cut base state truck a b nodes (shortest.NoRoad reached) h e =
     })
 
 -- what is found where something is needed
-found_by : (base : BaseLists) (state : InForce) (a : Application) (w : What) (asked : Option (List ℕ)) → a.asked ≡ asked → (w ≡ what.NotNeeded → ⊥) → IsFinding base state a w → IsFoundBy base state a asked w
+found_by : (base : BaseLists) (state : InForce) (a : Application) (w : What) (asked : Option (List (List ℕ))) → a.asked ≡ asked → (w ≡ what.NotNeeded → ⊥) → IsFinding base state a w → IsFoundBy base state a asked w
 found_by base state a w asked is needed h =
     elim (cases_Bool (needs_none base a.truck)) [
       | inl e ↦ absurd (needed (h.legal e))
-      | inr e ↦ subst (λ (o : Option (List ℕ)). IsFoundBy base state a o w) is (h.found e)
+      | inr e ↦ subst (λ (o : Option (List (List ℕ))). IsFoundBy base state a o w) is (h.found e)
     ]
 
 pub routes_are_first : RoutesAreFirstOfShortest
-routes_are_first base state a route is h =
-    let (f, is_found, same) = found_by base state a (what.Route route) None is (λ e. cc) h in free_route base state a.truck a.from a.to route f is_found same
+routes_are_first base state a routes is h =
+    let (f, is_found, same) = found_by base state a (what.Route routes) None is (λ e. cc) h in free_route base state a.truck a.from a.to routes f is_found same
 
 pub cuts_hold : CutsLetNoneThrough
 cuts_hold base state a nodes is h =
@@ -123,21 +126,21 @@ first_fails base state truck (s ∷ rest) f e = more base state truck s rest f (
           fails = h.fails;
         }
 
-asked_route : (base : BaseLists) (state : InForce) (truck : ℕ) (asked route : List ℕ) (f : Option Failing) → first_on base state truck asked ≡ f → what.Route route ≡ asked_finding f asked
-    → (route ≡ asked) × All (λ s. is_passable base state truck s ≡ true) asked
-asked_route base state truck asked route (Some f) is e = absurd (cc)
-asked_route base state truck asked route None is e = (cc, All-from_recursion (λ s. is_passable base state truck s ≡ true) asked (none_fails base state truck asked is))
+asked_routes : (base : BaseLists) (state : InForce) (truck : ℕ) (asked routes : List (List ℕ)) (f : Option Failing) → first_on base state truck (concat asked) ≡ f → what.Route routes ≡ asked_finding f asked
+    → (routes ≡ asked) × All (λ s. is_passable base state truck s ≡ true) (concat asked)
+asked_routes base state truck asked routes (Some f) is e = absurd (cc)
+asked_routes base state truck asked routes None is e = (cc, All-from_recursion (λ s. is_passable base state truck s ≡ true) (concat asked) (none_fails base state truck (concat asked) is))
 
-asked_fails : (base : BaseLists) (state : InForce) (truck : ℕ) (asked : List ℕ) (s : ℕ) (f : Option Failing) → first_on base state truck asked ≡ f → what.Fails s ≡ asked_finding f asked
-    → IsFirstFailing base state truck asked s
+asked_fails : (base : BaseLists) (state : InForce) (truck : ℕ) (asked : List (List ℕ)) (s : ℕ) (f : Option Failing) → first_on base state truck (concat asked) ≡ f → what.Fails s ≡ asked_finding f asked
+    → IsFirstFailing base state truck (concat asked) s
 asked_fails base state truck asked s (Some f) is e =
-    let same : f.segment ≡ s = cc in subst (IsFirstFailing base state truck asked) same (first_fails base state truck asked f is)
+    let same : f.segment ≡ s = cc in subst (IsFirstFailing base state truck (concat asked)) same (first_fails base state truck (concat asked) f is)
 asked_fails base state truck asked s None is e = absurd (cc)
 
 pub asked_meet : AskedRoutesMeet
-asked_meet base state a asked route is h =
-    asked_route base state a.truck asked route (first_on base state a.truck asked) refl (found_by base state a (what.Route route) (Some asked) is (λ e. cc) h)
+asked_meet base state a asked routes is h =
+    asked_routes base state a.truck asked routes (first_on base state a.truck (concat asked)) refl (found_by base state a (what.Route routes) (Some asked) is (λ e. cc) h)
 
 pub asked_fail_first : AskedRoutesFailFirst
 asked_fail_first base state a asked s is h =
-    asked_fails base state a.truck asked s (first_on base state a.truck asked) refl (found_by base state a (what.Fails s) (Some asked) is (λ e. cc) h)
+    asked_fails base state a.truck asked s (first_on base state a.truck (concat asked)) refl (found_by base state a (what.Fails s) (Some asked) is (λ e. cc) h)

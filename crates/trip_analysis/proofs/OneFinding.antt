@@ -8,8 +8,8 @@ use Rattle.trip_analysis.specs.declared.finding.What.{What}
 use Rattle.trip_analysis.specs.Bases.{BaseLists}
 use Rattle.trip_analysis.specs.Findings.{IsFinding, IsFoundBy, flags_of, needs_none, what_of}
 
-by_one : (base : BaseLists) (state : InForce) (a : Application) (v w : What) (asked : Option (List ℕ)) → IsFoundBy base state a asked v → IsFoundBy base state a asked w → v ≡ w
-by_one base state a v w (Some route) g h = g ∙ sym h
+by_one : (base : BaseLists) (state : InForce) (a : Application) (v w : What) (asked : Option (List (List ℕ))) → IsFoundBy base state a asked v → IsFoundBy base state a asked w → v ≡ w
+by_one base state a v w (Some routes) g h = g ∙ sym h
 by_one base state a v w None g h =
     let (f, f_found, f_same) = g in let (k, k_found, k_same) = h in
     f_same ∙ (ap what_of (shortest_unique base.roads (flags_of base state a.truck) a.from a.to f k f_found k_found) ∙ sym k_same)

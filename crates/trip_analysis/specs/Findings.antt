@@ -1,6 +1,6 @@
 -- What is found for an application in a state of the roads.
 use Rattle.std.specs.Prelude.{◌≡◌, ℕ, ◌+◌, ◌-◌, ◌<◌, ◌≤◌, Bool, true, false, not, ◌&&◌, ◌==◌, List, [], ◌∷◌, map, filter, length, slice_get, Option, Some, None, is_none, if◌then◌else◌, All}
-use Rattle.std.specs.List.{list_any, range_with_len}
+use Rattle.std.specs.List.{concat, list_any, range_with_len}
 use Rattle.restriction_log.specs.States.{InForce}
 use Rattle.road_graph.specs.Roads.{Roads, segment_at}
 use Rattle.snapshot_store.specs.Stores.{Stored, state_now}
@@ -73,22 +73,23 @@ flags_of base state truck = map (is_passable base state truck) (range_with_len 0
 
 -- what a search found, as it is proposed
 abbrev pub what_of : Shortest → What
-what_of (shortest.Route segments feet) = what.Route segments
+what_of (shortest.Route segments feet) = what.Route (segments ∷ [])
 what_of (shortest.Cut reached) = what.Cut reached
 what_of (shortest.NoRoad reached) = what.Cut reached
 
--- what is found on an asked route
-abbrev pub asked_finding : Option Failing → List ℕ → What
-asked_finding (Some failing) route = what.Fails failing.segment
-asked_finding None route = what.Route route
+-- what is found on asked routes
+abbrev pub asked_finding : Option Failing → List (List ℕ) → What
+asked_finding (Some failing) routes = what.Fails failing.segment
+asked_finding None routes = what.Route routes
 
 -- what a search over the flagged segments finds, as it is proposed
 abbrev pub IsSearched : Roads → List Bool → ℕ → ℕ → What → Type 0
 IsSearched roads flags from to w = (f : Shortest) × IsShortest roads flags from to f × (w ≡ what_of f)
 
--- what is found with an asked route or, without one, by a search over the segments that the truck may pass
-abbrev pub IsFoundBy : BaseLists → InForce → Application → Option (List ℕ) → What → Type 0
-IsFoundBy base state a (Some route) w = w ≡ asked_finding (first_on base state a.truck route) route
+-- what is found with asked routes or, without any, by a search over the segments that the truck may pass. The segments of
+-- asked routes are tested in the order of the routes, and on each in its order
+abbrev pub IsFoundBy : BaseLists → InForce → Application → Option (List (List ℕ)) → What → Type 0
+IsFoundBy base state a (Some routes) w = w ≡ asked_finding (first_on base state a.truck (concat routes)) routes
 IsFoundBy base state a None w = IsSearched base.roads (flags_of base state a.truck) a.from a.to w
 
 -- what is found for an application in a state: nothing is needed where the truck is legal
@@ -103,13 +104,13 @@ IsFoundAt base stored a w = IsFinding base (state_now stored) a w
 -- the segments that are found are there, and the nodes of a cut rise
 abbrev pub InRange : BaseLists → What → Type 0
 InRange base what.NotNeeded = Unit {0}
-InRange base (what.Route route) = All (λ s. s < length base.roads.segments) route
+InRange base (what.Route routes) = All (λ s. s < length base.roads.segments) (concat routes)
 InRange base (what.Fails s) = s < length base.roads.segments
 InRange base (what.Cut nodes) = AreRising nodes
 
 -- what a finding says of the state in which it was found
 abbrev pub HoldsIn : BaseLists → InForce → ℕ → What → Type 0
 HoldsIn base state truck what.NotNeeded = needs_none base truck ≡ true
-HoldsIn base state truck (what.Route route) = first_on base state truck route ≡ None
+HoldsIn base state truck (what.Route routes) = first_on base state truck (concat routes) ≡ None
 HoldsIn base state truck (what.Fails s) = is_passable base state truck s ≡ false
 HoldsIn base state truck (what.Cut nodes) = first_meeting base state truck (leaving base.roads nodes) ≡ None

@@ -1,14 +1,16 @@
 -- Laws of applications and findings: what breaks of routes and findings mean on the road.
-use Rattle.std.specs.Prelude.{◌≡◌, ◌≢◌, ◌↔◌, ℕ, ◌<◌, ◌≤◌, true, false, List, ◌∷◌, ◌++◌, length, take, slice_get, Some, None, All}
+use Rattle.std.specs.Prelude.{◌≡◌, ◌≢◌, ◌↔◌, ℕ, ◌<◌, ◌≤◌, true, false, List, [], ◌∷◌, ◌++◌, length, take, get_or, slice_get, Some, None, All}
+use Rattle.std.specs.List.{concat}
 use Rattle.restriction_log.specs.States.{InForce}
 use Rattle.road_graph.specs.declared.segment.Segment.{Segment}
 use Rattle.road_graph.specs.Roads.{IsRoads, segment_at}
 use Rattle.route_search.specs.Walks.{AreReached, CanReach, IsRoute, IsWalk, every}
 use Rattle.trip_analysis.specs.declared.application.Application.{Application}
 use Rattle.trip_analysis.specs.declared.finding.What.{What}
+use Rattle.trip_analysis.specs.declared.refusal.ApplicationRefusal.TheVariants.{BrokenRoute}
 use Rattle.trip_analysis.specs.declared.finding.What.TheVariants as what
 use Rattle.trip_analysis.specs.Bases.{BaseLists}
-use Rattle.trip_analysis.specs.Applications.{Sound, break_from}
+use Rattle.trip_analysis.specs.Applications.{Sound, break_from, first_break}
 use Rattle.trip_analysis.specs.Findings.{HoldsIn, InRange, IsFinding, is_passable}
 
 -- one thing is found for an application in a state
@@ -26,12 +28,12 @@ FindingsHold =
     (base : BaseLists) (state : InForce) (a : Application) (w : What) → IsRoads base.roads → Sound base a → IsFinding base state a w
     → HoldsIn base state a.truck w
 
--- without an asked route, a route that is found is a walk over segments that each meet the truck; no such walk is shorter, and
--- of those as short it is the first in dictionary order
+-- without an asked route, routes that are found are one: a walk over segments that each meet the truck; no such walk is
+-- shorter, and of those as short it is the first in dictionary order
 abbrev pub RoutesAreFirstOfShortest : Type 0
 RoutesAreFirstOfShortest =
-    (base : BaseLists) (state : InForce) (a : Application) (route : List ℕ) → a.asked ≡ None → IsFinding base state a (what.Route route)
-    → IsRoute base.roads.segments (is_passable base state a.truck) a.from a.to route
+    (base : BaseLists) (state : InForce) (a : Application) (routes : List (List ℕ)) → a.asked ≡ None → IsFinding base state a (what.Route routes)
+    → (route : List ℕ) × (routes ≡ route ∷ []) × IsRoute base.roads.segments (is_passable base state a.truck) a.from a.to route
 
 -- no walk over segments that each meet the truck leads from one node to another; these are the nodes that such walks reach
 -- or, where no walk at all leads there, those that any walk reaches
@@ -46,11 +48,11 @@ CutsLetNoneThrough =
     (base : BaseLists) (state : InForce) (a : Application) (nodes : List ℕ) → a.asked ≡ None → IsFinding base state a (what.Cut nodes)
     → IsCut base state a.truck a.from a.to nodes
 
--- with an asked route, a route that is found is the asked one, and each of its segments meets the truck
+-- with asked routes, routes that are found are the asked ones, and each segment of each of them meets the truck
 abbrev pub AskedRoutesMeet : Type 0
 AskedRoutesMeet =
-    (base : BaseLists) (state : InForce) (a : Application) (asked route : List ℕ) → a.asked ≡ Some asked → IsFinding base state a (what.Route route)
-    → (route ≡ asked) × All (λ s. is_passable base state a.truck s ≡ true) asked
+    (base : BaseLists) (state : InForce) (a : Application) (asked routes : List (List ℕ)) → a.asked ≡ Some asked → IsFinding base state a (what.Route routes)
+    → (routes ≡ asked) × All (λ s. is_passable base state a.truck s ≡ true) (concat asked)
 
 -- the route passes this segment, which fails the truck, and each segment before it meets the truck
 pub record IsFirstFailing (base : BaseLists) (state : InForce) (truck : ℕ) (route : List ℕ) (s : ℕ) : Type 0 where
@@ -60,11 +62,18 @@ pub record IsFirstFailing (base : BaseLists) (state : InForce) (truck : ℕ) (ro
   pub before : All (λ k. is_passable base state truck k ≡ true) front
   pub fails : is_passable base state truck s ≡ false
 
--- with an asked route, a segment that is found is the first on it that fails
+-- with asked routes, a segment that is found is the first on them that fails, in the order of the routes and on each in its
+-- order
 abbrev pub AskedRoutesFailFirst : Type 0
 AskedRoutesFailFirst =
-    (base : BaseLists) (state : InForce) (a : Application) (asked : List ℕ) (s : ℕ) → a.asked ≡ Some asked → IsFinding base state a (what.Fails s)
-    → IsFirstFailing base state a.truck asked s
+    (base : BaseLists) (state : InForce) (a : Application) (asked : List (List ℕ)) (s : ℕ) → a.asked ≡ Some asked → IsFinding base state a (what.Fails s)
+    → IsFirstFailing base state a.truck (concat asked) s
+
+-- routes along segments that are there are walks from one node to another exactly where none of them breaks off
+abbrev pub RoutesAreUnbroken : Type 0
+RoutesAreUnbroken =
+    (segments : List Segment) (from to : ℕ) (routes : List (List ℕ)) → All (λ s. s < length segments) (concat routes)
+    → (first_break segments 0 from to routes ≡ None) ↔ All (IsWalk segments every from to) routes
 
 -- a list of segments that are there is a walk from one node to another exactly where it does not break off
 abbrev pub WalksAreUnbroken : Type 0
@@ -86,3 +95,15 @@ abbrev pub BreaksAreFirst : Type 0
 BreaksAreFirst =
     (segments : List Segment) (from to : ℕ) (route : List ℕ) (at : ℕ) → All (λ s. s < length segments) route
     → (break_from segments 0 from to route ≡ Some at) ↔ IsBreak segments from to route at
+
+-- there is a route of this number, it breaks off at this place, and each route before it is a walk
+pub record IsFirstBreak (segments : List Segment) (from to : ℕ) (routes : List (List ℕ)) (route at : ℕ) : Type 0 where
+  pub there : route < length routes
+  pub before : All (IsWalk segments every from to) (take route routes)
+  pub here : IsBreak segments from to (get_or routes route []) at
+
+-- routes along segments that are there are refused for the first of them that is no walk, with the place where it breaks off
+abbrev pub FirstBreaksAreFirst : Type 0
+FirstBreaksAreFirst =
+    (segments : List Segment) (from to : ℕ) (routes : List (List ℕ)) (route at : ℕ) → All (λ s. s < length segments) (concat routes)
+    → (first_break segments 0 from to routes ≡ Some (BrokenRoute route at)) ↔ IsFirstBreak segments from to routes route at

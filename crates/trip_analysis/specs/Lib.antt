@@ -12,3 +12,4 @@ pub use Rattle.clearance_rules.specs.Loads
 pub use Rattle.clearance_rules.specs.Limits
 pub mod Known
 pub mod Followers
+pub use Rattle.trip_routes.specs.Routes

@@ -1,5 +1,6 @@
 -- How many segments are tested at the most while something is found.
 use Rattle.std.specs.Prelude.{ℕ, ◌+◌, ◌*◌, ◌≤◌, List, length, Option, Some, None}
+use Rattle.std.specs.List.{concat}
 use Rattle.trip_analysis.specs.Bases.{BaseLists}
 
 -- so many segments were tested before and now: the count did not fall, and rose by at most this
@@ -7,9 +8,9 @@ pub record TestsAtMost (most before now : ℕ) : Type 0 where
   pub no_fewer : before ≤ now
   pub no_more : now ≤ before + most
 
--- what is asked for is found by testing each segment of an asked route once, or else each segment of the roads once
-abbrev pub tests_for : BaseLists → Option (List ℕ) → ℕ
-tests_for base (Some route) = length route
+-- what is asked for is found by testing each segment of each asked route once, or else each segment of the roads once
+abbrev pub tests_for : BaseLists → Option (List (List ℕ)) → ℕ
+tests_for base (Some routes) = length (concat routes)
 tests_for base None = length base.roads.segments
 
 -- what is known of the trucks is carried over to a later state by testing each segment of the roads once for each truck

@@ -1,6 +1,7 @@
 // What is found for an application.
 
 ghost use Rattle.std.specs.Prelude.{◌≡◌, ◌<◌, length, None, true, All, IfOk};
+ghost use Rattle.std.specs.List.{concat};
 ghost use Rattle.restriction_log.specs.States.{AreOf};
 ghost use Rattle.snapshot_store.specs.Stores.{version_of};
 ghost use Rattle.trip_analysis.specs.Applications.{Sound};
@@ -14,16 +15,17 @@ use crate::passing::{first_on, flags};
 use clearance_rules::Steps;
 use names::NoMemory;
 use restriction_log::State;
-use road_graph::{Network, Numbers};
+use road_graph::Network;
 use route_search::{Heights, Shortest, shortest_walk};
 use snapshot_store::Snapshot;
 use std::alloc::Global;
 use std::sync::ledger::Ledger;
+use trip_routes::SharedRoutes;
 
 /// What is found for the application in a state of the base's roads.
 ///
-/// A legal truck needs no permit. An asked route is the finding where each segment of it meets, and else its first segment
-/// that fails. Without an asked route the finding is the first of the shortest walks over the segments that meet, or the
+/// A legal truck needs no permit. Asked routes are the finding where each segment of each of them meets, and else the first
+/// segment that fails, in the order of the routes and on each in its order. Without an asked route the finding is the first of the shortest walks over the segments that meet, or the
 /// cut where there is none. `NoMemory` where no memory was left. What is tested is counted.
 pub fn find<L: Ledger>(
     alloc: Global,
@@ -43,7 +45,7 @@ pub fn find<L: Ledger>(
         return Ok(What::NotNeeded);
     }
     match application.asked() {
-        Some(route) => find_asked(alloc, base, state, truck, route, steps),
+        Some(routes) => find_asked(base, state, truck, routes, steps),
         None => find_free(alloc, base, state, application, steps),
     }
 }
@@ -70,26 +72,26 @@ pub fn analyse<L: Ledger>(
     })
 }
 
-// What is found on an asked route.
+// What is found on asked routes.
 pub(crate) fn find_asked<L: Ledger>(
-    alloc: Global,
     base: &Base,
     state: &State,
     truck: u32,
-    route: &Numbers,
+    routes: &SharedRoutes,
     steps: &mut Steps<L>,
 ) -> Result<What, NoMemory>
     requires truck { truck < length base.now.fleet }
     requires state { AreOf base.now.roads state.now }
-    requires segments { All (λ s. s < length base.now.roads.segments) route.now }
-    ensures found { IfOk result (λ w. w ≡ asked_finding (first_in base.now state.now truck route.now) route.now) }
-    ensures steps { TestsAtMost (length route.now) steps.old steps.new }
+    requires segments { All (λ s. s < length base.now.roads.segments) (concat routes.now) }
+    ensures found { IfOk result
+        (λ w. w ≡ asked_finding (first_in base.now state.now truck (concat routes.now)) routes.now) }
+    ensures steps { TestsAtMost (length (concat routes.now)) steps.old steps.new }
 {
-    match first_on(base, state, truck, route.as_slice(), steps) {
+    match first_on(base, state, truck, routes.all(), steps) {
         Some(failing) => Ok(What::Fails {
             segment: failing.segment,
         }),
-        None => Ok(What::Route(route.try_clone(alloc)?)),
+        None => Ok(What::Route(routes.clone()?)),
     }
 }
 
@@ -126,16 +128,18 @@ fn search_flagged(
 {
     let heights = Heights::none(alloc);
     let found = shortest_walk(alloc, network, passable, &heights, from, to)?;
-    Ok(proposed(found))
+    proposed(alloc, found)
 }
 
 // What a search finds, as it is proposed.
-pub(crate) fn proposed(found: Shortest) -> What
-    ensures { result ≡ what_of found }
+pub(crate) fn proposed(alloc: Global, found: Shortest) -> Result<What, NoMemory>
+    ensures { IfOk result (λ w. w ≡ what_of found) }
 {
     match found {
-        Shortest::Route { segments, .. } => What::Route(segments),
-        Shortest::Cut { reached } => What::Cut(reached),
-        Shortest::NoRoad { reached } => What::Cut(reached),
+        Shortest::Route { segments, .. } => {
+            Ok(What::Route(SharedRoutes::along(alloc, segments)?))
+        }
+        Shortest::Cut { reached } => Ok(What::Cut(reached)),
+        Shortest::NoRoad { reached } => Ok(What::Cut(reached)),
     }
 }

@@ -85,7 +85,7 @@ impl Analyst {
             return Ok(What::NotNeeded);
         }
         match application.asked() {
-            Some(route) => find_asked(alloc, base, state, truck, route, steps),
+            Some(routes) => find_asked(base, state, truck, routes, steps),
             None => self.find_free(alloc, base, state, application, steps),
         }
     }
@@ -112,12 +112,12 @@ impl Analyst {
         let heights = &mut self.heights;
         let (from, to) = (application.from(), application.to());
         let found = search_known(alloc, base.network(), known, heights, from, to)?;
-        Ok(proposed(found))
+        proposed(alloc, found)
     }
 
-    // Goes on from the state of a snapshot, in which the trucks are known, to that of a later one: of the segments that
-    // postings between them name, each at which the states differ is judged anew.
-    pub(crate) fn turn_to<L: Ledger>(
+    /// Goes on from the state of a snapshot, in which the trucks are known, to that of a later one: of the segments that
+    /// postings between them name, each at which the states differ is judged anew. Takes no memory.
+    pub fn turn_to<L: Ledger>(
         &mut self,
         base: &Base,
         last: &Snapshot,

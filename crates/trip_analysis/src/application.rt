@@ -1,23 +1,27 @@
 // What a carrier asks for.
 
-ghost use Rattle.std.specs.Prelude.{◌≡◌, ◌<◌, length, None, Some, All, IfOk, IfErr, OnOk, OnErr, option_map};
-ghost use Rattle.trip_analysis.specs.Applications.{AreThere, AreAskedThere, IsCause, IsSoundOn, Sound, application_of, application_refusal, break_from, asked_break};
+ghost use Rattle.std.specs.Prelude.{◌≡◌, ◌<◌, ◌↔◌, length, true, None, Some, All, IfOk, IfErr, OnOk, OnErr, option_map};
+ghost use Rattle.std.specs.List.{concat};
+ghost use Rattle.trip_analysis.specs.Applications.{AreThere, AreAskedThere, IsCause, IsSoundOn, Sound, application_of, application_refusal, asked_refusal, break_from, days_refusal, first_break, is_annual};
 
 use crate::base::Base;
 use crate::refusal::ApplicationRefusal;
 use names::NoMemory;
 use permit_days::Day;
-use road_graph::{Network, Numbers};
-use std::alloc::Global;
+use road_graph::Network;
+use trip_routes::SharedRoutes;
 
-/// An application for a permit: the number of the truck, the nodes where the trip begins and ends, the segments of the
-/// route that is asked for, if one is, and the first and the last day.
+/// The most days that the last day of an annual permit lies after the first.
+const YEAR: u32 = 365;
+
+/// An application for a permit: the number of the truck, the nodes where the trip begins and ends, the routes that are
+/// asked for, if any are, and the first and the last day. It is annual where it asks for two routes or more.
 #[derive(Drop)]
 pub struct Application {
     truck: u32,
     from: u32,
     to: u32,
-    asked: Option<Numbers>,
+    asked: Option<SharedRoutes>,
     first: Day,
     last: Day,
 }
@@ -25,13 +29,13 @@ pub struct Application {
 impl Application {
     /// The application of these six fields, whose truck, nodes and segments are there. Takes no memory.
     ///
-    /// Refusals, in this order: `SamePlace`, `BrokenRoute`, `DayOrder`.
+    /// Refusals, in this order: `SamePlace`, `BrokenRoute`, `DayOrder`, `AnnualDays`.
     pub fn new(
         base: &Base,
         truck: u32,
         from: u32,
         to: u32,
-        asked: Option<Numbers>,
+        asked: Option<SharedRoutes>,
         first: Day,
         last: Day,
     ) -> Result<Application, ApplicationRefusal>
@@ -52,7 +56,7 @@ impl Application {
         truck: u32,
         from: u32,
         to: u32,
-        asked: Option<Numbers>,
+        asked: Option<SharedRoutes>,
         first: Day,
         last: Day,
     ) -> Result<Application, ApplicationRefusal>
@@ -62,16 +66,9 @@ impl Application {
         ensures taken { OnOk result (application_refusal network.now from to asked first last ≡ None) }
         ensures refused { IfErr result (IsCause (application_refusal network.now from to asked first last)) }
     {
-        if from == to {
-            return Err(ApplicationRefusal::SamePlace);
-        }
-        if let Some(at) = find_asked_break(network, from, to, &asked) {
-            return Err(ApplicationRefusal::BrokenRoute { at });
-        }
-        if last < first {
-            return Err(ApplicationRefusal::DayOrder);
-        }
-        Ok(Application::of_fields(truck, from, to, asked, first, last))
+        let application = Application::of_fields(truck, from, to, asked, first, last);
+        application.try_on(network)?;
+        Ok(application)
     }
 
     /// The application of these six fields, of which nothing is tested. Takes no memory.
@@ -79,7 +76,7 @@ impl Application {
         truck: u32,
         from: u32,
         to: u32,
-        asked: Option<Numbers>,
+        asked: Option<SharedRoutes>,
         first: Day,
         last: Day,
     ) -> Application
@@ -93,6 +90,13 @@ impl Application {
             first,
             last,
         }
+    }
+
+    /// Whether it can be asked of this base: whether all that it names is there, and no cause refuses it. Takes no memory.
+    pub fn is_sound(&self, base: &Base) -> bool
+        ensures { (result ≡ true) ↔ Sound base.now self.now }
+    {
+        self.is_there(base) && self.try_on(base.network()).is_ok()
     }
 
     /// The number of the truck. Takes no memory.
@@ -116,8 +120,8 @@ impl Application {
         self.to
     }
 
-    /// The route that is asked for. Takes no memory.
-    pub fn asked(&self) -> Option<&Numbers>
+    /// The routes that are asked for. Takes no memory.
+    pub fn asked(&self) -> Option<&SharedRoutes>
         ensures { option_map (λ n. n.now) result ≡ self.now.asked }
     {
         self.asked.as_ref()
@@ -137,11 +141,11 @@ impl Application {
         self.last
     }
 
-    /// The same application once more.
-    pub fn try_clone(&self, alloc: Global) -> Result<Application, NoMemory>
+    /// The same application once more. Its asked routes get one more owner, and none is copied.
+    pub fn try_clone(&self) -> Result<Application, NoMemory>
         ensures { IfOk result (λ a. a ≡ self.now) }
     {
-        let asked = clone_asked(alloc, &self.asked)?;
+        let asked = own_asked(&self.asked)?;
         Ok(Application {
             truck: self.truck,
             from: self.from,
@@ -151,27 +155,123 @@ impl Application {
             last: self.last,
         })
     }
+
+    // Whether its truck, its nodes and the segments of its asked routes are there.
+    fn is_there(&self, base: &Base) -> bool
+        ensures { (result ≡ true) ↔ ((self.now.truck < length base.now.fleet)
+            × AreThere base.now.roads self.now.from self.now.to self.now.asked) }
+    {
+        let network = base.network();
+        let nodes = network.nodes();
+        (self.truck as usize) < base.fleet().len()
+            && self.from < nodes
+            && self.to < nodes
+            && are_asked_there(network, &self.asked)
+    }
+
+    // Refuses it for the first cause that applies on these roads, where all that it names is there.
+    fn try_on(&self, network: &Network) -> Result<(), ApplicationRefusal>
+        requires { AreThere network.now self.now.from self.now.to self.now.asked }
+        ensures taken { OnOk result
+            (application_refusal network.now self.now.from self.now.to self.now.asked self.now.first self.now.last ≡ None) }
+        ensures refused { IfErr result
+            (IsCause (application_refusal network.now self.now.from self.now.to self.now.asked self.now.first self.now.last)) }
+    {
+        if self.from == self.to {
+            return Err(ApplicationRefusal::SamePlace);
+        }
+        try_asked(network, self.from, self.to, &self.asked)?;
+        try_days(asks_for_more(&self.asked), self.first, self.last)
+    }
 }
 
-// The same list, if there is one.
-fn clone_asked(alloc: Global, asked: &Option<Numbers>) -> Result<Option<Numbers>, NoMemory>
+// The same routes, if there are any, with one more owner.
+fn own_asked(asked: &Option<SharedRoutes>) -> Result<Option<SharedRoutes>, NoMemory>
     ensures { IfOk result (λ a. a ≡ asked.now) }
 {
     match asked {
-        Some(list) => Ok(Some(list.try_clone(alloc)?)),
+        Some(routes) => Ok(Some(routes.clone()?)),
         None => Ok(None),
     }
 }
 
-// Where the asked route breaks off, if one is asked for and it does.
-fn find_asked_break(network: &Network, from: u32, to: u32, asked: &Option<Numbers>) -> Option<usize>
-    requires there { AreAskedThere network.now asked.now }
-    ensures { result ≡ asked_break network.now.segments from to asked.now }
+// Whether the segments of the asked routes, if there are any, are there.
+fn are_asked_there(network: &Network, asked: &Option<SharedRoutes>) -> bool
+    ensures { (result ≡ true) ↔ AreAskedThere network.now asked.now }
 {
     match asked {
-        Some(route) => find_break(network, from, to, route.as_slice()),
-        None => None,
+        Some(routes) => are_there(network, routes.all()),
+        None => true,
     }
+}
+
+// Whether these segments are there.
+fn are_there(network: &Network, list: &[u32]) -> bool
+    ensures { (result ≡ true) ↔ All (λ s. s < length network.now.segments) list.now }
+{
+    let count = network.segments();
+    list.iter().all(|s| *s < count)
+}
+
+// Whether more than one route is asked for.
+fn asks_for_more(asked: &Option<SharedRoutes>) -> bool
+    ensures { result ≡ is_annual asked.now }
+{
+    match asked {
+        Some(routes) => routes.len() >= 2,
+        None => false,
+    }
+}
+
+// Refuses days of which the last is before the first, or too long after it for an annual permit.
+fn try_days(annual: bool, first: Day, last: Day) -> Result<(), ApplicationRefusal>
+    ensures taken { OnOk result (days_refusal annual first last ≡ None) }
+    ensures refused { IfErr result (IsCause (days_refusal annual first last)) }
+{
+    if last < first {
+        return Err(ApplicationRefusal::DayOrder);
+    }
+    let days = last.days_since(first);
+    if annual && days > YEAR {
+        return Err(ApplicationRefusal::AnnualDays { days });
+    }
+    Ok(())
+}
+
+// Refuses asked routes of which one breaks off.
+fn try_asked(
+    network: &Network,
+    from: u32,
+    to: u32,
+    asked: &Option<SharedRoutes>,
+) -> Result<(), ApplicationRefusal>
+    requires { AreAskedThere network.now asked.now }
+    ensures taken { OnOk result (asked_refusal network.now.segments from to asked.now ≡ None) }
+    ensures refused { IfErr result (IsCause (asked_refusal network.now.segments from to asked.now)) }
+{
+    match asked {
+        Some(routes) => try_routes(network, from, to, routes),
+        None => Ok(()),
+    }
+}
+
+// Refuses the first of the routes that breaks off.
+fn try_routes(
+    network: &Network,
+    from: u32,
+    to: u32,
+    routes: &SharedRoutes,
+) -> Result<(), ApplicationRefusal>
+    requires { All (λ s. s < length network.now.segments) (concat routes.now) }
+    ensures taken { OnOk result (first_break network.now.segments 0 from to routes.now ≡ None) }
+    ensures refused { IfErr result (IsCause (first_break network.now.segments 0 from to routes.now)) }
+{
+    for route in 0..routes.len() {
+        if let Some(at) = find_break(network, from, to, routes.route(route)) {
+            return Err(ApplicationRefusal::BrokenRoute { route, at });
+        }
+    }
+    Ok(())
 }
 
 // Where a route breaks off, if it does.

@@ -2,6 +2,7 @@
 
 use clearance_rules::Limit;
 use road_graph::Numbers;
+use trip_routes::SharedRoutes;
 
 /// A segment that fails a load, with its first failing limit.
 #[derive(Clone, Copy, Drop, PartialEq, Eq)]
@@ -11,13 +12,13 @@ pub struct Failing {
 }
 
 /// What is found for an application in a state of the roads.
-#[derive(Debug, Drop)]
+#[derive(Drop)]
 pub enum What {
     /// The truck is legal and needs no permit.
     NotNeeded,
-    /// A route whose segments all meet: the asked one, or the first of the shortest.
-    Route(Numbers),
-    /// The first segment of the asked route that fails.
+    /// Routes whose segments all meet: the asked ones, or the first of the shortest alone.
+    Route(SharedRoutes),
+    /// The first segment of the asked routes that fails.
     Fails { segment: u32 },
     /// No passable walk leads there: the nodes that passable walks reach, or, where no walk leads there at all, those that
     /// any walk reaches, rising.

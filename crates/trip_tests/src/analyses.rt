@@ -12,15 +12,16 @@ use restriction_log::{Change, State, takes};
 use road_graph::{Network, Numbers};
 use snapshot_store::Store;
 use span_rating::SpanStudy;
-use std::alloc::Global;
+use std::alloc::{AllocError, Global};
 use std::marker::Brand;
 use std::process::Abort;
 use std::sync::ledger::{Blank, Ledger};
 use trip_analysis::{
     Application, ApplicationRefusal, Base, Failing, Follower, NodeSet, Proposal, Truck, What,
-    asked_findings_are_of_the_route, failing_limit, find, findings_hold, first_meeting_out,
+    asked_findings_are_of_the_routes, failing_limit, find, findings_hold, first_meeting_out,
     first_on, free_findings_are_of_walks, is_passable, routes_break_off_where_walks_do,
 };
+use trip_routes::{Routes, SharedRoutes};
 
 // What was built is let go by a call of `drop`: where a scope lets it go, the proof of the whole function goes through
 // its parts.
@@ -102,19 +103,29 @@ fn are_there(network: &Network, list: &[u32]) -> bool
     list.iter().all(|s| *s < count)
 }
 
-// The route that a text asks for, of segments that are there; none where it is a dash.
-fn asked(rt: &impl Abort, alloc: Global, network: &Network, text: &str) -> Option<Numbers>
+// The routes of a text, parted by bars.
+fn routes(rt: &impl Abort, alloc: Global, text: &str) -> Routes {
+    let mut routes = Routes::one(Numbers::of(numbers(rt, alloc, part(text, '|', 0))));
+    for next in text.split('|').skip(1) {
+        let route = Numbers::of(numbers(rt, alloc, next));
+        routes.push(&route).expect(rt, "a route");
+    }
+    routes
+}
+
+// The routes that a text asks for, along segments that are there; none where it is a dash.
+fn asked(rt: &impl Abort, alloc: Global, network: &Network, text: &str) -> Option<SharedRoutes>
     ensures { AreAskedThere network.now result }
 {
     if text == "-" {
         return None;
     }
-    let list = numbers(rt, alloc, text);
-    assert!(rt; are_there(network, list.as_slice()));
-    Some(Numbers::of(list))
+    let routes = routes(rt, alloc, text);
+    assert!(rt; are_there(network, routes.all()));
+    Some(SharedRoutes::of(alloc, routes).expect(rt, "memory"))
 }
 
-// The application that a text asks for: truck, nodes, asked route, first and last day, parted by commas.
+// The application that a text asks for: truck, nodes, asked routes, first and last day, parted by commas.
 fn applied(
     rt: &impl Abort,
     alloc: Global,
@@ -139,27 +150,40 @@ fn taken(rt: &impl Abort, alloc: Global, base: &Base, text: &str) -> Application
     applied(rt, alloc, base, text).expect(rt, "an application")
 }
 
-// What is answered to applications, or none where one is taken. Where several causes apply, the first is named.
-const ANSWERS: [(&str, Option<ApplicationRefusal>); 9] = [
+// The same, of which nothing is tested.
+fn untested(rt: &impl Abort, alloc: Global, text: &str) -> Application {
+    let truck = number(part(text, ',', 0));
+    let (from, to) = (number(part(text, ',', 1)), number(part(text, ',', 2)));
+    let (first, last) = (day(rt, part(text, ',', 4)), day(rt, part(text, ',', 5)));
+    let asked = match part(text, ',', 3) {
+        "-" => None,
+        text => Some(SharedRoutes::of(alloc, routes(rt, alloc, text)).expect(rt, "memory")),
+    };
+    Application::of_fields(truck, from, to, asked, first, last)
+}
+
+// What is answered to applications, or none where one is taken. Where several causes apply, the first is named. The days
+// from 2 March 2026 to 2 March 2027 are 365, and those from 28 February 2024 to 28 February 2025 are 366.
+const ANSWERS: [(&str, Option<ApplicationRefusal>); 19] = [
     (
         "0,0,0,2,2026-03-03,2026-03-02",
         Some(ApplicationRefusal::SamePlace),
     ),
     (
         "0,0,1,1 0,2026-03-03,2026-03-02",
-        Some(ApplicationRefusal::BrokenRoute { at: 1 }),
+        Some(ApplicationRefusal::BrokenRoute { route: 0, at: 1 }),
     ),
     (
         "0,0,1,1,2026-03-02,2026-03-02",
-        Some(ApplicationRefusal::BrokenRoute { at: 1 }),
+        Some(ApplicationRefusal::BrokenRoute { route: 0, at: 1 }),
     ),
     (
         "0,0,1,2,2026-03-02,2026-03-02",
-        Some(ApplicationRefusal::BrokenRoute { at: 0 }),
+        Some(ApplicationRefusal::BrokenRoute { route: 0, at: 0 }),
     ),
     (
         "0,0,1,,2026-03-02,2026-03-02",
-        Some(ApplicationRefusal::BrokenRoute { at: 0 }),
+        Some(ApplicationRefusal::BrokenRoute { route: 0, at: 0 }),
     ),
     (
         "0,0,1,1 2,2026-03-03,2026-03-02",
@@ -171,6 +195,31 @@ const ANSWERS: [(&str, Option<ApplicationRefusal>); 9] = [
     ),
     ("0,0,1,-,2026-03-02,2026-03-02", None),
     ("0,0,1,1 2,2026-03-02,2026-03-03", None),
+    (
+        "0,0,1,0|1,2026-03-02,2027-03-03",
+        Some(ApplicationRefusal::BrokenRoute { route: 1, at: 1 }),
+    ),
+    (
+        "0,0,1,1 2|0|2|1,2026-03-03,2026-03-02",
+        Some(ApplicationRefusal::BrokenRoute { route: 2, at: 0 }),
+    ),
+    (
+        "0,0,1,0|1 2,2026-03-03,2026-03-02",
+        Some(ApplicationRefusal::DayOrder),
+    ),
+    (
+        "0,0,1,0|1 2,2026-03-02,2027-03-03",
+        Some(ApplicationRefusal::AnnualDays { days: 366 }),
+    ),
+    (
+        "0,0,1,0|0,2024-02-28,2025-02-28",
+        Some(ApplicationRefusal::AnnualDays { days: 366 }),
+    ),
+    ("0,0,1,0|1 2,2026-03-02,2027-03-02", None),
+    ("0,0,1,0|0,2024-02-28,2025-02-27", None),
+    ("0,0,1,0,2026-03-02,2027-03-03", None),
+    ("0,0,1,-,2026-03-02,2027-03-03", None),
+    ("0,0,1,0|0|0|0|0|0|0|1 2,2026-03-02,2027-03-02", None),
 ];
 
 #[test]
@@ -183,14 +232,35 @@ fn refuses_an_application_for_its_first_cause(rt: HostRuntime) {
     drop(base);
 }
 
+// Applications that name a truck, a node or a segment that is not there.
+const ABSENT: [&str; 4] = [
+    "2,0,1,-,2026-03-02,2026-03-02",
+    "0,3,1,-,2026-03-02,2026-03-02",
+    "0,0,3,-,2026-03-02,2026-03-02",
+    "0,0,1,0|3,2026-03-02,2026-03-02",
+];
+
+// An application of which nothing was tested is sound exactly where it is taken.
+#[test]
+fn tells_sound_applications(rt: HostRuntime) {
+    let base = base(&rt, rt.alloc());
+    for (text, wanted) in ANSWERS {
+        let application = untested(&rt, rt.alloc(), text);
+        assert!(rt; application.is_sound(&base) == wanted.is_none(), "{text}");
+    }
+    for text in ABSENT {
+        let application = untested(&rt, rt.alloc(), text);
+        assert!(rt; !application.is_sound(&base), "{text}");
+    }
+    drop(base);
+}
+
 // Whether these are the fields of the application of the test below.
 fn check_fields(rt: &impl Abort, a: &Application) {
     assert_eq!(rt; (a.truck(), a.from(), a.to()), (1, 0, 1));
-    let asked = match a.asked() {
-        Some(route) => route.as_slice(),
-        None => &[],
-    };
-    assert!(rt; asked.len() == 2 && asked[0] == 1 && asked[1] == 2);
+    let asked = a.asked().expect(rt, "routes");
+    assert!(rt; asked.len() == 2);
+    assert!(rt; asked.route(0) == [1, 2].as_slice() && asked.route(1) == [0].as_slice());
     assert!(rt; a.first() == day(rt, "2026-03-02"));
     assert!(rt; a.last() == day(rt, "2026-03-05"));
 }
@@ -199,10 +269,10 @@ fn check_fields(rt: &impl Abort, a: &Application) {
 #[test]
 fn keeps_what_is_asked_for(rt: HostRuntime) {
     let base = base(&rt, rt.alloc());
-    let taken = taken(&rt, rt.alloc(), &base, "1,0,1,1 2,2026-03-02,2026-03-05");
+    let taken = taken(&rt, rt.alloc(), &base, "1,0,1,1 2|0,2026-03-02,2026-03-05");
     drop(base);
     check_fields(&rt, &taken);
-    let copy = taken.try_clone(rt.alloc()).expect(&rt, "memory");
+    let copy = taken.try_clone().expect(&rt, "memory");
     drop(taken);
     check_fields(&rt, &copy);
     drop(copy);
@@ -226,11 +296,20 @@ fn lowered(rt: &impl Abort, alloc: Global, network: &Network, text: &str) -> Sta
     state
 }
 
-// What is found is what a text says: a word, and the numbers of a route, a segment or nodes.
+// The segments of each route.
+fn routes_told(alloc: Global, routes: &SharedRoutes) -> Result<String, AllocError> {
+    let mut text = format!(in alloc; "route")?;
+    for i in 0..routes.len() {
+        write!(text, " {:?}", routes.route(i))?;
+    }
+    Ok(text)
+}
+
+// What is found is what a text says: a word, and the numbers of routes, a segment or nodes.
 fn check_found(rt: &impl Abort, alloc: Global, what: &What, text: &str) {
     let told = match what {
         What::NotNeeded => format!(in alloc; "not needed"),
-        What::Route(route) => format!(in alloc; "route {:?}", route.as_slice()),
+        What::Route(routes) => routes_told(alloc, routes),
         What::Fails { segment } => format!(in alloc; "fails {segment}"),
         What::Cut(nodes) => format!(in alloc; "cut {:?}", nodes.as_slice()),
     };
@@ -250,6 +329,11 @@ const FINDINGS: &str = "\
 0,0,1,0,2026-03-02,2026-03-02/0/fails 0
 0,0,1,1 2,2026-03-02,2026-03-02/0/route [1, 2]
 0,0,1,1 2,2026-03-02,2026-03-02/1 2/fails 1
+0,0,1,0|1 2,2026-03-02,2026-03-02//route [0] [1, 2]
+0,0,1,0|0,2026-03-02,2026-03-02//route [0] [0]
+0,0,1,0|1 2,2026-03-02,2026-03-02/2/fails 2
+0,0,1,1 2|0,2026-03-02,2026-03-02/0 2/fails 2
+1,0,1,1 2|0,2026-03-02,2026-03-02/0 2/not needed
 1,0,1,0,2026-03-02,2026-03-02/0/not needed
 ";
 
@@ -310,6 +394,8 @@ closed,1,1/0,0,1,-,2026-03-02,2026-03-02/11/route [0]
 closed,0,1/0,0,1,-,2026-03-02,2026-03-02/12/cut [0]
 closed,1,0/0,0,1,-,2026-03-02,2026-03-02/13/route [1, 2]
 closed,0,0/0,0,1,-,2026-03-02,2026-03-02/14/route [0]
+/0,0,1,1 2|0,2026-03-02,2026-03-02/14/route [1, 2] [0]
+closed,0,1/0,0,1,1 2|0,2026-03-02,2026-03-02/15/fails 0
 ";
 
 // What a text posts: KIND,NUMBER,VALUE.
@@ -529,6 +615,6 @@ fn tells_segments_that_fail_and_segments_that_leave(rt: HostRuntime) {
 fn tells_its_laws() {
     findings_hold();
     free_findings_are_of_walks();
-    asked_findings_are_of_the_route();
+    asked_findings_are_of_the_routes();
     routes_break_off_where_walks_do();
 }

@@ -165,3 +165,22 @@ fn keeps_the_calendar_of_1896_to_2104(rt: HostRuntime) {
     // 2104-12-31: 135 years from 1970 on, of which 33 have a leap day.
     assert_eq!(rt; last, 49_307);
 }
+
+// A first day, a last one, and how many days it lies after the first. All years together have 3,652,059 days.
+const BETWEEN: [(&str, &str, u32); 7] = [
+    ("2026-03-02", "2026-03-02", 0),
+    ("2026-03-03", "2026-03-02", 0),
+    ("2026-03-02", "2027-03-02", 365),
+    ("2026-03-02", "2027-03-03", 366),
+    ("2024-02-28", "2025-02-28", 366),
+    ("1969-12-31", "1970-01-01", 1),
+    ("0001-01-01", "9999-12-31", 3_652_058),
+];
+
+#[test]
+fn counts_the_days_between_two(rt: HostRuntime) {
+    for (first, last, days) in BETWEEN {
+        let since = day(&rt, last).days_since(day(&rt, first));
+        assert!(rt; since == days, "{first} to {last}");
+    }
+}

@@ -12,3 +12,5 @@ mod days;
 mod indexes;
 #[cfg(test)]
 mod permits;
+#[cfg(test)]
+mod routes;

@@ -4,10 +4,10 @@ ghost use Rattle.permit_book.specs.Permits.{is_issued, is_live, permit_of};
 use permit_book::{Book, Mark, Status, Trip};
 use permit_days::Day;
 use road_graph::Numbers;
-use shared_route::SharedRoute;
 use std::alloc::Global;
 use std::process::Abort;
 use std::test::Fail;
+use trip_routes::SharedRoutes;
 
 // The day of a text, which writes one.
 fn day(rt: &impl Abort, text: &[u8]) -> Day {
@@ -19,7 +19,7 @@ fn trip(rt: &impl Abort, alloc: Global, caller: u32, truck: u32, last: &[u8]) ->
     Trip {
         caller,
         truck,
-        route: SharedRoute::along(alloc, Numbers::of(Vec::new(alloc))).expect(rt, "memory"),
+        routes: SharedRoutes::along(alloc, Numbers::of(Vec::new(alloc))).expect(rt, "memory"),
         first: day(rt, b"2026-03-02"),
         last: day(rt, last),
     }
