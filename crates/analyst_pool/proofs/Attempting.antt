@@ -24,7 +24,7 @@ use Rattle.office_core.proofs.Callings.{full_is, held_in_date}
 use Rattle.analyst_pool.specs.declared.deciding.Draft.{Draft}
 use Rattle.analyst_pool.specs.Attempts.{Concluded, DecidedAfter, IsAgain, IsDrafted, IsSubmitted, IsUnlessOutdated}
 use Rattle.analyst_pool.specs.Leaves.{CarriedOut, Grew}
-use Rattle.analyst_pool.specs.Unfolds.{AreOutdated, Concludes, Ends, IsCalled, IsDecided, IsOutdated, Unfolds, answered, concluded, full_between, held, lacks, looked_at, submitted}
+use Rattle.analyst_pool.specs.Unfolds.{AreOutdated, Concludes, Ends, IsCalled, IsDecided, IsOutdated, Unfolds, answered, concluded, full, full_between, held, lacks, looked_at, submitted}
 use Rattle.analyst_pool.proofs.Growing.{by_test, called_by, caller_of, grew_join, grew_none, grew_nothing, grew_one}
 
 outdated_room : (r : Reply) → is_outdated r ≡ true → is_full r ≡ false
@@ -60,6 +60,24 @@ module _ {P : Type 0} where
     concludes = lacks (d.proposal.seen, refl) refl;
     grew = h.grew;
     full = λ most e. absurd (grind (arith, ap is_full e));
+  }
+
+  -- no memory was left after a look
+  pub lacks_after : (v w : Calling P) (a : Application) (version : ℕ) → Answered v call.Snapshot (reply.SnapshotAt version) w → Concluded v a reply.NoMemory w
+  lacks_after v w a version s = record {
+    entries = looked_at v.who.caller version ∷ [];
+    concludes = lacks (version, refl) refl;
+    grew = grew_one v w call.Snapshot (reply.SnapshotAt version) refl s;
+    full = λ most e. absurd (grind (arith, ap is_full e));
+  }
+
+  -- the history was full ahead of the look
+  pub full_ahead : (v w : Calling P) (a : Application) (most : ℕ) → Answered v call.Snapshot (reply.Full most) w → Concluded v a (reply.Full most) w
+  full_ahead v w a most s = record {
+    entries = [];
+    concludes = full refl refl;
+    grew = grew_none v w most s.who (s.full most refl);
+    full = λ other e. (s.full other e).full;
   }
 
   -- a draft that was submitted: the entries of its attempt, where the history was not full

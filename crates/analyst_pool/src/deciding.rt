@@ -179,7 +179,7 @@ fn last_attempt<C: OfficeCalls, G: Gate, L: Ledger>(
         Ok(draft) => draft,
         Err(reply) => return reply,
     };
-    let copy = match application.try_clone(alloc) {
+    let copy = match application.try_clone() {
         Ok(copy) => copy,
         Err(NoMemory) => return Reply::NoMemory,
     };
@@ -215,7 +215,7 @@ fn prepare<C: OfficeCalls, L: Ledger>(
         Ok(proposal) => proposal,
         Err(NoMemory) => return Err(Reply::NoMemory),
     };
-    match application.try_clone(alloc) {
+    match application.try_clone() {
         Ok(application) => Ok(Draft {
             application,
             proposal,

@@ -9,7 +9,7 @@ use Rattle.day_trial.specs.declared.telling.Kind.TheVariants.{Issued, NoRoad, No
 
 -- the reply is a permit
 abbrev pub is_permit : Reply → Bool
-is_permit (reply.Issued number version route) = true
+is_permit (reply.Issued number version routes) = true
 is_permit _ = false
 
 -- the reply is a refusal

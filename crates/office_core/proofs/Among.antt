@@ -1,6 +1,6 @@
 -- The permits that a posting recalls are among those that use the segment it touches.
 use Rattle.std.proofs.Common.{◌≡◌, ◌∷◌, ◌++◌, [], List, ℕ, ◌+◌, Bool, cond, true, false, ◌&&◌, not, map, filter, length, get_or, refl, ap, sym, subst, ◌∙◌, append_assoc, arith}
-use Rattle.std.specs.List.{All}
+use Rattle.std.specs.List.{All, concat}
 use Rattle.std.proofs.lemmas.Bool.{and_from, and_parts}
 use Rattle.std.proofs.lemmas.List.{length-append}
 use Rattle.std.proofs.lemmas.List.Elements.{All-head, All-tail}
@@ -50,8 +50,8 @@ module _ (test keep : Permit → Bool) where
 recalled_uses : (base : BaseLists) (state : InForce) (segment : ℕ) (day : List ℕ) (p : Permit) → MeetsElsewhereIfInForce base state segment day p → is_recalled base state day p ≡ true → uses segment p ≡ true
 recalled_uses base state segment day p elsewhere is =
     let both = and_parts (in_force day p) (fails base state p) is in
-    let on = and_parts (is_in segment p.trip.route) (not (is_passable base state p.trip.truck segment)) (sym (fails_there base state segment p (elsewhere both.0)) ∙ both.1) in
-    and_from (is_live p.mark) (is_in segment p.trip.route) (live_in_force p day both.0) on.0
+    let on = and_parts (is_in segment (concat p.trip.routes)) (not (is_passable base state p.trip.truck segment)) (sym (fails_there base state segment p (elsewhere both.0)) ∙ both.1) in
+    and_from (is_live p.mark) (is_in segment (concat p.trip.routes)) (live_in_force p day both.0) on.0
 
 -- so those that it recalls are found among the permits that use the segment
 pub recalled_among : (base : BaseLists) (state : InForce) (segment : ℕ) (day : List ℕ) (ps : List Permit) → AreNumbered 0 ps → InForceMeetElsewhere base state segment day ps
@@ -64,5 +64,5 @@ recalled_among base state segment day ps numbered elsewhere =
 pub recalled_if_failing : (base : BaseLists) (state : InForce) (segment : ℕ) (day : List ℕ) (p : Permit) → MeetsElsewhereIfInForce base state segment day p → uses segment p ≡ true
     → in_force day p ≡ true → not (is_passable base state p.trip.truck segment) ≡ is_recalled base state day p
 recalled_if_failing base state segment day p elsewhere use' on =
-    let holds = (and_parts (is_live p.mark) (is_in segment p.trip.route) use').1 in
+    let holds = (and_parts (is_live p.mark) (is_in segment (concat p.trip.routes)) use').1 in
     sym (ap (λ b. b && fails base state p) on ∙ (fails_there base state segment p (elsewhere on) ∙ ap (λ b. b && not (is_passable base state p.trip.truck segment)) holds))

@@ -1,5 +1,6 @@
 -- What holds of each case of an answer to an application holds of the answer.
 use Rattle.std.proofs.Common.{◌≡◌, ◌∷◌, [], List, ℕ, ◌+◌, ◌⊎◌, inl, inr, true, false, ap, sym, refl, ◌∙◌, Option, Some, None, length, not, nat_eq, if◌then◌else◌, unwrap_or, arith}
+use Rattle.std.specs.List.{concat}
 use Rattle.restriction_log.specs.States.{InForce}
 use Rattle.restriction_log.specs.Changes.{takes}
 use Rattle.clearance_rules.specs.declared.limit.Limit.{Limit}
@@ -13,7 +14,7 @@ use Rattle.trip_analysis.specs.Bases.{BaseLists}
 use Rattle.trip_analysis.specs.Findings.{limit_for, first_on, first_meeting, leaving}
 use Rattle.office_words.specs.declared.entry.Call.{Call}
 use Rattle.office_words.specs.declared.entry.Reply.{Reply}
-use Rattle.office_core.specs.Replies.{route_reply, fails_reply, refused_or, cut_reply, what_reply, is_late, is_free, early_reply, apply_reply, day_reply, surrender_reply, shown, show_reply, is_full}
+use Rattle.office_core.specs.Replies.{routes_reply, fails_reply, refused_or, cut_reply, what_reply, is_late, is_free, early_reply, apply_reply, day_reply, surrender_reply, shown, show_reply, is_full}
 use Rattle.office_core.specs.Machine.{Machine, version_of, state_in, reply_in, posted_reply, IsAnswer}
 use Rattle.office_words.specs.declared.entry.Call.TheVariants as call
 use Rattle.office_words.specs.declared.entry.Reply.TheVariants as reply
@@ -25,17 +26,17 @@ module _ (base : BaseLists) (state : InForce) (v : ℕ) (day : List ℕ) (number
   pub record Cases (P : Reply → Type 0) : Type 0 where
     pub not_needed : w ≡ what.NotNeeded → P reply.NotNeeded
     pub no_road : (nodes : List ℕ) → w ≡ what.Cut nodes → leaving base.roads nodes ≡ [] → P reply.NoRoad
-    pub now_fails : (route : List ℕ) (f : Failing) → w ≡ what.Route route → first_on base state a.truck route ≡ Some f → P (reply.Outdated v (cause.NowFails f.limit))
-    pub issued : (route : List ℕ) → w ≡ what.Route route → first_on base state a.truck route ≡ None → P (reply.Issued number v route)
+    pub now_fails : (routes : List (List ℕ)) (f : Failing) → w ≡ what.Route routes → first_on base state a.truck (concat routes) ≡ Some f → P (reply.Outdated v (cause.NowFails f.limit))
+    pub issued : (routes : List (List ℕ)) → w ≡ what.Route routes → first_on base state a.truck (concat routes) ≡ None → P (reply.Issued number v routes)
     pub refused : (s : ℕ) (l : Limit) → w ≡ what.Fails s → limit_for base state a.truck s ≡ Some l → P (reply.Refused v l)
     pub now_meets : (s : ℕ) → w ≡ what.Fails s → limit_for base state a.truck s ≡ None → P (reply.Outdated v (cause.NowMeets s))
     pub cut_refused : (nodes rest : List ℕ) (s : ℕ) (l : Limit) → w ≡ what.Cut nodes → leaving base.roads nodes ≡ s ∷ rest → first_meeting base state a.truck (leaving base.roads nodes) ≡ None → limit_for base state a.truck s ≡ Some l → P (reply.Refused v l)
     pub cut_meets : (nodes : List ℕ) (s : ℕ) → w ≡ what.Cut nodes → first_meeting base state a.truck (leaving base.roads nodes) ≡ Some s → P (reply.Outdated v (cause.NowMeets s))
 
   module _ (P : Reply → Type 0) (c : Cases P) where
-    route_case : (route : List ℕ) → w ≡ what.Route route → (f : Option Failing) → first_on base state a.truck route ≡ f → P (route_reply number v route f)
-    route_case route e (Some f) h = c.now_fails route f e h
-    route_case route e None h = c.issued route e h
+    routes_case : (routes : List (List ℕ)) → w ≡ what.Route routes → (f : Option Failing) → first_on base state a.truck (concat routes) ≡ f → P (routes_reply number v routes f)
+    routes_case routes e (Some f) h = c.now_fails routes f e h
+    routes_case routes e None h = c.issued routes e h
 
     fails_case : (s : ℕ) → w ≡ what.Fails s → (l : Option Limit) → limit_for base state a.truck s ≡ l → P (fails_reply v s l)
     fails_case s e (Some l) h = c.refused s l e h
@@ -56,7 +57,7 @@ module _ (base : BaseLists) (state : InForce) (v : ℕ) (day : List ℕ) (number
 
     what_case : (u : What) → w ≡ u → P (what_reply base state v number a.truck u)
     what_case what.NotNeeded e = c.not_needed e
-    what_case (what.Route route) e = route_case route e (first_on base state a.truck route) refl
+    what_case (what.Route routes) e = routes_case routes e (first_on base state a.truck (concat routes)) refl
     what_case (what.Fails s) e = fails_case s e (limit_for base state a.truck s) refl
     what_case (what.Cut nodes) e = cut_case nodes e (leaving base.roads nodes) refl (first_meeting base state a.truck (leaving base.roads nodes)) refl
 

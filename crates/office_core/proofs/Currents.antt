@@ -26,7 +26,7 @@ holds_current : (base : BaseLists) (state : InForce) (v : ℕ) (day : List ℕ) 
 holds_current base state v day number a w holds = record {
   not_needed = λ _. refl;
   no_road = λ _ _ _. refl;
-  now_fails = λ route f is fails. absurd (some_none f (subst (HoldsIn base state a.truck) is holds) fails);
+  now_fails = λ routes f is fails. absurd (some_none f (subst (HoldsIn base state a.truck) is holds) fails);
   issued = λ _ _ _. refl;
   refused = λ _ _ _ _. refl;
   now_meets = λ s is meets. absurd (grind (arith, subst (HoldsIn base state a.truck) is holds, meets));

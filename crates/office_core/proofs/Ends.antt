@@ -50,7 +50,7 @@ same : (k : ℕ) (m : Machine) → Ends k m m
 same k m = (omega arith, λ _. (refl, refl))
 
 issue_ends : (k : ℕ) (m : Machine) (caller : ℕ) (a : Application) (seen : ℕ) (r : Reply) → k < length m.permits → Ends k m (with_permit m caller a seen r)
-issue_ends k m caller a seen (reply.Issued number v route) h = (longer m.permits _, λ _. (get_or_append_left m.permits _ no_permit k h, refl))
+issue_ends k m caller a seen (reply.Issued number v routes) h = (longer m.permits _, λ _. (get_or_append_left m.permits _ no_permit k h, refl))
   where
     longer : {A : Type 0} (xs ys : List A) → length xs ≤ length (xs ++ ys)
     longer xs ys = omega (arith, length-append xs ys)

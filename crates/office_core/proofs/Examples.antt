@@ -37,10 +37,10 @@ replies es = map (λ e. e.reply) es
 -- two permits, and then a posting that recalls the first: the second is still in force, the first is not
 module _ (day : List ℕ) (first second : Application) (change : Change) (ends : is_before first.last day ≡ false) (last : is_before second.last day ≡ false) where
   abbrev two : List Entry
-  two = entry 0 (call.Held first) (reply.Issued 1 0 (0 ∷ [])) ∷ entry 0 (call.Held second) (reply.Issued 2 0 (0 ∷ [])) ∷ []
+  two = entry 0 (call.Held first) (reply.Issued 1 0 ((0 ∷ []) ∷ [])) ∷ entry 0 (call.Held second) (reply.Issued 2 0 ((0 ∷ []) ∷ [])) ∷ []
 
   abbrev three : List Entry
-  three = entry 0 (call.Held first) (reply.Issued 1 0 (0 ∷ [])) ∷ entry 0 (call.Held second) (reply.Issued 2 0 (0 ∷ [])) ∷ entry 1 (call.Post change) (reply.Posted 1 (1 ∷ [])) ∷ []
+  three = entry 0 (call.Held first) (reply.Issued 1 0 ((0 ∷ []) ∷ [])) ∷ entry 0 (call.Held second) (reply.Issued 2 0 ((0 ∷ []) ∷ [])) ∷ entry 1 (call.Post change) (reply.Posted 1 (1 ∷ [])) ∷ []
 
   one_posting : version_after three ≡ 1
   one_posting = refl
@@ -72,8 +72,8 @@ module _ (day : List ℕ) (first second : Application) (change : Change) (ends :
   first_before : IsInForce day two 1
   first_before = record {
     trip = first;
-    route = 0 ∷ [];
-    issued = ([], 0, call.Held first, 0, refl, (entry 0 (call.Held second) (reply.Issued 2 0 (0 ∷ [])) ∷ [], refl));
+    routes = (0 ∷ []) ∷ [];
+    issued = ([], 0, call.Held first, 0, refl, (entry 0 (call.Held second) (reply.Issued 2 0 ((0 ∷ []) ∷ [])) ∷ [], refl));
     stands = record { not_recalled = none_recalled; not_surrendered = none_given };
     not_expired = ends;
   }
@@ -95,8 +95,8 @@ module _ (day : List ℕ) (first second : Application) (change : Change) (ends :
   second_stays : IsInForce day three 2
   second_stays = record {
     trip = second;
-    route = 0 ∷ [];
-    issued = (entry 0 (call.Held first) (reply.Issued 1 0 (0 ∷ [])) ∷ [], 0, call.Held second, 0, refl, (entry 1 (call.Post change) (reply.Posted 1 (1 ∷ [])) ∷ [], refl));
+    routes = (0 ∷ []) ∷ [];
+    issued = (entry 0 (call.Held first) (reply.Issued 1 0 ((0 ∷ []) ∷ [])) ∷ [], 0, call.Held second, 0, refl, (entry 1 (call.Post change) (reply.Posted 1 (1 ∷ [])) ∷ [], refl));
     stands = record { not_recalled = second_kept; not_surrendered = second_not_given };
     not_expired = last;
   }
@@ -104,10 +104,10 @@ module _ (day : List ℕ) (first second : Application) (change : Change) (ends :
 -- a permit that is given back, and a second call that tries it again: its mark says so
 module _ (trip : Application) where
   abbrev given : List Entry
-  given = entry 0 (call.Held trip) (reply.Issued 1 0 (0 ∷ [])) ∷ entry 0 (call.Surrender 1) reply.Surrendered ∷ entry 0 (call.Surrender 1) (reply.NotInForce status.Surrendered) ∷ []
+  given = entry 0 (call.Held trip) (reply.Issued 1 0 ((0 ∷ []) ∷ [])) ∷ entry 0 (call.Surrender 1) reply.Surrendered ∷ entry 0 (call.Surrender 1) (reply.NotInForce status.Surrendered) ∷ []
 
   mark_given : IsMarkOf given 1 mark.Surrendered
-  mark_given = (entry 0 (call.Held trip) (reply.Issued 1 0 (0 ∷ [])) ∷ [], (0, (entry 0 (call.Surrender 1) (reply.NotInForce status.Surrendered) ∷ [], refl)))
+  mark_given = (entry 0 (call.Held trip) (reply.Issued 1 0 ((0 ∷ []) ∷ [])) ∷ [], (0, (entry 0 (call.Surrender 1) (reply.NotInForce status.Surrendered) ∷ [], refl)))
 
 -- one road, from node 0 to node 2: no walk leads from node 0 to node 1. Where the road is closed, a trip to node 2 is shut in
 -- at it
@@ -162,7 +162,7 @@ module _ (base : BaseLists) where
 
 -- a hundred permits on segment 0, and a hundred behind them on segment 1: a posting on segment 1 tests a hundred at the most
 permits_on : ℕ → ℕ → List Permit
-permits_on segment before = map (λ n. new_permit n (trip_of 0 0 (segment ∷ []) [] []) 0 0) (range_with_len (before + 1) 100)
+permits_on segment before = map (λ n. new_permit n (trip_of 0 0 ((segment ∷ []) ∷ []) [] []) 0 0) (range_with_len (before + 1) 100)
 
 second_hundred : users_of 1 (permits_on 0 0 ++ permits_on 1 100) ≡ range_with_len 101 100
 unfolding permits_on

@@ -1,6 +1,7 @@
 -- Permits in force meet the current state.
 use Rattle.std.proofs.Common.{◌≡◌, ◌∷◌, ◌++◌, [], List, ℕ, ◌⊎◌, inl, inr, Bool, true, false, if◌then◌else◌, ap, sym, subst, refl, arith}
 use Rattle.std.proofs.lemmas.List.Elements.{All-append, All-set, All-nil, All-cons}
+use Rattle.std.specs.List.{concat}
 use Rattle.restriction_log.specs.declared.change.Change.{Change}
 use Rattle.restriction_log.specs.States.{InForce, state_of}
 use Rattle.permit_days.specs.Days.{is_before}
@@ -27,8 +28,8 @@ abbrev pub MeetNow : BaseLists → Machine → Type 0
 MeetNow base m = InForceMeet base (state_in base m) m.day m.permits
 
 issue_meets : (base : BaseLists) (m : Machine) (caller : ℕ) (a : Application) (seen : ℕ) (r : Reply) → MeetNow base m → IssuedMeets base (state_in base m) a.truck r → MeetNow base (with_permit m caller a seen r)
-issue_meets base m caller a seen (reply.Issued number v route) had e = All-append (MeetsIfInForce base (state_in base m) m.day) m.permits _ had
-    (All-cons (MeetsIfInForce base (state_in base m) m.day) _ [] (λ _. none_fails base (state_in base m) a.truck route e) (All-nil (MeetsIfInForce base (state_in base m) m.day)))
+issue_meets base m caller a seen (reply.Issued number v routes) had e = All-append (MeetsIfInForce base (state_in base m) m.day) m.permits _ had
+    (All-cons (MeetsIfInForce base (state_in base m) m.day) _ [] (λ _. none_fails base (state_in base m) a.truck (concat routes) e) (All-nil (MeetsIfInForce base (state_in base m) m.day)))
 issue_meets base m caller a seen _ had e = had
 
 recalled_fine : (base : BaseLists) (state : InForce) (day : List ℕ) (v : ℕ) (p : Permit) → MeetsIfInForce base state day (recalled_if base state day v p)

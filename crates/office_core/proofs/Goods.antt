@@ -1,6 +1,6 @@
 -- What every legal history leaves: permits numbered by their places, with trucks and segments that exist, in force only where they meet.
 use Rattle.std.proofs.Common.{◌≡◌, ◌∷◌, ◌++◌, [], List, ℕ, zero, suc, ◌+◌, ◌-◌, ◌<◌, ◌≤◌, ◌⊎◌, inl, inr, true, false, map, set, get_or, length, sym, subst, refl, ◌∙◌, arith, None}
-use Rattle.std.specs.List.{All}
+use Rattle.std.specs.List.{All, concat}
 use Rattle.std.proofs.lemmas.List.{set_past}
 use Rattle.std.proofs.lemmas.Bool.{cases_lt}
 use Rattle.std.proofs.lemmas.List.Elements.{All-append, All-set, All-nil, All-cons}
@@ -32,9 +32,9 @@ use Rattle.office_core.proofs.Lists.{pick, All-map}
 use Rattle.office_core.proofs.Forces.{answer_meets, day_meets, post_meets, surrender_meets}
 use Rattle.office_core.proofs.Replies.{none_fails}
 
--- of a reply that issues a permit, its number and its route
+-- of a reply that issues a permit, its number and the segments of its routes
 abbrev IssuedAs : BaseLists → ℕ → Reply → Type 0
-IssuedAs base number (reply.Issued n version route) = (n ≡ number) × All (λ s. s < length base.roads.segments) route
+IssuedAs base number (reply.Issued n version routes) = (n ≡ number) × All (λ s. s < length base.roads.segments) (concat routes)
 IssuedAs base number _ = Unit {0}
 
 issued_as : (base : BaseLists) (m : Machine) (a : Application) (w : What) → (early_reply base m.day a ≡ None → InRange base w) → IssuedAs base (length m.permits + 1) (reply_in base m a w)
@@ -42,7 +42,7 @@ issued_as base m a w h = apply_found base (state_in base m) (version_of m) m.day
   not_needed = λ _. tt;
   no_road = λ _ _ _. tt;
   now_fails = λ _ _ _ _. tt;
-  issued = λ route e meets. (refl, subst (InRange base) e (h (none_early base m.day a early needed)));
+  issued = λ routes e meets. (refl, subst (InRange base) e (h (none_early base m.day a early needed)));
   refused = λ _ _ _ _. tt;
   now_meets = λ _ _ _. tt;
   cut_refused = λ _ _ _ _ _ _ _ _. tt;
@@ -66,18 +66,18 @@ recalled_number : (base : BaseLists) (state : InForce) (day : List ℕ) (v : ℕ
 recalled_number base state day v p = pick (λ (q : Permit). q.number ≡ p.number) (is_recalled base state day p) (record p { mark = mark.Recalled v }) p (λ _. refl) (λ _. refl)
 
 recalled_ranged : (base : BaseLists) (state : InForce) (day : List ℕ) (v : ℕ) (p : Permit) → IsRanged base p → IsRanged base (recalled_if base state day v p)
-recalled_ranged base state day v p h = pick (IsRanged base) (is_recalled base state day p) (record p { mark = mark.Recalled v }) p (λ _. record { truck = h.truck; route = h.route }) (λ _. h)
+recalled_ranged base state day v p h = pick (IsRanged base) (is_recalled base state day p) (record p { mark = mark.Recalled v }) p (λ _. record { truck = h.truck; routes = h.routes }) (λ _. h)
 
 ranged-mark : (base : BaseLists) (m : Mark) (k : ℕ) (ps : List Permit) → k < length ps → All (IsRanged base) ps → All (IsRanged base) (set ps k (record (get_or ps k no_permit) { mark = m }))
-ranged-mark base m k ps inside h = let old = h k no_permit inside in All-set (IsRanged base) ps k _ (record { truck = old.truck; route = old.route }) h
+ranged-mark base m k ps inside h = let old = h k no_permit inside in All-set (IsRanged base) ps k _ (record { truck = old.truck; routes = old.routes }) h
 
 abbrev Kept : BaseLists → Machine → Type 0
 Kept base m = AreNumbered 0 m.permits × All (IsRanged base) m.permits
 
 issue_kept : (base : BaseLists) (m : Machine) (caller : ℕ) (a : Application) (seen : ℕ) (r : Reply) → a.truck < length base.fleet → IssuedAs base (length m.permits + 1) r → Kept base m → Kept base (with_permit m caller a seen r)
-issue_kept base m caller a seen (reply.Issued n v route) truck is had = (
+issue_kept base m caller a seen (reply.Issued n v routes) truck is had = (
   numbered-append 0 m.permits _ had.0 (omega (arith, is.0)),
-  All-append (IsRanged base) m.permits _ had.1 (All-cons (IsRanged base) _ [] (record { truck = truck; route = is.1 }) (All-nil (IsRanged base))),
+  All-append (IsRanged base) m.permits _ had.1 (All-cons (IsRanged base) _ [] (record { truck = truck; routes = is.1 }) (All-nil (IsRanged base))),
 )
 issue_kept base m caller a seen _ truck is had = had
 
@@ -155,13 +155,13 @@ good_opened base day = record {
   meets = All-nil (MeetsIfInForce base (state_in base (opened day)) day);
 }
 
-pub good_entered : (base : BaseLists) (m : Machine) (p : Permit) → p.number ≡ length m.permits + 1 → IsRanged base p → first_on base (state_in base m) p.trip.truck p.trip.route ≡ None → IsGood base m → IsGood base (record m { permits = m.permits ++ p ∷ [] })
+pub good_entered : (base : BaseLists) (m : Machine) (p : Permit) → p.number ≡ length m.permits + 1 → IsRanged base p → first_on base (state_in base m) p.trip.truck (concat p.trip.routes) ≡ None → IsGood base m → IsGood base (record m { permits = m.permits ++ p ∷ [] })
 good_entered base m p number ranged meets good = record {
   taken = good.taken;
   numbered = numbered-append 0 m.permits p good.numbered (omega (arith, number));
   ranged = All-append (IsRanged base) m.permits (p ∷ []) good.ranged (All-cons (IsRanged base) p [] ranged (All-nil (IsRanged base)));
   meets = All-append (MeetsIfInForce base (state_in base m) m.day) m.permits (p ∷ []) good.meets
-      (All-cons (MeetsIfInForce base (state_in base m) m.day) p [] (λ _. none_fails base (state_in base m) p.trip.truck p.trip.route meets) (All-nil (MeetsIfInForce base (state_in base m) m.day)));
+      (All-cons (MeetsIfInForce base (state_in base m) m.day) p [] (λ _. none_fails base (state_in base m) p.trip.truck (concat p.trip.routes) meets) (All-nil (MeetsIfInForce base (state_in base m) m.day)));
 }
 
 pub good_posted : (base : BaseLists) (m : Machine) (change : Change) (v : ℕ) (recalled : List ℕ) → takes base.roads change ≡ true → IsGood base m → IsGood base (with_posting base m change (reply.Posted v recalled))

@@ -1,6 +1,6 @@
 -- The index has at each segment the permits that use it, as permits are issued and end.
 use Rattle.std.proofs.Common.{◌≡◌, ◌∷◌, ◌++◌, [], List, ℕ, zero, suc, ◌+◌, ◌-◌, ◌<◌, ◌≤◌, Bool, cond, true, false, nat_eq, not, ◌&&◌, map, filter, set, length, get_or, refl, ap, sym, subst, ◌∙◌, arith}
-use Rattle.std.specs.List.{All, AllByRecursion as ByRecursion}
+use Rattle.std.specs.List.{All, concat, AllByRecursion as ByRecursion}
 use Rattle.std.proofs.lemmas.Bool.Decides.{nat_tests}
 use Rattle.std.proofs.lemmas.List.{get_or_default, map-append}
 use Rattle.std.proofs.lemmas.List.Elements.{All-append, All-cons, All-nil, All-set, All-weaker, filter-append}
@@ -45,7 +45,7 @@ users_marked : (s b k : ℕ) (ps : List Permit) (m : Mark) → is_live m ≡ fal
 users_marked s b k [] m off h = refl
 users_marked s b zero (p ∷ ps) m off h = gone (uses s p) (let same : b + 0 + 1 ≡ b + 1 = omega arith in subst (λ n. without n (users_of s ps) ≡ users_of s ps) (sym same) (untouched (b + 1) (users_of s ps) (above s (b + 1) ps h.1)))
   where
-    gone : (x : Bool) → without (b + 0 + 1) (users_of s ps) ≡ users_of s ps → map (λ (y : Permit). y.number) (cond (is_live m && is_in s p.trip.route) ((record p { mark = m }) ∷ filter (uses s) ps) (filter (uses s) ps)) ≡ without (b + 0 + 1) (map (λ (y : Permit). y.number) (cond x (p ∷ filter (uses s) ps) (filter (uses s) ps)))
+    gone : (x : Bool) → without (b + 0 + 1) (users_of s ps) ≡ users_of s ps → map (λ (y : Permit). y.number) (cond (is_live m && is_in s (concat p.trip.routes)) ((record p { mark = m }) ∷ filter (uses s) ps) (filter (uses s) ps)) ≡ without (b + 0 + 1) (map (λ (y : Permit). y.number) (cond x (p ∷ filter (uses s) ps) (filter (uses s) ps)))
     gone true e = let hit : not (nat_eq p.number (b + 0 + 1)) ≡ false = grind (arith, nat_tests, h.0) in rw off (sym (ap (λ c. cond c (p.number ∷ without (b + 0 + 1) (users_of s ps)) (without (b + 0 + 1) (users_of s ps))) hit ∙ e))
     gone false e = rw off (sym e)
 users_marked s b (suc k) (p ∷ ps) m off h = kept (uses s p) (users_marked s (b + 1) k ps m off h.1)
@@ -81,23 +81,23 @@ module _ (segments : ℕ) (ps : List Permit) (index : Lists) (is : IsIndexed seg
       subst (All (λ k. k < n)) (sym (is.users s here))
       (All-weaker (IsUser ps s) (λ k. k < n) (λ k user. (let issued = user.issued in grind (arith, nat_tests, next, issued))) (users_of s ps) (are_users s ps h))
 
-  -- with its route added the next permit is in the index
-  pub index_issued : (next : Lists) (n : ℕ) (p : Permit) → IsAdded index n p.trip.route next → p.number ≡ n → is_live p.mark ≡ true → All (λ s. s < segments) p.trip.route → IsIndexed segments (ps ++ p ∷ []) next
+  -- with its routes added the next permit is in the index
+  pub index_issued : (next : Lists) (n : ℕ) (p : Permit) → IsAdded index n (concat p.trip.routes) next → p.number ≡ n → is_live p.mark ≡ true → All (λ s. s < segments) (concat p.trip.routes) → IsIndexed segments (ps ++ p ∷ []) next
   index_issued next n p added same live inside = record {
     many = added.many ∙ is.many;
     users = λ s low. (let here : s < length index = omega (arith, low, is.many) in
-        added.using s here ∙ (ap (λ l. l ++ cond (is_in s p.trip.route) (n ∷ []) []) (is.users s low)
-        ∙ (ap (λ k. users_of s ps ++ cond (is_in s p.trip.route) (k ∷ []) []) (sym same)
-        ∙ (ap (λ b. users_of s ps ++ cond (b && is_in s p.trip.route) (p.number ∷ []) []) (sym live) ∙ sym (users_issued s ps p)))));
+        added.using s here ∙ (ap (λ l. l ++ cond (is_in s (concat p.trip.routes)) (n ∷ []) []) (is.users s low)
+        ∙ (ap (λ k. users_of s ps ++ cond (is_in s (concat p.trip.routes)) (k ∷ []) []) (sym same)
+        ∙ (ap (λ b. users_of s ps ++ cond (b && is_in s (concat p.trip.routes)) (p.number ∷ []) []) (sym live) ∙ sym (users_issued s ps p)))));
     within = All-append (IsOnRoads segments) ps (p ∷ []) is.within (All-cons (IsOnRoads segments) p [] inside (All-nil (IsOnRoads segments)));
   }
 
   -- and taken out again it leaves the index as it was
-  pub index_undone : (mid last : Lists) (n : ℕ) (route : List ℕ) → n ≡ length ps + 1 → IsAdded index n route mid → IsRemoved mid n last → IsIndexed segments ps last
-  index_undone mid last n route next added gone = record {
+  pub index_undone : (mid last : Lists) (n : ℕ) (path : List ℕ) → n ≡ length ps + 1 → IsAdded index n path mid → IsRemoved mid n last → IsIndexed segments ps last
+  index_undone mid last n path next added gone = record {
     many = gone.many ∙ (added.many ∙ is.many);
     users = λ s low. (let here : s < length index = omega (arith, low, is.many) in let there : s < length mid = omega (arith, here, added.many) in
-        gone.using s there ∙ (ap (without n) (added.using s here) ∙ (end_gone n (using_in index s) (is_in s route) (index_below n next s here) ∙ is.users s low)));
+        gone.using s there ∙ (ap (without n) (added.using s here) ∙ (end_gone n (using_in index s) (is_in s path) (index_below n next s here) ∙ is.users s low)));
     within = is.within;
   }
 
@@ -108,16 +108,16 @@ module _ (segments : ℕ) (ps : List Permit) (index : Lists) (is : IsIndexed seg
     few : n ≤ length ps
     few = grind (arith, nat_tests, issued)
 
-    -- a live permit is there with its route
-    pub index_there : (p : Permit) → p ≡ permit_of ps n → is_live (permit_of ps n).mark ≡ true → IsThere index n p.trip.route
+    -- a live permit is there with its routes
+    pub index_there : (p : Permit) → p ≡ permit_of ps n → is_live (permit_of ps n).mark ≡ true → IsThere index n (concat p.trip.routes)
     index_there p same live s low = let here : s < segments = omega (arith, low, is.many) in
         ap (is_in n) (is.users s here) ∙ (in_numbers (uses s) ps n h some few
-        ∙ (ap (λ b. b && is_in s (permit_of ps n).trip.route) live ∙ ap (λ (q : Permit). is_in s q.trip.route) (sym same)))
+        ∙ (ap (λ b. b && is_in s (concat (permit_of ps n).trip.routes)) live ∙ ap (λ (q : Permit). is_in s (concat q.trip.routes)) (sym same)))
 
-    pub index_inside : (p : Permit) → p ≡ permit_of ps n → All (λ s. s < length index) p.trip.route
+    pub index_inside : (p : Permit) → p ≡ permit_of ps n → All (λ s. s < length index) (concat p.trip.routes)
     index_inside p same = let low : n - 1 < length ps = omega (arith, some, few) in
-        subst (λ (q : Permit). All (λ s. s < length index) q.trip.route) (sym same)
-        (subst (λ k. All (λ s. s < k) (permit_of ps n).trip.route) (sym is.many) (is.within (n - 1) no_permit low))
+        subst (λ (q : Permit). All (λ s. s < length index) (concat q.trip.routes)) (sym same)
+        (subst (λ k. All (λ s. s < k) (concat (permit_of ps n).trip.routes)) (sym is.many) (is.within (n - 1) no_permit low))
 
     -- taken out of it, and marked as ended
     pub index_marked : (next : Lists) (m : Mark) → is_live m ≡ false → IsRemoved index n next → IsIndexed segments (marked ps n m) next

@@ -12,14 +12,14 @@ pub recalled_issued : (base : BaseLists) (day : Day) (es : History) → KeepsPro
 recalled_issued base day es keeps front n recalls =
     let (v, (by, c, ns, on, (rest, is))) = recalls in
     let once = keeps.recalled_once front n recalls in
-    let (by', c', v', route, stands) = once.issued in
-    let permit = keeps.issued once.at by' c' n v' route (stands_in es front (entry by c (reply.Posted v ns) ∷ rest) once.at (entry by' c' (reply.Issued n v' route)) is stands) in
+    let (by', c', v', routes, stands) = once.issued in
+    let permit = keeps.issued once.at by' c' n v' routes (stands_in es front (entry by c (reply.Posted v ns) ∷ rest) once.at (entry by' c' (reply.Issued n v' routes)) is stands) in
     record {
       at = once.at;
       by = by';
       c = c';
       v = v';
-      route = route;
+      routes = routes;
       trip = permit.trip;
       stands = stands;
       asked = permit.asked.is;

@@ -4,7 +4,7 @@ use Rattle.std.proofs.lemmas.Bool.Decides.{nat_tests}
 use Rattle.std.specs.Prelude.{slice_get}
 use Rattle.std.proofs.lemmas.List.{append-nil, drop_all, get_or-replicate, length-replicate}
 use Rattle.std.proofs.lemmas.Option.{get_or_from_slice_get, slice_get_within}
-use Rattle.std.specs.List.{All}
+use Rattle.std.specs.List.{All, concat}
 use Rattle.std.specs.Arc.{arc_value}
 use Rattle.road_graph.specs.Roads.{Roads}
 use Rattle.restriction_log.specs.declared.change.Change.{Change}
@@ -127,21 +127,21 @@ held_if_found i p base s a (Ok q) seen inv same is sound at found =
     found_held i p base (store_state s) a q.seen q.what seen inv same (ap store_state is) (at ∙ ap version_of is) sound found
 held_if_found i p base s a (Err e) seen inv same is sound at found = tt
 
--- the segments of a route are in the index
-pub route_there : (i : Inside) (p : RegisterParts) (route : List ℕ) → parts_of i ≡ p → IsRegister i → All (λ s. s < length p.base.roads.segments) route → All (λ s. s < length i.index) route
-route_there i p route seen inv inside = subst (λ k. All (λ s. s < k) route) (sym inv.index.many) (subst (λ (q : RegisterParts). All (λ s. s < length q.base.roads.segments) route) (sym seen) inside)
+-- the segments that are passed are in the index
+pub segments_there : (i : Inside) (p : RegisterParts) (path : List ℕ) → parts_of i ≡ p → IsRegister i → All (λ s. s < length p.base.roads.segments) path → All (λ s. s < length i.index) path
+segments_there i p path seen inv inside = subst (λ k. All (λ s. s < k) path) (sym inv.index.many) (subst (λ (q : RegisterParts). All (λ s. s < length q.base.roads.segments) path) (sym seen) inside)
 
--- with one permit more, whose route meets, and its route in the index
+-- with one permit more, whose routes meet, and its routes in the index
 pub issue_keeps : (i : Inside) (p : RegisterParts) (book : List Permit) (index : Lists) (q : Permit) → parts_of i ≡ p → IsRegister i → q.number ≡ length i.book + 1 → is_live q.mark ≡ true
-    → q.trip.truck < length p.base.fleet → All (λ s. s < length p.base.roads.segments) q.trip.route → first_on p.base (state_now p) q.trip.truck q.trip.route ≡ None
-    → IsAdded i.index q.number q.trip.route index → book ≡ i.book ++ q ∷ [] → IsRegister (record i { book = book; index = index })
+    → q.trip.truck < length p.base.fleet → All (λ s. s < length p.base.roads.segments) (concat q.trip.routes) → first_on p.base (state_now p) q.trip.truck (concat q.trip.routes) ≡ None
+    → IsAdded i.index q.number (concat q.trip.routes) index → book ≡ i.book ++ q ∷ [] → IsRegister (record i { book = book; index = index })
 issue_keeps i p book index q seen inv number live there within meets added entered =
     let base : BaseLists = arc_value i.base in
     let m : Machine = machine_at i.store.postings i.book i.day in
     let fits : q.trip.truck < length base.fleet = subst (λ (r : RegisterParts). q.trip.truck < length r.base.fleet) (sym seen) there in
-    let inside : All (λ s. s < length base.roads.segments) q.trip.route = subst (λ (r : RegisterParts). All (λ s. s < length r.base.roads.segments) q.trip.route) (sym seen) within in
-    let passes : first_on base (state_now (parts_of i)) q.trip.truck q.trip.route ≡ None = subst (λ (r : RegisterParts). first_on r.base (state_now r) q.trip.truck q.trip.route ≡ None) (sym seen) meets in
-    let ranged : IsRanged base q = record { truck = fits; route = inside } in
+    let inside : All (λ s. s < length base.roads.segments) (concat q.trip.routes) = subst (λ (r : RegisterParts). All (λ s. s < length r.base.roads.segments) (concat q.trip.routes)) (sym seen) within in
+    let passes : first_on base (state_now (parts_of i)) q.trip.truck (concat q.trip.routes) ≡ None = subst (λ (r : RegisterParts). first_on r.base (state_now r) q.trip.truck (concat q.trip.routes) ≡ None) (sym seen) meets in
+    let ranged : IsRanged base q = record { truck = fits; routes = inside } in
     record {
       roads = inv.roads;
       good = rw entered (good_entered base m q number ranged passes inv.good);
@@ -151,15 +151,15 @@ issue_keeps i p book index q seen inv number live there within meets added enter
       index = rw entered (index_issued (length base.roads.segments) i.book i.index inv.index inv.good.numbered index q.number q added refl live inside);
     }
 
--- with no permit more, and its route out of the index again
-pub undo_keeps : (i : Inside) (book : List Permit) (mid index : Lists) (n : ℕ) (route : List ℕ) → IsRegister i → n ≡ length i.book + 1 → IsAdded i.index n route mid → IsRemoved mid n index → book ≡ i.book → IsRegister (record i { book = book; index = index })
-undo_keeps i book mid index n route inv next added gone same = record {
+-- with no permit more, and its routes out of the index again
+pub undo_keeps : (i : Inside) (book : List Permit) (mid index : Lists) (n : ℕ) (path : List ℕ) → IsRegister i → n ≡ length i.book + 1 → IsAdded i.index n path mid → IsRemoved mid n index → book ≡ i.book → IsRegister (record i { book = book; index = index })
+undo_keeps i book mid index n path inv next added gone same = record {
   roads = inv.roads;
   good = rw same inv.good;
   store = inv.store;
   follower = inv.follower;
   later = inv.later;
-  index = rw same (index_undone (length (arc_value i.base).roads.segments) i.book i.index inv.index inv.good.numbered mid index n route next added gone);
+  index = rw same (index_undone (length (arc_value i.base).roads.segments) i.book i.index inv.index inv.good.numbered mid index n path next added gone);
 }
 
 -- the permits that a state recalls are live still when those before them are marked

@@ -1,6 +1,6 @@
 -- What each answer to an application says.
 use Rattle.std.proofs.Common.{◌≡◌, ◌+◌, ◌∷◌, [], List, ℕ, Bool, false, not, length, ap, refl, Option, Some, None, is_none, is_some, ◌||◌, arith}
-use Rattle.std.specs.List.{list_any}
+use Rattle.std.specs.List.{concat, list_any}
 use Rattle.restriction_log.specs.States.{InForce}
 use Rattle.clearance_rules.specs.declared.limit.Limit.{Limit}
 use Rattle.trip_analysis.specs.declared.application.Application.{Application}
@@ -13,9 +13,9 @@ use Rattle.office_core.specs.Machine.{Machine, version_of, state_in, reply_in}
 use Rattle.office_words.specs.declared.entry.Reply.TheVariants as reply
 use Rattle.office_core.proofs.Cases.{apply_cases}
 
--- of a reply that issues a route, that none of it fails
+-- of a reply that issues routes, that no segment of them fails
 abbrev pub IssuedMeets : BaseLists → InForce → ℕ → Reply → Type 0
-IssuedMeets base state truck (reply.Issued number version route) = first_on base state truck route ≡ None
+IssuedMeets base state truck (reply.Issued number version routes) = first_on base state truck (concat routes) ≡ None
 IssuedMeets base state truck _ = Unit {0}
 
 pub apply_meets : (base : BaseLists) (m : Machine) (a : Application) (w : What) → IssuedMeets base (state_in base m) a.truck (reply_in base m a w)
@@ -23,7 +23,7 @@ apply_meets base m a w = apply_cases base (state_in base m) (version_of m) m.day
   not_needed = λ _. tt;
   no_road = λ _ _ _. tt;
   now_fails = λ _ _ _ _. tt;
-  issued = λ route e meets. meets;
+  issued = λ routes e meets. meets;
   refused = λ _ _ _ _. tt;
   now_meets = λ _ _ _. tt;
   cut_refused = λ _ _ _ _ _ _ _ _. tt;
@@ -34,8 +34,8 @@ pub first_or_none : (l : Option Limit) (s : ℕ) (rest : Option Failing) → fir
 first_or_none (Some l) s rest e = absurd (grind (arith, e))
 first_or_none None s rest e = (refl, e)
 
--- where none of a route fails, no permit on it does
-pub none_fails : (base : BaseLists) (state : InForce) (truck : ℕ) (route : List ℕ) → first_on base state truck route ≡ None → list_any (λ s. not (is_passable base state truck s)) route ≡ false
+-- where none of these segments fails, no permit along them does
+pub none_fails : (base : BaseLists) (state : InForce) (truck : ℕ) (segments : List ℕ) → first_on base state truck segments ≡ None → list_any (λ s. not (is_passable base state truck s)) segments ≡ false
 none_fails base state truck [] e = refl
 none_fails base state truck (s ∷ rest) e = let both = first_or_none (limit_for base state truck s) s (first_on base state truck rest) e in
     let one : not (is_passable base state truck s) ≡ false = ap (λ l. not (is_none l)) both.0 in
@@ -46,6 +46,6 @@ some_fails base state truck s (Some l) rest b e h = refl
 some_fails base state truck s None rest b e h = h
 
 -- a permit fails where a first segment that fails is found
-pub found_fails : (base : BaseLists) (state : InForce) (truck : ℕ) (route : List ℕ) → is_some (first_on base state truck route) ≡ list_any (λ s. not (is_passable base state truck s)) route
+pub found_fails : (base : BaseLists) (state : InForce) (truck : ℕ) (segments : List ℕ) → is_some (first_on base state truck segments) ≡ list_any (λ s. not (is_passable base state truck s)) segments
 found_fails base state truck [] = refl
 found_fails base state truck (s ∷ rest) = some_fails base state truck s (limit_for base state truck s) (first_on base state truck rest) _ refl (found_fails base state truck rest)

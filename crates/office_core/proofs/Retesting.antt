@@ -1,5 +1,6 @@
--- What did not change after a version is as it was then: along a route that met, and out of a cut that failed.
+-- What did not change after a version is as it was then: along segments that met, and out of a cut that failed.
 use Rattle.std.proofs.Common.{◌≡◌, [], ◌∷◌, List, ℕ, zero, suc, ◌+◌, ◌-◌, ◌<◌, ◌≤◌, ◌&&◌, Bool, cond, true, false, length, get_or, take, drop, filter, inl, inr, refl, ap, sym, subst, ◌∙◌, zero-add, arith}
+use Rattle.std.specs.List.{concat}
 use Rattle.std.specs.Prelude.{Option, Some, None, is_none}
 use Rattle.std.proofs.lemmas.Bool.{and_parts, cases_Bool}
 use Rattle.std.proofs.lemmas.List.{drop_more}
@@ -45,15 +46,15 @@ counted : (base : BaseLists) (postings : List Change) (seen s : ℕ) (rest : Lis
     → changed_on base postings seen (s ∷ rest) ≡ cond (is_changed base postings seen s) 1 0 + changed_on base postings seen rest
 counted base postings seen s rest = if_counted (is_changed base postings seen s) s (filter (is_changed base postings seen) rest)
 
--- one segment further along a route that met at a version, where this one has no limit or did not change
-pub record RouteOn (base : BaseLists) (postings : List Change) (seen truck : ℕ) (route : List ℕ) (i before after : ℕ) : Type 0 where
-  pub left : first_on base (state_of base.roads postings) truck (drop i route) ≡ first_on base (state_of base.roads postings) truck route
-  pub met : first_on base (state_of base.roads (take seen postings)) truck (drop i route) ≡ None
-  pub steps : after + changed_on base postings seen (drop i route) ≤ before + changed_on base postings seen route
+-- one segment further along segments that met at a version, where this one has no limit or did not change
+pub record AlongOn (base : BaseLists) (postings : List Change) (seen truck : ℕ) (segments : List ℕ) (i before after : ℕ) : Type 0 where
+  pub left : first_on base (state_of base.roads postings) truck (drop i segments) ≡ first_on base (state_of base.roads postings) truck segments
+  pub met : first_on base (state_of base.roads (take seen postings)) truck (drop i segments) ≡ None
+  pub steps : after + changed_on base postings seen (drop i segments) ≤ before + changed_on base postings seen segments
 
-pub route_none : (base : BaseLists) (postings : List Change) (seen truck : ℕ) (route : List ℕ) (before : ℕ)
-    → first_on base (state_of base.roads (take seen postings)) truck route ≡ None → RouteOn base postings seen truck route 0 before before
-route_none base postings seen truck route before met = record { left = refl; met = met; steps = omega arith }
+pub along_none : (base : BaseLists) (postings : List Change) (seen truck : ℕ) (segments : List ℕ) (before : ℕ)
+    → first_on base (state_of base.roads (take seen postings)) truck segments ≡ None → AlongOn base postings seen truck segments 0 before before
+along_none base postings seen truck segments before met = record { left = refl; met = met; steps = omega arith }
 
 passes : (base : BaseLists) (postings : List Change) (seen truck s : ℕ) (rest : List ℕ) (b : Bool) → b ≡ is_changed base postings seen s
     → None ≡ cond b (limit_for base (state_of base.roads postings) truck s) None → limit_for base (state_of base.roads (take seen postings)) truck s ≡ None
@@ -61,18 +62,18 @@ passes : (base : BaseLists) (postings : List Change) (seen truck s : ℕ) (rest 
 passes base postings seen truck s rest true changed none met = sym none
 passes base postings seen truck s rest false changed none met = limit_stays base postings seen truck s (sym changed) ∙ met
 
-pub route_more : (base : BaseLists) (postings : List Change) (seen truck : ℕ) (route : List ℕ) (i s before now after : ℕ) → i < length route → s ≡ get_or route i 0
+pub along_more : (base : BaseLists) (postings : List Change) (seen truck : ℕ) (segments : List ℕ) (i s before now after : ℕ) → i < length segments → s ≡ get_or segments i 0
     → None ≡ cond (is_changed base postings seen s) (limit_for base (state_of base.roads postings) truck s) None
-    → after ≡ now + cond (is_changed base postings seen s) 1 0 → RouteOn base postings seen truck route i before now
-    → RouteOn base postings seen truck route (i + 1) before after
-route_more base postings seen truck route i s before now after inside is none more on =
+    → after ≡ now + cond (is_changed base postings seen s) 1 0 → AlongOn base postings seen truck segments i before now
+    → AlongOn base postings seen truck segments (i + 1) before after
+along_more base postings seen truck segments i s before now after inside is none more on =
     let new = state_of base.roads postings in let old = state_of base.roads (take seen postings) in
-    let rest = drop (i + 1) route in
-    let here : drop i route ≡ s ∷ rest = drop_more route i 0 inside ∙ ap (λ k. k ∷ rest) (sym is) in
+    let rest = drop (i + 1) segments in
+    let here : drop i segments ≡ s ∷ rest = drop_more segments i 0 inside ∙ ap (λ k. k ∷ rest) (sym is) in
     let met = both_none (limit_for base old truck s) s (first_on base old truck rest) (ap (first_on base old truck) (sym here) ∙ on.met) in
     let free = passes base postings seen truck s rest (is_changed base postings seen s) refl none met.0 in
     let pass : first_on base new truck (s ∷ rest) ≡ first_on base new truck rest = ap (λ l. first_or l s (first_on base new truck rest)) free in
-    let count : changed_on base postings seen (drop i route) ≡ cond (is_changed base postings seen s) 1 0 + changed_on base postings seen rest =
+    let count : changed_on base postings seen (drop i segments) ≡ cond (is_changed base postings seen s) 1 0 + changed_on base postings seen rest =
     ap (changed_on base postings seen) here ∙ counted base postings seen s rest in
     record {
       left = sym pass ∙ (ap (first_on base new truck) (sym here) ∙ on.left);
@@ -197,7 +198,7 @@ module _ (base : BaseLists) (postings : List Change) (seen truck : ℕ) (nodes :
 -- to test nothing is within what any call may cost
 within_none : (base : BaseLists) (postings : List Change) (seen : ℕ) (w : What) (n : ℕ) → IsWithin base postings seen w n n
 within_none base postings seen what.NotNeeded n = refl
-within_none base postings seen (what.Route route) n = omega arith
+within_none base postings seen (what.Route routes) n = omega arith
 within_none base postings seen (what.Fails s) n = omega arith
 within_none base postings seen (what.Cut nodes) n = omega arith
 
@@ -212,7 +213,7 @@ none_changed base postings (s ∷ rest) =
 pub within_now : (base : BaseLists) (postings : List Change) (w : What) (before now : ℕ)
     → IsWithin base postings (length postings) w before now → now ≤ before + 1
 within_now base postings what.NotNeeded before now within = omega (arith, within)
-within_now base postings (what.Route route) before now within = omega (arith, within, none_changed base postings route)
+within_now base postings (what.Route routes) before now within = omega (arith, within, none_changed base postings (concat routes))
 within_now base postings (what.Fails s) before now within = within
 within_now base postings (what.Cut nodes) before now within =
     omega (arith, within, none_changed base postings (leaving base.roads nodes))

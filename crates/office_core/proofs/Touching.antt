@@ -1,6 +1,6 @@
 -- A posting can make a permit in force fail at the segment alone that it touches.
 use Rattle.std.proofs.Common.{◌≡◌, ◌≢◌, ◌∷◌, ◌++◌, [], ◌&&◌, ◌||◌, ◌==◌, List, ℕ, Bool, true, false, not, refl, ap, ◌∙◌, is_none}
-use Rattle.std.specs.List.{All, list_any}
+use Rattle.std.specs.List.{All, concat, list_any}
 use Rattle.std.proofs.lemmas.Bool.{eqb-false, eqb-true, or_parts}
 use Rattle.std.proofs.lemmas.List.Elements.{All-cons, All-head, All-nil, All-tail, All-weaker}
 use Rattle.restriction_log.specs.declared.change.Change.{Change}
@@ -38,8 +38,8 @@ fails_on pass segment (s ∷ rest) h =
     (λ e. ap pass (eqb-true s segment e)) (λ e. head (eqb-false s segment e)) (fails_on pass segment rest tail)
 
 -- a permit that meets its truck at each segment but one fails where that one is on its route and fails
-pub fails_there : (base : BaseLists) (state : InForce) (segment : ℕ) (p : Permit) → MeetsElsewhere base state segment p → fails base state p ≡ (is_in segment p.trip.route && not (is_passable base state p.trip.truck segment))
-fails_there base state segment p h = fails_on (is_passable base state p.trip.truck) segment p.trip.route h
+pub fails_there : (base : BaseLists) (state : InForce) (segment : ℕ) (p : Permit) → MeetsElsewhere base state segment p → fails base state p ≡ (is_in segment (concat p.trip.routes) && not (is_passable base state p.trip.truck segment))
+fails_there base state segment p h = fails_on (is_passable base state p.trip.truck) segment (concat p.trip.routes) h
 
 -- numbers that passed pass still where they are tested alike
 passes_on : (old new : ℕ → Bool) (segment : ℕ) → ((s : ℕ) → s ≢ segment → new s ≡ old s) → (route : List ℕ) → list_any (λ s. not (old s)) route ≡ false → All (λ s. s ≢ segment → new s ≡ true) route
@@ -56,7 +56,7 @@ alike_after base state change truck s apart = ap is_none (limits_agree base.road
 meet_elsewhere : (base : BaseLists) (state : InForce) (change : Change) (day : List ℕ) (permits : List Permit) → InForceMeet base state day permits → InForceMeetElsewhere base (state_after state change) (touched base.roads change) day permits
 meet_elsewhere base state change day permits had =
     All-weaker (λ p. in_force day p ≡ true → fails base state p ≡ false) (λ p. in_force day p ≡ true → MeetsElsewhere base (state_after state change) (touched base.roads change) p)
-    (λ p fine on. passes_on (is_passable base state p.trip.truck) (is_passable base (state_after state change) p.trip.truck) (touched base.roads change) (alike_after base state change p.trip.truck) p.trip.route (fine on)) permits had
+    (λ p fine on. passes_on (is_passable base state p.trip.truck) (is_passable base (state_after state change) p.trip.truck) (touched base.roads change) (alike_after base state change p.trip.truck) (concat p.trip.routes) (fine on)) permits had
 
 pub met_elsewhere : (base : BaseLists) (postings : List Change) (next : InForce) (change : Change) (segment : ℕ) (day : List ℕ) (permits : List Permit) → next ≡ state_of base.roads (postings ++ change ∷ []) → segment ≡ touched base.roads change
     → InForceMeet base (state_of base.roads postings) day permits → InForceMeetElsewhere base next segment day permits

@@ -1,8 +1,9 @@
 -- What a finding says of the walks of its trip.
 use Rattle.std.proofs.Common.{◌≡◌, ◌≢◌, ◌⊎◌, inl, inr, ◌+◌, ◌-◌, ◌<◌, ◌≤◌, ◌∷◌, [], ◌&&◌, ◌||◌, ◌==◌, not, ℕ, zero, suc, List, Bool, cond, true, false, length, filter, refl, ap, sym, ◌∙◌, subst, arith, Option, Some, None, if◌then◌else◌, eq-eqb}
 use Rattle.std.specs.Prelude.{slice_get}
-use Rattle.std.specs.List.{range_with_len}
+use Rattle.std.specs.List.{All, concat, range_with_len}
 use Rattle.std.proofs.lemmas.Bool.{cases_Bool, cases_eq, false≢true}
+use Rattle.std.proofs.lemmas.List.Elements.{All-cons, All-nil}
 use Rattle.std.proofs.lemmas.Option.{get_or_from_slice_get, slice_get_within}
 use Rattle.road_graph.specs.Roads.{Roads, no_segment}
 use Rattle.restriction_log.specs.States.{InForce}
@@ -38,27 +39,31 @@ is_needed base state a needed h = by a.asked (h.found needed)
     searched (shortest.Cut reached) same = cc
     searched (shortest.NoRoad reached) same = cc
 
-    asked_by : (route : List ℕ) (f : Option Failing) → what.NotNeeded ≡ asked_finding f route → ⊥
-    asked_by route (Some f) is = cc
-    asked_by route None is = cc
+    asked_by : (routes : List (List ℕ)) (f : Option Failing) → what.NotNeeded ≡ asked_finding f routes → ⊥
+    asked_by routes (Some f) is = cc
+    asked_by routes None is = cc
 
-    by : (asked : Option (List ℕ)) → IsFoundBy base state a asked what.NotNeeded → ⊥
-    by (Some route) is = asked_by route (first_on base state a.truck route) is
+    by : (asked : Option (List (List ℕ))) → IsFoundBy base state a asked what.NotNeeded → ⊥
+    by (Some routes) is = asked_by routes (first_on base state a.truck (concat routes)) is
     by None is = let (f, is_found, same) = is in searched f same
 
--- a route that is found is a walk of its trip
-pub route_walk : (base : BaseLists) (state : InForce) (a : Application) (route : List ℕ) → Sound base a → IsFinding base state a (what.Route route) → IsWalk base.roads.segments every a.from a.to route
-route_walk base state a route sound h = by a.asked refl sound.asked
+-- each route that is found is a walk of its trip
+pub routes_walk : (base : BaseLists) (state : InForce) (a : Application) (routes : List (List ℕ)) → Sound base a → IsFinding base state a (what.Route routes) → All (IsWalk base.roads.segments every a.from a.to) routes
+routes_walk base state a routes sound h = by a.asked refl sound.asked
   where
-    by : (asked : Option (List ℕ)) → a.asked ≡ asked → IsAskedWalk base.roads a.from a.to asked → IsWalk base.roads.segments every a.from a.to route
-    by (Some list) is walk = subst (λ (l : List ℕ). IsWalk base.roads.segments every a.from a.to l) (sym (asked_meet base state a list route is h).0) walk
-    by None none walk = to_every base.roads.segments (is_passable base state a.truck) a.from a.to route (routes_are_first base state a route none h).walk
+    by : (asked : Option (List (List ℕ))) → a.asked ≡ asked → IsAskedWalk base.roads a.from a.to asked → All (IsWalk base.roads.segments every a.from a.to) routes
+    by (Some lists) is walks = subst (All (IsWalk base.roads.segments every a.from a.to)) (sym (asked_meet base state a lists routes is h).0) walks
+    by None none walks =
+        let (route, alone, first) = routes_are_first base state a routes none h in
+        subst (All (IsWalk base.roads.segments every a.from a.to)) (sym alone)
+        (All-cons (IsWalk base.roads.segments every a.from a.to) route [] (to_every base.roads.segments (is_passable base state a.truck) a.from a.to route first.walk)
+        (All-nil (IsWalk base.roads.segments every a.from a.to)))
 
--- a segment that is found to fail is on the asked route
+-- a segment that is found to fail is on one of the asked routes
 pub record IsOnAsked (a : Application) (s : ℕ) : Type 0 where
-  pub route : List ℕ
-  pub asked : a.asked ≡ Some route
-  pub on : is_in s route ≡ true
+  pub routes : List (List ℕ)
+  pub asked : a.asked ≡ Some routes
+  pub on : is_in s (concat routes) ≡ true
 
 here_or : (s t : ℕ) (b : Bool) → s ≡ t → ((s == t) || b) ≡ true
 here_or s t b e = rw (eq-eqb s t e) refl
@@ -94,12 +99,12 @@ fails_asked base state a s h = by a.asked refl (found_by base state a (what.Fail
     searched (shortest.Cut reached) same = cc
     searched (shortest.NoRoad reached) same = cc
 
-    asked_by : (route : List ℕ) (f : Option Failing) → a.asked ≡ Some route → first_on base state a.truck route ≡ f → what.Fails s ≡ asked_finding f route → IsOnAsked a s
-    asked_by route (Some f) asked e is = let same : f.segment ≡ s = cc in record { route = route; asked = asked; on = ap (λ (n : ℕ). is_in n route) (sym same) ∙ first_in base state a.truck f route e }
-    asked_by route None asked e is = cc
+    asked_by : (routes : List (List ℕ)) (f : Option Failing) → a.asked ≡ Some routes → first_on base state a.truck (concat routes) ≡ f → what.Fails s ≡ asked_finding f routes → IsOnAsked a s
+    asked_by routes (Some f) asked e is = let same : f.segment ≡ s = cc in record { routes = routes; asked = asked; on = ap (λ (n : ℕ). is_in n (concat routes)) (sym same) ∙ first_in base state a.truck f (concat routes) e }
+    asked_by routes None asked e is = cc
 
-    by : (asked : Option (List ℕ)) → a.asked ≡ asked → IsFoundBy base state a asked (what.Fails s) → IsOnAsked a s
-    by (Some route) asked is = asked_by route (first_on base state a.truck route) asked refl is
+    by : (asked : Option (List (List ℕ))) → a.asked ≡ asked → IsFoundBy base state a asked (what.Fails s) → IsOnAsked a s
+    by (Some routes) asked is = asked_by routes (first_on base state a.truck (concat routes)) asked refl is
     by None asked is = let (f, is_found, same) = is in searched f same
 
 -- nodes that hold the one and not the other
@@ -128,12 +133,12 @@ cut_of base state a nodes h = by a.asked refl (found_by base state a (what.Cut n
     searched none (shortest.NoRoad reached) is same = let e : reached ≡ nodes = cc in
         record { asked = none; apart = subst (λ (l : List ℕ). Separates l a.from a.to) e (reached_separate base.roads.segments every a.from a.to reached is.nodes is.none) }
 
-    asked_by : (route : List ℕ) (f : Option Failing) → what.Cut nodes ≡ asked_finding f route → IsCutOf a nodes
-    asked_by route (Some f) is = cc
-    asked_by route None is = cc
+    asked_by : (routes : List (List ℕ)) (f : Option Failing) → what.Cut nodes ≡ asked_finding f routes → IsCutOf a nodes
+    asked_by routes (Some f) is = cc
+    asked_by routes None is = cc
 
-    by : (asked : Option (List ℕ)) → a.asked ≡ asked → IsFoundBy base state a asked (what.Cut nodes) → IsCutOf a nodes
-    by (Some route) asked is = asked_by route (first_on base state a.truck route) is
+    by : (asked : Option (List (List ℕ))) → a.asked ≡ asked → IsFoundBy base state a asked (what.Cut nodes) → IsCutOf a nodes
+    by (Some routes) asked is = asked_by routes (first_on base state a.truck (concat routes)) is
     by None asked is = let (f, is_found, same) = is in searched asked f is_found same
 
 -- where a cut is found, some walk is there or none is
@@ -145,12 +150,12 @@ road_or base state a nodes h = by a.asked refl (found_by base state a (what.Cut 
     searched (shortest.Cut reached) is same = inl is.walk
     searched (shortest.NoRoad reached) is same = inr is.none
 
-    asked_by : (route : List ℕ) (f : Option Failing) → what.Cut nodes ≡ asked_finding f route → CanReach base.roads.segments every a.from a.to ⊎ (CanReach base.roads.segments every a.from a.to → ⊥)
-    asked_by route (Some f) is = cc
-    asked_by route None is = cc
+    asked_by : (routes : List (List ℕ)) (f : Option Failing) → what.Cut nodes ≡ asked_finding f routes → CanReach base.roads.segments every a.from a.to ⊎ (CanReach base.roads.segments every a.from a.to → ⊥)
+    asked_by routes (Some f) is = cc
+    asked_by routes None is = cc
 
-    by : (asked : Option (List ℕ)) → a.asked ≡ asked → IsFoundBy base state a asked (what.Cut nodes) → CanReach base.roads.segments every a.from a.to ⊎ (CanReach base.roads.segments every a.from a.to → ⊥)
-    by (Some route) asked is = asked_by route (first_on base state a.truck route) is
+    by : (asked : Option (List (List ℕ))) → a.asked ≡ asked → IsFoundBy base state a asked (what.Cut nodes) → CanReach base.roads.segments every a.from a.to ⊎ (CanReach base.roads.segments every a.from a.to → ⊥)
+    by (Some routes) asked is = asked_by routes (first_on base state a.truck (concat routes)) is
     by None asked is = let (f, is_found, same) = is in searched f is_found same
 
 -- a segment that begins in a set of nodes and does not end in it leaves it

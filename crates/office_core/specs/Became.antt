@@ -9,22 +9,22 @@ use Rattle.office_words.specs.declared.entry.Call.{Call}
 use Rattle.office_words.specs.declared.entry.Call.TheVariants as call
 use Rattle.office_words.specs.declared.entry.Reply.TheVariants as reply
 use Rattle.office_core.specs.Offices.{entry}
-use Rattle.office_core.specs.Happened.{Day, History, Numbers, Route, Stands, application_in, day_after}
+use Rattle.office_core.specs.Happened.{Day, History, Numbers, Routes, Stands, application_in, day_after}
 
 -- the entry behind these issues the permit of this number
 abbrev pub IssuesAt : History → ℕ → History → Type 0
 IssuesAt es n at =
-    (by : ℕ) × (c : Call) × (v : ℕ) × (route : Route) × Stands es at (entry by c (reply.Issued n v route))
+    (by : ℕ) × (c : Call) × (v : ℕ) × (routes : Routes) × Stands es at (entry by c (reply.Issued n v routes))
 
 -- the permit of this number was issued to this caller
 abbrev pub WasIssuedTo : History → ℕ → ℕ → Type 0
-WasIssuedTo es n by = (at : History) × (c : Call) × (v : ℕ) × (route : Route)
-    × Stands es at (entry by c (reply.Issued n v route))
+WasIssuedTo es n by = (at : History) × (c : Call) × (v : ℕ) × (routes : Routes)
+    × Stands es at (entry by c (reply.Issued n v routes))
 
--- the permit of this number was issued for this trip and this route
-abbrev pub WasIssuedFor : History → ℕ → Application → Route → Type 0
-WasIssuedFor es n trip route = (at : History) × (by : ℕ) × (c : Call) × (v : ℕ)
-    × (application_in c ≡ Some trip) × Stands es at (entry by c (reply.Issued n v route))
+-- the permit of this number was issued for this trip and these routes
+abbrev pub WasIssuedFor : History → ℕ → Application → Routes → Type 0
+WasIssuedFor es n trip routes = (at : History) × (by : ℕ) × (c : Call) × (v : ℕ)
+    × (application_in c ≡ Some trip) × Stands es at (entry by c (reply.Issued n v routes))
 
 -- the entry behind these is the posting of this version, and it recalls the permit
 abbrev pub RecallsAs : History → ℕ → History → ℕ → Type 0
@@ -48,8 +48,8 @@ pub record IsNotEnded (es : History) (n : ℕ) : Type 0 where
 -- the day
 pub record IsInForce (day : Day) (es : History) (n : ℕ) : Type 0 where
   pub trip : Application
-  pub route : Route
-  pub issued : WasIssuedFor es n trip route
+  pub routes : Routes
+  pub issued : WasIssuedFor es n trip routes
   pub stands : IsNotEnded es n
   pub not_expired : is_before trip.last (day_after day es) ≡ false
 

@@ -111,20 +111,20 @@ pub record HasRoom (m : Machine) : Type 0 where
   pub postings : length m.postings < 1000000
   pub permits : length m.permits < 1000000
 
--- the trip of a permit that is issued to a caller for an application, along a route
-abbrev pub trip_for : ℕ → Application → List ℕ → Trip
-trip_for caller a route = trip_of caller a.truck route a.first a.last
+-- the trip of a permit that is issued to a caller for an application, along these routes
+abbrev pub trip_for : ℕ → Application → List (List ℕ) → Trip
+trip_for caller a routes = trip_of caller a.truck routes a.first a.last
 
 -- the permits after an application is answered: an issued one is added, live
 abbrev pub with_issued : List Permit → ℕ → Application → ℕ → Reply → List Permit
-with_issued permits caller a seen (reply.Issued number version route) =
-    permits ++ new_permit number (trip_for caller a route) version seen ∷ []
+with_issued permits caller a seen (reply.Issued number version routes) =
+    permits ++ new_permit number (trip_for caller a routes) version seen ∷ []
 with_issued permits caller a seen _ = permits
 
 abbrev pub with_permit : Machine → ℕ → Application → ℕ → Reply → Machine
 with_permit m caller a seen r = record m { permits = with_issued m.permits caller a seen r }
 
--- the next permit is issued for a trip, whose route was found at this version
+-- the next permit is issued for a trip, whose routes were found at this version
 abbrev pub with_next : Machine → Trip → ℕ → Machine
 with_next m trip seen = record m { permits = m.permits ++ next_permit m.permits trip (version_of m) seen ∷ [] }
 

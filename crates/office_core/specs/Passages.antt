@@ -1,11 +1,11 @@
 -- Where a truck can go: walks along which every segment meets it, and the segments at which they end.
-use Rattle.std.specs.Prelude.{◌≡◌, ℕ, ◌<◌, ◌≤◌, length, All}
+use Rattle.std.specs.Prelude.{◌≡◌, ℕ, ◌<◌, ◌≤◌, [], ◌∷◌, length, All}
 use Rattle.road_graph.specs.Roads.{segment_at}
 use Rattle.restriction_log.specs.States.{InForce}
 use Rattle.route_search.specs.Walks.{IsNotAfter, IsWalk, every, feet_of}
 use Rattle.trip_analysis.specs.Bases.{BaseLists}
 use Rattle.office_core.specs.Clearances.{MeetsTruck}
-use Rattle.office_core.specs.Happened.{Route}
+use Rattle.office_core.specs.Happened.{Route, Routes}
 
 -- a route is a walk over the roads from one node to another, whatever is posted
 abbrev pub IsRoadWalk : BaseLists → ℕ → ℕ → Route → Type 0
@@ -25,6 +25,16 @@ pub record IsShortest (base : BaseLists) (state : InForce) (truck from to : ℕ)
       → feet_of base.roads.segments route ≤ feet_of base.roads.segments other
   pub first : (other : Route) → IsPassableWalk base state truck from to other
       → feet_of base.roads.segments other ≡ feet_of base.roads.segments route → IsNotAfter route other
+
+-- each of these routes is a walk from one node to another, and is passable
+abbrev pub ArePassableWalks : BaseLists → InForce → ℕ → ℕ → ℕ → Routes → Type 0
+ArePassableWalks base state truck from to routes = All (IsPassableWalk base state truck from to) routes
+
+-- the routes are one, the first in dictionary order of the shortest passable walks
+pub record IsShortestAlone (base : BaseLists) (state : InForce) (truck from to : ℕ) (routes : Routes) : Type 0 where
+  pub route : Route
+  pub alone : routes ≡ route ∷ []
+  pub shortest : IsShortest base state truck from to route
 
 -- the truck reaches a node: some passable walk leads there
 abbrev pub Reaches : BaseLists → InForce → ℕ → ℕ → ℕ → Type 0

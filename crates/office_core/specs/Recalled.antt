@@ -5,7 +5,7 @@ use Rattle.trip_analysis.specs.Bases.{BaseLists}
 use Rattle.office_words.specs.declared.entry.Call.{Call}
 use Rattle.office_words.specs.declared.entry.Reply.TheVariants as reply
 use Rattle.office_core.specs.Offices.{entry}
-use Rattle.office_core.specs.Happened.{History, Route, Stands, application_in}
+use Rattle.office_core.specs.Happened.{History, Routes, Stands, application_in}
 use Rattle.office_core.specs.Became.{IssuesAt, RecallsAt}
 
 -- just one entry issued the permit, before the posting, and it did so for a truck that is there
@@ -14,9 +14,9 @@ pub record WasIssuedOnce (base : BaseLists) (es front : History) (n : ℕ) : Typ
   pub by : ℕ
   pub c : Call
   pub v : ℕ
-  pub route : Route
+  pub routes : Routes
   pub trip : Application
-  pub stands : Stands front at (entry by c (reply.Issued n v route))
+  pub stands : Stands front at (entry by c (reply.Issued n v routes))
   pub asked : application_in c ≡ Some trip
   pub there : trip.truck < length base.fleet
   pub once : (other : History) → IssuesAt es n other → other ≡ at

@@ -1,6 +1,6 @@
 -- Which permits a state of the roads fails, and their recall.
 use Rattle.std.specs.Prelude.{◌≡◌, ◌≢◌, ◌<◌, ◌∷◌, [], List, ℕ, Bool, true, false, length, if◌then◌else◌, ◌&&◌, not, filter, map, All, Option, Some, slice_get}
-use Rattle.std.specs.List.{list_any}
+use Rattle.std.specs.List.{concat, list_any}
 use Rattle.restriction_log.specs.States.{InForce}
 use Rattle.permit_book.specs.declared.permit.Permit.{Permit}
 use Rattle.permit_book.specs.declared.permit.Mark.{Mark}
@@ -9,9 +9,9 @@ use Rattle.permit_book.specs.Permits.{in_force, is_issued, is_live, marked, perm
 use Rattle.trip_analysis.specs.Bases.{BaseLists}
 use Rattle.trip_analysis.specs.Findings.{is_passable}
 
--- whether one of the permit's segments fails its truck
+-- whether one of the segments of the permit's routes fails its truck
 abbrev pub fails : BaseLists → InForce → Permit → Bool
-fails base state p = list_any (λ s. not (is_passable base state p.trip.truck s)) p.trip.route
+fails base state p = list_any (λ s. not (is_passable base state p.trip.truck s)) (concat p.trip.routes)
 
 -- whether a state recalls the permit: it is in force, and fails
 abbrev pub is_recalled : BaseLists → InForce → List ℕ → Permit → Bool
@@ -27,7 +27,7 @@ InForceMeet base state day permits = All (MeetsIfInForce base state day) permits
 
 -- the permit meets its truck at each of its segments but this one
 abbrev pub MeetsElsewhere : BaseLists → InForce → ℕ → Permit → Type 0
-MeetsElsewhere base state segment p = All (λ s. s ≢ segment → is_passable base state p.trip.truck s ≡ true) p.trip.route
+MeetsElsewhere base state segment p = All (λ s. s ≢ segment → is_passable base state p.trip.truck s ≡ true) (concat p.trip.routes)
 
 abbrev pub MeetsElsewhereIfInForce : BaseLists → InForce → ℕ → List ℕ → Permit → Type 0
 MeetsElsewhereIfInForce base state segment day p = in_force day p ≡ true → MeetsElsewhere base state segment p
@@ -65,4 +65,4 @@ pub record AreVerdicts (base : BaseLists) (state : InForce) (segment : ℕ) (ver
 -- the truck and the segments of the permit are there
 pub record IsRanged (base : BaseLists) (p : Permit) : Type 0 where
   pub truck : p.trip.truck < length base.fleet
-  pub route : All (λ s. s < length base.roads.segments) p.trip.route
+  pub routes : All (λ s. s < length base.roads.segments) (concat p.trip.routes)

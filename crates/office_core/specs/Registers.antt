@@ -90,14 +90,14 @@ abbrev pub HeldAt : RegisterParts → ℕ → ℕ → What → Type 0
 HeldAt r seen truck w = HoldsIn r.base (state_then r seen) truck w
 
 -- the answer that issues the next permit
-abbrev pub next_issue : RegisterParts → List ℕ → Reply
-next_issue r route = reply.Issued (length r.machine.permits + 1) (version_of r.machine) route
+abbrev pub next_issue : RegisterParts → List (List ℕ) → Reply
+next_issue r routes = reply.Issued (length r.machine.permits + 1) (version_of r.machine) routes
 
 -- this is what an answer to an application leaves, for which something was found at this version
 abbrev pub Permits : RegisterParts → ℕ → Application → ℕ → RegisterParts → Reply → Type 0
 Permits r caller a seen next given = next.machine ≡ with_permit r.machine caller a seen given
 
--- this is left where the next permit is issued for a trip, whose route was found at this version
+-- this is left where the next permit is issued for a trip, whose routes were found at this version
 abbrev pub Enters : RegisterParts → Trip → ℕ → RegisterParts → Type 0
 Enters r trip seen next = next.machine ≡ with_next r.machine trip seen
 
@@ -132,9 +132,13 @@ has_changed r seen s = is_changed r.base r.machine.postings seen s
 abbrev pub AreUnchanged : RegisterParts → ℕ → ℕ → ℕ → Type 0
 AreUnchanged r seen from to = (s : ℕ) → from ≤ s → s < to → has_changed r seen s ≡ false
 
+-- how many of these segments changed after a version; one that stands twice counts twice
+abbrev pub changed_among : RegisterParts → ℕ → List ℕ → ℕ
+changed_among r seen segments = changed_on r.base r.machine.postings seen segments
+
 -- how many segments out of these nodes changed after a version
 abbrev pub changed_out : RegisterParts → ℕ → List ℕ → ℕ
-changed_out r seen nodes = changed_on r.base r.machine.postings seen (leaving r.base.roads nodes)
+changed_out r seen nodes = changed_among r seen (leaving r.base.roads nodes)
 
 -- only what changed after this version is tested again of what was found then, and one more where its limit is asked for
 abbrev pub IsRetested : RegisterParts → ℕ → What → ℕ → ℕ → Type 0

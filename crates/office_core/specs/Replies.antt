@@ -1,5 +1,6 @@
 -- What an office answers, as functions of what it is about and what it holds.
 use Rattle.std.specs.Prelude.{ℕ, Bool, true, false, List, [], ◌∷◌, nat_eq, not, if◌then◌else◌, Option, Some, None, unwrap_or}
+use Rattle.std.specs.List.{concat}
 use Rattle.restriction_log.specs.States.{InForce}
 use Rattle.clearance_rules.specs.declared.limit.Limit.{Limit}
 use Rattle.permit_days.specs.Days.{is_before}
@@ -15,10 +16,10 @@ use Rattle.office_words.specs.declared.entry.Cause.TheVariants as cause
 use Rattle.office_words.specs.declared.entry.Reply.{Reply}
 use Rattle.office_words.specs.declared.entry.Reply.TheVariants as reply
 
--- the answer to a route, by the first segment on it that fails: the permit of the next number, or that segment's limit
-abbrev pub route_reply : ℕ → ℕ → List ℕ → Option Failing → Reply
-route_reply number v route (Some f) = reply.Outdated v (cause.NowFails f.limit)
-route_reply number v route None = reply.Issued number v route
+-- the answer to routes, by the first segment on them that fails: the permit of the next number, or that segment's limit
+abbrev pub routes_reply : ℕ → ℕ → List (List ℕ) → Option Failing → Reply
+routes_reply number v routes (Some f) = reply.Outdated v (cause.NowFails f.limit)
+routes_reply number v routes None = reply.Issued number v routes
 
 -- the answer where a segment is said to fail, by its first failing limit
 abbrev pub fails_reply : ℕ → ℕ → Option Limit → Reply
@@ -39,7 +40,7 @@ cut_reply base state truck v (s ∷ rest) None = refused_or v (limit_for base st
 -- the answer to what was found for a truck, in a state at a version, where the next permit has this number
 abbrev pub what_reply : BaseLists → InForce → ℕ → ℕ → ℕ → What → Reply
 what_reply base state v number truck what.NotNeeded = reply.NotNeeded
-what_reply base state v number truck (what.Route route) = route_reply number v route (first_on base state truck route)
+what_reply base state v number truck (what.Route routes) = routes_reply number v routes (first_on base state truck (concat routes))
 what_reply base state v number truck (what.Fails s) = fails_reply v s (limit_for base state truck s)
 what_reply base state v number truck (what.Cut nodes) =
     cut_reply base state truck v (leaving base.roads nodes) (first_meeting base state truck (leaving base.roads nodes))
@@ -85,21 +86,21 @@ abbrev pub show_reply : List Permit → List ℕ → ℕ → Reply
 show_reply permits day number =
     if not (is_issued permits number) then reply.Unknown else shown (permit_of permits number) number day
 
--- whether a reply holds a list
+-- whether a reply holds a list, which may want memory in a copy
 abbrev pub has_list : Reply → Bool
-has_list (reply.Issued number version route) = true
+has_list (reply.Issued number version routes) = true
 has_list (reply.Posted version recalled) = true
 has_list _ = false
 
--- the list that a reply holds
+-- the numbers that a reply lists: the segments of its routes, one route after another, or what it recalls
 abbrev pub list_of : Reply → List ℕ
-list_of (reply.Issued number version route) = route
+list_of (reply.Issued number version routes) = concat routes
 list_of (reply.Posted version recalled) = recalled
 list_of _ = []
 
 -- whether a permit was issued
 abbrev pub is_issue : Reply → Bool
-is_issue (reply.Issued number version route) = true
+is_issue (reply.Issued number version routes) = true
 is_issue _ = false
 
 -- whether the history was full

@@ -1,5 +1,6 @@
 -- How many segments are tested again for a proposal: those that changed after the version that it names, and one more.
 use Rattle.std.specs.Prelude.{◌≡◌, ◌≤◌, ◌+◌, ℕ, Bool, List, length, drop, filter}
+use Rattle.std.specs.List.{concat}
 use Rattle.restriction_log.specs.declared.change.Change.{Change}
 use Rattle.restriction_log.specs.Changes.{is_touched}
 use Rattle.trip_analysis.specs.declared.finding.What.{What}
@@ -15,10 +16,10 @@ is_changed base postings seen s = is_touched base.roads s (drop seen postings)
 abbrev pub changed_on : BaseLists → List Change → ℕ → List ℕ → ℕ
 changed_on base postings seen segments = length (filter (is_changed base postings seen) segments)
 
--- so many segments were tested before a proposal is answered, and so many when it is: of a route only places that changed
--- are tested, of a segment that fails that one, and of a cut the segments out of it that changed, and one more
+-- so many segments were tested before a proposal is answered, and so many when it is: of routes only places that
+-- changed are tested, of a segment that fails that one, and of a cut the segments out of it that changed, and one more
 abbrev pub IsWithin : BaseLists → List Change → ℕ → What → ℕ → ℕ → Type 0
 IsWithin base postings seen what.NotNeeded before now = now ≡ before
-IsWithin base postings seen (what.Route route) before now = now ≤ before + changed_on base postings seen route
+IsWithin base postings seen (what.Route routes) before now = now ≤ before + changed_on base postings seen (concat routes)
 IsWithin base postings seen (what.Fails s) before now = now ≤ before + 1
 IsWithin base postings seen (what.Cut nodes) before now = now ≤ before + (changed_on base postings seen (leaving base.roads nodes) + 1)

@@ -1,5 +1,6 @@
 -- What is so of permits once they are issued: their recall, their return, and how the office holds them.
 use Rattle.std.specs.Prelude.{◌≡◌, ◌↔◌, ℕ, ◌+◌, true, Some}
+use Rattle.std.specs.List.{concat}
 use Rattle.restriction_log.specs.States.{InForce}
 use Rattle.permit_book.specs.declared.permit.Permit.{Permit}
 use Rattle.permit_book.specs.Permits.{permit_of, status_of}
@@ -10,13 +11,13 @@ use Rattle.office_words.specs.declared.entry.Call.{Call}
 use Rattle.office_words.specs.declared.entry.Call.TheVariants as call
 use Rattle.office_core.specs.Machine.{machine_of, trip_for}
 use Rattle.office_core.specs.Clearances.{MeetsTruck}
-use Rattle.office_core.specs.Happened.{Day, History, Numbers, Route}
+use Rattle.office_core.specs.Happened.{Day, History, Numbers, Routes}
 use Rattle.office_core.specs.Happened.{application_in, day_after, seen_by, state_after, version_after}
 use Rattle.office_core.specs.Became.{IsInForce, IsMarkOf, IssuesAt, RecallsAt, WasIssuedTo}
 
--- some segment of the route fails the truck
-abbrev pub FailsOn : BaseLists → InForce → ℕ → Route → Type 0
-FailsOn base state truck route = (s : ℕ) × (is_in s route ≡ true) × (MeetsTruck base state truck s → ⊥)
+-- some segment of one of the routes fails the truck
+abbrev pub FailsOn : BaseLists → InForce → ℕ → Routes → Type 0
+FailsOn base state truck routes = (s : ℕ) × (is_in s (concat routes) ≡ true) × (MeetsTruck base state truck s → ⊥)
 
 -- a posting names the next version and, rising, exactly the permits in force that fail in the state it makes
 pub record TruePosting (base : BaseLists) (day : Day) (front now : History) (v : ℕ) (ns : Numbers) : Type 0
@@ -25,7 +26,7 @@ pub record TruePosting (base : BaseLists) (day : Day) (front now : History) (v :
     pub counted : v ≡ version_after now
     pub rising : AreRising ns
     pub exact : (n : ℕ) → (is_in n ns ≡ true)
-        ↔ ((p : IsInForce day front n) × FailsOn base (state_after base now) p.trip.truck p.route)
+        ↔ ((p : IsInForce day front n) × FailsOn base (state_after base now) p.trip.truck p.routes)
 
 -- just one entry issues the permit, before it is recalled, and just one recalls it
 pub record IsRecalledOnce (es front : History) (n : ℕ) : Type 0 where
@@ -53,13 +54,13 @@ pub record HasEnded (base : BaseLists) (day : Day) (front now : History) (n : �
       ≡ status_of (permit_after base day front n) (day_after day front)
 
 -- the permit is that of the entry that issued it, behind these, and its mark says what became of it
-pub record IsAsIssued (at front : History) (by : ℕ) (c : Call) (n v : ℕ) (route : Route) (p : Permit) : Type 0
+pub record IsAsIssued (at front : History) (by : ℕ) (c : Call) (n v : ℕ) (routes : Routes) (p : Permit) : Type 0
   where
     pub trip : Application
     pub asked : application_in c ≡ Some trip
     pub same : p ≡ record {
       number = n;
-      trip = trip_for by trip route;
+      trip = trip_for by trip routes;
       version = v;
       seen = seen_by at c;
       mark = p.mark;

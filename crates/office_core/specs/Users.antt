@@ -1,13 +1,14 @@
 -- Which permits use a segment, and the index of them.
 use Rattle.std.specs.Prelude.{◌≡◌, ◌<◌, List, ℕ, Bool, true, ◌&&◌, length, filter, map, All}
+use Rattle.std.specs.List.{concat}
 use Rattle.permit_book.specs.declared.permit.Permit.{Permit}
 use Rattle.permit_book.specs.Permits.{is_issued, is_live, permit_of}
 use Rattle.recall_index.specs.Uses.{Lists, using_in}
 use Rattle.trip_analysis.specs.Findings.{is_in}
 
--- whether a permit uses a segment: it is live, and its route holds the segment
+-- whether a permit uses a segment: it is live, and one of its routes holds the segment
 abbrev pub uses : ℕ → Permit → Bool
-uses segment p = is_live p.mark && is_in segment p.trip.route
+uses segment p = is_live p.mark && is_in segment (concat p.trip.routes)
 
 -- the numbers of the permits that use a segment
 abbrev pub users_of : ℕ → List Permit → List ℕ
@@ -18,9 +19,9 @@ pub record IsUser (permits : List Permit) (segment n : ℕ) : Type 0 where
   pub issued : is_issued permits n ≡ true
   pub uses : uses segment (permit_of permits n) ≡ true
 
--- each segment of the permit's route is one of so many
+-- each segment of the permit's routes is one of so many
 abbrev pub IsOnRoads : ℕ → Permit → Type 0
-IsOnRoads segments p = All (λ s. s < segments) p.trip.route
+IsOnRoads segments p = All (λ s. s < segments) (concat p.trip.routes)
 
 -- the index has at each segment the permits that use it
 pub record IsIndexed (segments : ℕ) (permits : List Permit) (index : Lists) : Type 0 where

@@ -49,12 +49,12 @@ impl Answer {
         }
     }
 
-    /// The numbers in its list, none where it holds no list.
+    /// The numbers that it lists, the segments of its routes one route after another: none where it holds no list.
     pub(crate) fn numbers(&self) -> &[u32]
         ensures { result.now ≡ list_of self.now }
     {
         match &self.kept {
-            Reply::Issued { route, .. } => route.as_slice(),
+            Reply::Issued { routes, .. } => routes.all(),
             Reply::Posted { recalled, .. } => recalled.as_slice(),
             _ => &[],
         }

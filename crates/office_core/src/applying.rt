@@ -1,6 +1,7 @@
 // Answers to an application: by what was proposed for it, or by what the office finds itself.
 
 ghost use Rattle.std.specs.Prelude.{◌≡◌, ◌+◌, ◌<◌, ◌≤◌, ◌&&◌, length, All, IfOk, OnErr, None, if◌then◌else◌};
+ghost use Rattle.std.specs.List.{concat};
 ghost use Rattle.trip_analysis.specs.declared.finding.What.TheVariants as what;
 ghost use Rattle.trip_analysis.specs.Applications.{Sound};
 ghost use Rattle.trip_analysis.specs.Findings.{InRange, first_on as first_in, is_passable, leaves, limit_for};
@@ -9,7 +10,7 @@ ghost use Rattle.office_words.specs.declared.entry.Reply.TheVariants as reply;
 ghost use Rattle.office_core.specs.Replies.{early_reply};
 ghost use Rattle.office_core.specs.Costs.{tests_held};
 ghost use Rattle.office_core.specs.Machine.{HasRoom, IsFound, trip_for, version_of};
-ghost use Rattle.office_core.specs.Registers.{Gives, HeldAt, IsReplyTo, IsRetested, Issues, Leaves, MayLack, Permits, changed_out, found_reply, has_changed, least_out, next_issue, state_now, state_then};
+ghost use Rattle.office_core.specs.Registers.{Gives, HeldAt, IsReplyTo, IsRetested, Issues, Leaves, MayLack, Permits, changed_among, changed_out, found_reply, has_changed, least_out, next_issue, state_now, state_then};
 
 use crate::answer::Answer;
 use crate::register::Register;
@@ -19,10 +20,9 @@ use office_words::{Cause, Reply};
 use permit_book::Trip;
 use permit_days::Day;
 use road_graph::Numbers;
-use shared_route::SharedRoute;
-use std::alloc::Global;
 use std::sync::ledger::Ledger;
 use trip_analysis::{Application, Base, Failing, NodeSet, Proposal, What, is_passable};
+use trip_routes::SharedRoutes;
 
 impl Register {
     /// Answers a proposal, which is what was found at its version.
@@ -96,37 +96,37 @@ impl Register {
         let (truck, seen) = (application.truck(), proposal.seen);
         match &proposal.what {
             What::NotNeeded => Ok(Answer::plain(Reply::NotNeeded)),
-            What::Route(route) => match self.first_failing(truck, seen, route.as_slice(), steps) {
+            What::Route(routes) => match self.first_failing(truck, seen, routes.all(), steps) {
                 Some(failing) => Ok(self.outdated(Cause::NowFails {
                     limit: failing.limit,
                 })),
-                None => self.issue(caller, application, seen, route),
+                None => self.issue(caller, application, seen, routes),
             },
             What::Fails { segment } => Ok(self.answer_fails(truck, *segment, steps)),
             What::Cut(nodes) => Ok(self.answer_cut(truck, seen, nodes, steps)),
         }
     }
 
-    // The first segment of a route that fails the truck, where none did at the version seen: only what changed since is
+    // The first of these segments that fails the truck, where none did at the version seen: only what changed since is
     // tested. Takes no memory.
     fn first_failing<L: Ledger>(
         &self,
         truck: u32,
         seen: u32,
-        route: &[u32],
+        segments: &[u32],
         steps: &mut Steps<L>,
     ) -> Option<Failing>
         requires truck { truck < length self.now.base.fleet }
-        requires segments { All (λ s. s < length self.now.base.roads.segments) route.now }
-        requires met { first_in self.now.base (state_then self.now seen) truck route.now ≡ None }
-        ensures value { result ≡ first_in self.now.base (state_now self.now) truck route.now }
-        ensures steps { IsRetested self.now seen (what.Route route.now) steps.old steps.new }
+        requires there { All (λ s. s < length self.now.base.roads.segments) segments.now }
+        requires met { first_in self.now.base (state_then self.now seen) truck segments.now ≡ None }
+        ensures value { result ≡ first_in self.now.base (state_now self.now) truck segments.now }
+        ensures steps { steps.new ≤ steps.old + changed_among self.now seen segments.now }
     {
         if seen == self.version() {
             return None;
         }
-        'places: for i in 0..route.len() {
-            let segment = route[i];
+        'places: for i in 0..segments.len() {
+            let segment = segments[i];
             if let Some(limit) = self.limit_if_changed(truck, seen, segment, steps) {
                 return Some(Failing { segment, limit });
             }
@@ -245,49 +245,47 @@ impl Register {
         Answer::plain(Reply::Outdated { version, cause })
     }
 
-    // Issues the next permit, for a route that meets now and was found at the version seen.
+    // Issues the next permit, for routes that meet now and were found at the version seen.
     fn issue(
         &mut self,
         caller: u32,
         application: &Application,
         seen: u32,
-        route: &Numbers,
+        routes: &SharedRoutes,
     ) -> Result<Answer, NoMemory>
         requires truck { application.now.truck < length self.old.base.fleet }
-        requires segments { All (λ s. s < length self.old.base.roads.segments) route.now }
-        requires meets { first_in self.old.base (state_now self.old) application.now.truck route.now ≡ None }
+        requires segments { All (λ s. s < length self.old.base.roads.segments) (concat routes.now) }
+        requires meets { first_in self.old.base (state_now self.old) application.now.truck (concat routes.now) ≡ None }
         requires room { HasRoom self.old.machine }
         ensures base { self.new.base ≡ self.old.base }
-        ensures given { IfOk result (λ given. given ≡ next_issue self.old route.now) }
+        ensures given { IfOk result (λ given. given ≡ next_issue self.old routes.now) }
         ensures after { IfOk result (Permits self.old caller application.now seen self.new) }
         ensures unchanged { OnErr result (self.new ≡ self.old) }
     {
-        let trip = trip_along(self.alloc(), caller, application, route)?;
+        let trip = trip_along(caller, application, routes)?;
         let (number, version) = (self.next_number(), self.version());
         let answer = Answer::new(Reply::Issued {
             number,
             version,
-            route: trip.route.clone()?,
+            routes: routes.clone()?,
         })?;
         self.enter_permit(trip, seen)?;
         Ok(answer)
     }
 }
 
-// The trip of a caller's application along a route, which is copied.
+// The trip of a caller's application along these routes, of which it is one more owner.
 fn trip_along(
-    alloc: Global,
     caller: u32,
     application: &Application,
-    route: &Numbers,
+    routes: &SharedRoutes,
 ) -> Result<Trip, NoMemory>
-    ensures { IfOk result (λ trip. trip ≡ trip_for caller application.now route.now) }
+    ensures { IfOk result (λ trip. trip ≡ trip_for caller application.now routes.now) }
 {
-    let route = SharedRoute::along(alloc, route.try_clone(alloc)?)?;
     Ok(Trip {
         caller,
         truck: application.truck(),
-        route,
+        routes: routes.clone()?,
         first: application.first(),
         last: application.last(),
     })

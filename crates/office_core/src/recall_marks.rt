@@ -31,6 +31,6 @@ fn recall(book: &mut Book, index: &mut Index, number: u32, version: u32)
     ensures index { IsIndexed (length index.old) book.new index.new }
 {
     let permit = &book.permits()[number as usize - 1];
-    index.remove(number, permit.trip.route.as_slice());
+    index.remove(number, permit.trip.routes.all());
     book.recall(number, version);
 }

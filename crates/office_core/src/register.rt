@@ -2,6 +2,7 @@
 
 ghost use Rattle.std.specs.Prelude.{◌≡◌, ◌+◌, ◌<◌, ◌≤◌, length, All, IfErr, IfNone, IfOk, IfSome, None, OnErr, OnOk, false, is_some, true};
 ghost use Rattle.std.specs.Arc.{arc_value};
+ghost use Rattle.std.specs.List.{concat};
 ghost use Rattle.road_graph.specs.Roads.{IsRoads};
 ghost use Rattle.restriction_log.specs.Changes.{touched};
 ghost use Rattle.restriction_log.specs.Logs.{IsPostCause, post_refusal};
@@ -229,12 +230,12 @@ impl Register {
             .analyse(self.alloc, &self.base, snapshot, application, steps)
     }
 
-    /// Enters the next permit into the book and the index, for a trip that meets now and whose route was found at the version
+    /// Enters the next permit into the book and the index, for a trip that meets now and whose routes were found at the version
     /// seen.
     pub(crate) fn enter_permit(&mut self, trip: Trip, seen: u32) -> Result<(), NoMemory>
         requires truck { trip.truck < length self.old.base.fleet }
-        requires segments { All (λ s. s < length self.old.base.roads.segments) trip.route }
-        requires meets { first_in self.old.base (state_now self.old) trip.truck trip.route ≡ None }
+        requires segments { All (λ s. s < length self.old.base.roads.segments) (concat trip.routes) }
+        requires meets { first_in self.old.base (state_now self.old) trip.truck (concat trip.routes) ≡ None }
         requires room { HasRoom self.old.machine }
         ensures base { self.new.base ≡ self.old.base }
         ensures after { OnOk result (Enters self.old trip seen self.new) }
@@ -242,8 +243,8 @@ impl Register {
     {
         let number = self.book.len() + 1;
         let version = self.store.version();
-        let route = trip.route.clone()?;
-        let segments = route.as_slice();
+        let routes = trip.routes.clone()?;
+        let segments = routes.all();
         self.index.add(number, segments)?;
         match self.book.issue(trip, version, seen) {
             Ok(_number) => Ok(()),
@@ -286,7 +287,7 @@ impl Register {
         ensures after { self.new.machine ≡ with_surrender self.old.machine number reply.Surrendered }
     {
         let permit = &self.book.permits()[number as usize - 1];
-        self.index.remove(number, permit.trip.route.as_slice());
+        self.index.remove(number, permit.trip.routes.all());
         self.book.surrender(number);
     }
 }

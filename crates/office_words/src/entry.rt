@@ -5,8 +5,8 @@ use permit_book::Status;
 use permit_days::Day;
 use restriction_log::Change;
 use road_graph::Numbers;
-use shared_route::SharedRoute;
 use trip_analysis::{Application, Proposal};
+use trip_routes::SharedRoutes;
 
 /// What is asked of the office.
 #[derive(Drop)]
@@ -43,7 +43,7 @@ pub enum Call {
 /// Why a proposal is out of date.
 #[derive(Clone, Copy, PartialEq, Eq)]
 pub enum Cause {
-    /// A segment of its route fails now: the first one's first failing limit.
+    /// A segment of its routes fails now: the first one's first failing limit.
     NowFails { limit: Limit },
     /// The segment that stood in the way meets now.
     NowMeets { segment: u32 },
@@ -56,11 +56,11 @@ pub enum Reply {
     SnapshotAt {
         version: u32,
     },
-    /// A permit of this number was issued at this version for this route.
+    /// A permit of this number was issued at this version for these routes.
     Issued {
         number: u32,
         version: u32,
-        route: SharedRoute,
+        routes: SharedRoutes,
     },
     /// At this version the trip fails this limit.
     Refused {

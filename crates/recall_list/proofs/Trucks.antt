@@ -32,29 +32,29 @@ quiet n (f ∷ fs) found none =
     ∙ quiet n fs found (λ mid g rest e. none (f ∷ mid) g rest (ap (λ l. f ∷ l) e))
 
 module _ (base : BaseLists) (es front : History) (n : ℕ) (h : WasIssuedOnce base es front n) (rest : History) (is : es ≡ front ++ rest) where
-  there : Stands es h.at (entry h.by h.c (reply.Issued n h.v h.route))
-  there = stands_in es front rest h.at (entry h.by h.c (reply.Issued n h.v h.route)) is h.stands
+  there : Stands es h.at (entry h.by h.c (reply.Issued n h.v h.routes))
+  there = stands_in es front rest h.at (entry h.by h.c (reply.Issued n h.v h.routes)) is h.stands
 
-  found_here : truck_by n h.c (reply.Issued n h.v h.route) ≡ Some h.trip.truck
+  found_here : truck_by n h.c (reply.Issued n h.v h.routes) ≡ Some h.trip.truck
   found_here = grind (arith, nat_tests, h.asked)
 
   -- behind it no entry issues the permit
   silent : (mid : History) (f : Entry) (more : History) → there.0 ≡ mid ++ f ∷ more → truck_by n f.call f.reply ≡ None
   silent mid f more parts = by f.reply refl
     where
-      whole : es ≡ (h.at ++ entry h.by h.c (reply.Issued n h.v h.route) ∷ mid) ++ f ∷ more
-      whole = there.1 ∙ (ap (λ l. h.at ++ entry h.by h.c (reply.Issued n h.v h.route) ∷ l) parts
-          ∙ sym (append_assoc h.at (entry h.by h.c (reply.Issued n h.v h.route) ∷ mid) (f ∷ more)))
+      whole : es ≡ (h.at ++ entry h.by h.c (reply.Issued n h.v h.routes) ∷ mid) ++ f ∷ more
+      whole = there.1 ∙ (ap (λ l. h.at ++ entry h.by h.c (reply.Issued n h.v h.routes) ∷ l) parts
+          ∙ sym (append_assoc h.at (entry h.by h.c (reply.Issued n h.v h.routes) ∷ mid) (f ∷ more)))
 
-      again : (v : ℕ) (route : List ℕ) → f.reply ≡ reply.Issued n v route → ⊥
-      again v route same =
-          let other = h.once (h.at ++ entry h.by h.c (reply.Issued n h.v h.route) ∷ mid)
-          (f.caller, f.call, v, route, (more, whole ∙ ap (λ r. (h.at ++ entry h.by h.c (reply.Issued n h.v h.route) ∷ mid) ++ entry f.caller f.call r ∷ more) same)) in
-          omega (arith, ap length other, length-append h.at (entry h.by h.c (reply.Issued n h.v h.route) ∷ mid))
+      again : (v : ℕ) (routes : List (List ℕ)) → f.reply ≡ reply.Issued n v routes → ⊥
+      again v routes same =
+          let other = h.once (h.at ++ entry h.by h.c (reply.Issued n h.v h.routes) ∷ mid)
+          (f.caller, f.call, v, routes, (more, whole ∙ ap (λ r. (h.at ++ entry h.by h.c (reply.Issued n h.v h.routes) ∷ mid) ++ entry f.caller f.call r ∷ more) same)) in
+          omega (arith, ap length other, length-append h.at (entry h.by h.c (reply.Issued n h.v h.routes) ∷ mid))
 
       by : (r : Reply) → f.reply ≡ r → truck_by n f.call r ≡ None
-      by (reply.Issued k v route) same = elim (cases_Bool (k == n)) [
-        | inl equal ↦ absurd (again v route (same ∙ ap (λ j. reply.Issued j v route) (eqb-true k n equal)))
+      by (reply.Issued k v routes) same = elim (cases_Bool (k == n)) [
+        | inl equal ↦ absurd (again v routes (same ∙ ap (λ j. reply.Issued j v routes) (eqb-true k n equal)))
         | inr other ↦ rw other refl
       ]
       by _ same = refl
@@ -62,7 +62,7 @@ module _ (base : BaseLists) (es front : History) (n : ℕ) (h : WasIssuedOnce ba
   pub found_truck : truck_in es n ≡ Some h.trip.truck
   found_truck =
       ap (fold (later n) None) there.1
-      ∙ (fold-append (later n) None h.at (entry h.by h.c (reply.Issued n h.v h.route) ∷ there.0)
+      ∙ (fold-append (later n) None h.at (entry h.by h.c (reply.Issued n h.v h.routes) ∷ there.0)
       ∙ (ap (λ o. fold (later n) (option_or o (fold (later n) None h.at)) there.0) found_here
       ∙ quiet n there.0 (Some h.trip.truck) silent))
 

@@ -11,7 +11,7 @@ use Rattle.office_core.specs.Happened.{History, Numbers, application_in}
 
 -- the truck for which a call and its answer issue the permit of a number, where they do
 abbrev pub truck_by : ℕ → Call → Reply → Option ℕ
-truck_by n c (reply.Issued k v route) = if k == n then option_map (λ a. a.truck) (application_in c) else None
+truck_by n c (reply.Issued k v routes) = if k == n then option_map (λ a. a.truck) (application_in c) else None
 truck_by n c _ = None
 
 -- the truck of a permit: that for which the last entry that issued it did so; in the history of an office there is just one

@@ -5,7 +5,7 @@ use Rattle.office_core.proofs.recall_marks.recall.Goals as goal
 
 pub remove-requires-clause-there : goal.remove-requires-clause-there
 remove-requires-clause-there c =
-    rw c.as_slice.ensures (index_there (length c.args.index.now) c.args.book.now c.args.index.now c.requires.index c.permits.ensures.book.numbered c.args.number c.requires.issued c.index-permits-number.result
+    rw c.all.ensures (index_there (length c.args.index.now) c.args.book.now c.args.index.now c.requires.index c.permits.ensures.book.numbered c.args.number c.requires.issued c.index-permits-number.result
     (found_at c.permits.result.now c.args.book.now c.args.number c.index-permits-number.result c.permits.ensures.permits c.requires.issued c.index-permits-number.is) c.requires.live)
 
 pub returns-clause-index : goal.returns-clause-index

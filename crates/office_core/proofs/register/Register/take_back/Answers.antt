@@ -12,7 +12,7 @@ use Rattle.office_core.proofs.register.Register.take_back.Goals as goal
 pub remove-requires-clause-segments : goal.remove-requires-clause-segments
 remove-requires-clause-segments c = let i = c.self.inside in let inv = c.self.invariant in
     let issued : is_issued i.book c.args.number ≡ true = ap (λ (q : RegisterParts). is_issued q.machine.permits c.args.number) c.self.view_is ∙ c.requires.issued in
-    rw c.as_slice.ensures (index_inside (length (arc_value i.base).roads.segments) i.book i.index inv.index inv.good.numbered c.args.number issued c.index-permits-number.result
+    rw c.all.ensures (index_inside (length (arc_value i.base).roads.segments) i.book i.index inv.index inv.good.numbered c.args.number issued c.index-permits-number.result
     (found_at c.permits.result.now i.book c.args.number c.index-permits-number.result c.permits.ensures.permits issued c.index-permits-number.is))
 
 pub remove-requires-clause-there : goal.remove-requires-clause-there
@@ -20,7 +20,7 @@ remove-requires-clause-there c = let i = c.self.inside in let inv = c.self.invar
     let issued : is_issued i.book c.args.number ≡ true = ap (λ (q : RegisterParts). is_issued q.machine.permits c.args.number) c.self.view_is ∙ c.requires.issued in
     let live : is_live (permit_of i.book c.args.number).mark ≡ true =
     live_in_force (permit_of i.book c.args.number) i.day (ap (λ (q : RegisterParts). in_force q.machine.day (permit_of q.machine.permits c.args.number)) c.self.view_is ∙ c.requires.in_force) in
-    rw c.as_slice.ensures (index_there (length (arc_value i.base).roads.segments) i.book i.index inv.index inv.good.numbered c.args.number issued c.index-permits-number.result
+    rw c.all.ensures (index_there (length (arc_value i.base).roads.segments) i.book i.index inv.index inv.good.numbered c.args.number issued c.index-permits-number.result
     (found_at c.permits.result.now i.book c.args.number c.index-permits-number.result c.permits.ensures.permits issued c.index-permits-number.is) live)
 
 pub surrender-requires-clause-issued : goal.surrender-requires-clause-issued
