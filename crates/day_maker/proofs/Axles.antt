@@ -12,7 +12,7 @@ use Rattle.std.proofs.lemmas.Str.Parse.{digit_at}
 use Rattle.axle_train.specs.declared.axle.Axle.{Axle}
 use Rattle.axle_train.specs.Refusals.{place_fault, refusal_of, rise_fault, weight_fault}
 use Rattle.axle_train.specs.Trains.{axle_at}
-use Rattle.record_text.specs.Fields.{all_axles, axle_of, axles_of}
+use Rattle.record_text.specs.Fields.{axle_of, axles_of, of_each}
 use Rattle.day_maker.specs.Made.{axle_text, axles, axles_text, more_axles}
 use Rattle.day_maker.specs.Making.{drawn}
 use Rattle.day_maker.proofs.Leaves.{eq_false, le_true, lt_false, number_ok}
@@ -37,7 +37,7 @@ axle_apart a s =
     (All-cons (λ b. eqb b 32 ≡ false) 58 (decimal a.weight) refl (no_sign 32 a.weight (omega arith) (omega (arith, s.weight))))
 
 -- the text of axles is read as those axles
-parts : (a : Axle) (more : List Axle) → IsSmall a → AllByRecursion IsSmall more → all_axles (slice_split (λ b. eqb b 32) (axles_text (a ∷ more))) ≡ Some (a ∷ more)
+parts : (a : Axle) (more : List Axle) → IsSmall a → AllByRecursion IsSmall more → of_each axle_of (slice_split (λ b. eqb b 32) (axles_text (a ∷ more))) ≡ Some (a ∷ more)
 parts a [] s tt = rw (append-nil (axle_text a), slice_split_none (λ b. eqb b 32) (axle_text a) (axle_apart a s), axle_read a s) refl
 parts a (b ∷ more) s (t, ts) =
     rw (slice_split_at (λ x. eqb x 32) (axle_text a) 32 (axles_text (b ∷ more)) (axle_apart a s) refl, axle_read a s, parts b more t ts) refl

@@ -1,7 +1,7 @@
--- Every day file is within bounds: its roads, its trucks, its opening day, and the numbers and days of its commands.
+-- Every day file is within bounds: its roads, its trucks, its opening day, and the numbers, days and routes of its commands.
 use Rattle.std.proofs.Common.{◌≡◌, ◌≤◌, ◌<◌, ◌∷◌, ◌++◌, ◌&&◌, [], List, ℕ, Bool, true, false, not, cond, Option, Some, None, Result, Ok, Err, IfOk, All, length, refl, subst, arith, rules}
-use Rattle.std.specs.Prelude.{◌==◌, nat_lt, nat_le}
-use Rattle.std.specs.List.{list_all}
+use Rattle.std.specs.Prelude.{◌==◌, nat_lt, nat_le, option_and_then, option_map}
+use Rattle.std.specs.List.{list_all, slice_split}
 use Rattle.std.specs.Char.{is_ascii_digit}
 use Rattle.std.specs.Str.{bytes_eq}
 use Rattle.std.specs.Str.Parse.{digits_value}
@@ -40,7 +40,7 @@ use Rattle.office_words.specs.declared.entry.Command.{Command}
 use Rattle.office_words.specs.declared.entry.Command.TheVariants as command
 use Rattle.road_graph.specs.Words.{what_of}
 use Rattle.record_text.specs.Causes.{demand, limit, or_bad, unless_refused}
-use Rattle.record_text.specs.Fields.{day_of as day_field_of, day_or_none, field_of, number_of, posted_of, route_of}
+use Rattle.record_text.specs.Fields.{day_of as day_field_of, day_or_none, field_of, number_of, of_each, posted_of, route_of, routes_of}
 use Rattle.record_text.specs.Records.{Row, day_in, has_only, judged, name_in, number_in, rows_of}
 use Rattle.record_text.specs.declared.posted.Posted.{Posted}
 use Rattle.record_text.specs.declared.posted.Posted.TheVariants as posted
@@ -48,8 +48,8 @@ use Rattle.record_text.specs.declared.refusal.Cause.{Cause}
 use Rattle.record_text.specs.declared.refusal.RecordCause.TheVariants as bad
 use Rattle.record_text.specs.declared.refusal.Kind.TheVariants as kind
 use Rattle.record_text.proofs.Steps.{Gives, found_some, gives, not_refused, records_keep, refuses, then_gives, was_demanded, was_within}
-use Rattle.day_text.specs.Bounds.{DayFilesAreBounded, IsBounded, IsSized, IsWithin}
-use Rattle.day_text.specs.Commands.{all_numbers, applied, apply_fields_of, asked_route_of, cause_of, order_of, asked_permit_of, post_of, posting_of, resolved_of, set_day_of, with_order}
+use Rattle.day_text.specs.Bounds.{AreAskedRoutes, DayFilesAreBounded, IsBounded, IsSized, IsWithin}
+use Rattle.day_text.specs.Commands.{applied, apply_fields_of, asked_of, cause_of, numbers_of, order_of, asked_permit_of, post_of, posting_of, resolved_of, set_day_of, with_order}
 use Rattle.day_text.specs.Days.{ended_day, finished_day, going_on, judge_day, judge_kind, judge_later, judge_opening, fresh_day, opening_of, file_parts_of, with_actor, with_command, with_road, with_truck}
 use Rattle.day_text.specs.Fleets.{actors_of, fleet_of, truck_names}
 use Rattle.day_text.specs.Kinds.{kind_of}
@@ -238,41 +238,80 @@ maybe_day text (Some day) e = day_fits text day e
 there_day : (o : Option (List ℕ)) (day : List ℕ) → IsMaybeDay o → o ≡ Some day → is_day_text day ≡ true
 there_day o day h e = subst IsMaybeDay e h
 
-abbrev HasDays : ApplyFields → Type 0
-HasDays f = IsMaybeDay f.first × IsMaybeDay f.last
+-- as many are given as there are things
+each_long : {A B : Type 0} (f : A → Option B) (xs : List A) (ys : List B) → of_each f xs ≡ Some ys → length ys ≡ length xs
+each_long {A} {B} f [] ys e = let same : [] ≡ ys = cc in subst (λ (l : List B). length l ≡ 0) same refl
+each_long {A} {B} f (x ∷ xs) ys e = by (f x) (of_each f xs) (each_long f xs) e
+  where
+    by : (first : Option B) (others : Option (List B)) → ((found : List B) → others ≡ Some found → length found ≡ length xs) → option_and_then (λ y. option_map (λ more. y ∷ more) others) first ≡ Some ys → length ys ≡ length (x ∷ xs)
+    by None others k e = cc
+    by (Some y) None k e = cc
+    by (Some y) (Some more) k e =
+        let same : y ∷ more ≡ ys = cc in
+        let long = k more refl in
+        subst (λ (l : List B). length l ≡ length (x ∷ xs)) same (omega (arith, long))
 
-fields_give : (fields : Row) → Gives HasDays (apply_fields_of fields)
+-- a route field has eight routes at most
+few_in_field : (text : List ℕ) (routes : List (List (List ℕ))) → routes_of text ≡ Some routes → length routes ≤ 8
+few_in_field text routes e = by (length text == 0) (nat_le (length (slice_split (λ b. b == 124) text)) 8) refl e
+  where
+    by : (empty few : Bool) → nat_le (length (slice_split (λ b. b == 124) text)) 8 ≡ few
+        → cond empty (Some []) (cond few (of_each route_of (slice_split (λ b. b == 124) text)) None) ≡ Some routes → length routes ≤ 8
+    by true few is e = let same : [] ≡ routes = cc in subst (λ (l : List (List (List ℕ))). length l ≤ 8) same (omega arith)
+    by false false is e = cc
+    by false true is e =
+        let long = each_long route_of (slice_split (λ b. b == 124) text) routes e in
+        let most = leb-true _ _ is in
+        omega (arith, long, most)
+
+few_asked : (known : List (List ℕ)) (routes : List (List (List ℕ))) (asked : Option (List (List ℕ))) → length routes ≤ 8 → asked_of known routes ≡ Some asked → AreAskedRoutes asked
+few_asked known [] asked few e = let same : None ≡ asked = cc in subst AreAskedRoutes same tt
+few_asked known (route ∷ routes) asked few e = by (of_each (numbers_of known) (route ∷ routes)) refl e
+  where
+    by : (o : Option (List (List ℕ))) → of_each (numbers_of known) (route ∷ routes) ≡ o → option_map Some o ≡ Some asked → AreAskedRoutes asked
+    by None is e = cc
+    by (Some found) is e =
+        let same : Some found ≡ asked = cc in
+        let long = each_long (numbers_of known) (route ∷ routes) found is in
+        subst AreAskedRoutes same (record { some = omega (arith, long); few = omega (arith, long, few) })
+
+-- the forms of the fields of an application
+abbrev AreForms : ApplyFields → Type 0
+AreForms f = IsMaybeDay f.first × IsMaybeDay f.last × (length f.routes ≤ 8)
+
+fields_give : (fields : Row) → Gives AreForms (apply_fields_of fields)
 unfolding apply_fields_of
 fields_give fields =
     then_gives {r = name_in 2 fields} (λ actor _.
     then_gives {r = name_in 3 fields} (λ truck _.
     then_gives {r = name_in 4 fields} (λ from _.
     then_gives {r = name_in 5 fields} (λ to _.
-    then_gives {r = or_bad (bad.Field 6) (route_of (field_of fields 5))} (λ route _.
+    then_gives {r = or_bad (bad.Field 6) (routes_of (field_of fields 5))} (λ routes r.
     then_gives {r = day_in 7 fields} (λ first a.
     then_gives {r = day_in 8 fields} (λ last b.
-    gives HasDays (record { actor = actor; truck = truck; from = from; to = to; route = route; first = first; last = last })
-    (maybe_day (field_of fields 6) first (found_some (bad.Field 7) _ first a), maybe_day (field_of fields 7) last (found_some (bad.Field 8) _ last b)))))))))
+    gives AreForms (record { actor = actor; truck = truck; from = from; to = to; routes = routes; first = first; last = last })
+    (maybe_day (field_of fields 6) first (found_some (bad.Field 7) _ first a), maybe_day (field_of fields 7) last (found_some (bad.Field 8) _ last b), few_in_field (field_of fields 5) routes (found_some (bad.Field 6) _ routes r)))))))))
 
 abbrev IsGiven : Roads → Order → Type 0
 IsGiven roads o = IsWithin roads o.command
 
-resolved_gives : (d : DaySoFar) (f : ApplyFields) → HasDays f → Gives (IsGiven d.network) (resolved_of d f)
+resolved_gives : (d : DaySoFar) (f : ApplyFields) → AreForms f → Gives (IsGiven d.network) (resolved_of d f)
 unfolding resolved_of
 resolved_gives d f h =
     then_gives {r = or_bad (bad.Unknown 2) (number_named f.actor d.actors)} (λ actor _.
     then_gives {r = or_bad (bad.Unknown 3) (number_named f.truck (truck_names d.fleet))} (λ truck _.
     then_gives {r = or_bad (bad.Unknown 4) (number_named f.from d.network.nodes)} (λ from _.
     then_gives {r = or_bad (bad.Unknown 5) (number_named f.to d.network.nodes)} (λ to _.
-    then_gives {r = or_bad (bad.Unknown 6) (all_numbers (segment_names d.network.segments) f.route)} (λ route _.
+    then_gives {r = or_bad (bad.Unknown 6) (asked_of (segment_names d.network.segments) f.routes)} (λ asked asked_is.
     then_gives {r = or_bad (bad.Range 7) f.first} (λ first first_is.
     then_gives {r = or_bad (bad.Range 8) f.last} (λ last last_is.
-    then_gives {r = applied d.network truck from to (asked_route_of route) first last} (λ application applied_is.
+    then_gives {r = applied d.network truck from to asked first last} (λ application applied_is.
     let a = there_day f.first first h.0 (found_some (bad.Range 7) f.first first first_is) in
     let b = there_day f.last last h.1 (found_some (bad.Range 8) f.last last last_is) in
-    let same = (not_refused cause_of (application_of truck from to (asked_route_of route) first last) application _ applied_is).0 in
+    let few = few_asked (segment_names d.network.segments) f.routes asked h.2 (found_some (bad.Unknown 6) _ asked asked_is) in
+    let same = (not_refused cause_of (application_of truck from to asked first last) application _ applied_is).0 in
     gives (IsGiven d.network) (record { actor = actor; command = command.Apply application })
-    (subst (λ (x : Application). (is_day_text x.first ≡ true) × (is_day_text x.last ≡ true)) same (a, b))))))))))
+    (subst (λ (x : Application). (is_day_text x.first ≡ true) × (is_day_text x.last ≡ true) × AreAskedRoutes x.asked) same (a, b, few))))))))))
 
 -- the roads take the change that a posting gives
 flag_small : (b : Bool) → is_limit limits.Closed (flag b) ≡ true

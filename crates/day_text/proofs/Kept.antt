@@ -1,6 +1,7 @@
 -- What the records of a road network keep of it: its nodes, and where its segments lead.
 use Rattle.std.proofs.Common.{◌≡◌, ◌≤◌, ◌∷◌, ◌∙◌, [], List, ℕ, zero, suc, Some, None, set, length, refl, sym, ap, subst, arith, length-append}
 use Rattle.std.specs.Prelude.{nat_lt, not, slice_get}
+use Rattle.std.proofs.lemmas.List.Elements.{All-weaker}
 use Rattle.std.proofs.lemmas.Option.{get_or_from_slice_get}
 use Rattle.road_graph.specs.declared.segment.Segment.{Segment}
 use Rattle.road_graph.specs.declared.values.What.{What}
@@ -41,7 +42,8 @@ walk_kept old new alike (i ∷ path) a b (s, at, may, begins, rest) =
 
 asked_kept : (old new : Roads) → IsKept old new → (asked : _) (a b : ℕ) → IsAskedWalk old a b asked → IsAskedWalk new a b asked
 asked_kept old new kept None a b w = tt
-asked_kept old new kept (Some path) a b w = walk_kept old.segments new.segments kept.segments path a b w
+asked_kept old new kept (Some routes) a b w =
+    All-weaker (IsWalk old.segments every a b) (IsWalk new.segments every a b) (λ path walk. walk_kept old.segments new.segments kept.segments path a b walk) routes w
 
 -- an application that was sound stays sound
 pub sound_kept : (old new : BaseLists) → IsKept old.roads new.roads → length old.fleet ≤ length new.fleet → (a : Application) → Sound old a → Sound new a
@@ -52,6 +54,7 @@ sound_kept old new kept fleet a s = record {
   apart = s.apart;
   asked = asked_kept old.roads new.roads kept a.asked a.from a.to s.asked;
   days = s.days;
+  year = s.year;
 }
 
 -- a segment is written over by one that leads alike

@@ -2,6 +2,7 @@ pub mod Naming
 pub mod Fleets
 pub mod Kept
 pub mod Commanded
+pub mod Asking
 pub mod Bounds
 pub mod EveryDay
 pub mod Counts

@@ -1,6 +1,6 @@
 -- The records of commands: the command that each gives, or the first cause for which it is refused. A command refers to its
 -- actor, its truck and the things of the road network by the names of records before it.
-use Rattle.std.specs.Prelude.{ℕ, ◌==◌, nat_lt, List, [], ◌∷◌, ◌++◌, length, Result, Ok, Option, Some, None, if◌then◌else◌, option_and_then, option_map}
+use Rattle.std.specs.Prelude.{ℕ, nat_lt, List, [], ◌∷◌, ◌++◌, length, Result, Ok, Option, Some, None, option_map}
 use Rattle.restriction_log.specs.Changes.{change_of}
 use Rattle.restriction_log.specs.declared.change.Change.{Change}
 use Rattle.restriction_log.specs.declared.change.Change.TheVariants as change
@@ -9,10 +9,10 @@ use Rattle.road_graph.specs.Roads.{Roads, segment_names, span_names}
 use Rattle.road_graph.specs.Roads.{number_of as number_named}
 use Rattle.trip_analysis.specs.declared.application.Application.{Application}
 use Rattle.trip_analysis.specs.declared.refusal.ApplicationRefusal.{ApplicationRefusal}
-use Rattle.trip_analysis.specs.declared.refusal.ApplicationRefusal.TheVariants.{BrokenRoute, DayOrder, SamePlace}
+use Rattle.trip_analysis.specs.declared.refusal.ApplicationRefusal.TheVariants.{AnnualDays, BrokenRoute, DayOrder, SamePlace}
 use Rattle.trip_analysis.specs.Applications.{application_of, application_refusal}
 use Rattle.record_text.specs.Causes.{◌>>=◌, demand, limit, or_bad, unless_refused}
-use Rattle.record_text.specs.Fields.{field_of, posted_of, route_of}
+use Rattle.record_text.specs.Fields.{field_of, of_each, posted_of, routes_of}
 use Rattle.day_text.specs.Fleets.{truck_names}
 use Rattle.record_text.specs.Records.{Row, day_in, has_only, name_in, number_in}
 use Rattle.office_words.specs.declared.entry.Command.TheVariants as command
@@ -35,28 +35,29 @@ apply_fields_of fields = do
   truck ← name_in 3 fields
   from ← name_in 4 fields
   to ← name_in 5 fields
-  route ← or_bad (bad.Field 6) (route_of (field_of fields 5))
+  routes ← or_bad (bad.Field 6) (routes_of (field_of fields 5))
   first ← day_in 7 fields
   last ← day_in 8 fields
-  Ok (record { actor = actor; truck = truck; from = from; to = to; route = route; first = first; last = last })
+  Ok (record { actor = actor; truck = truck; from = from; to = to; routes = routes; first = first; last = last })
 
--- the numbers of some names
-abbrev pub all_numbers : List (List ℕ) → List (List ℕ) → Option (List ℕ)
-all_numbers known [] = Some []
-all_numbers known (name ∷ names) = option_and_then (λ i. option_map (λ numbers. i ∷ numbers) (all_numbers known names)) (number_named name known)
+-- the numbers of the segments of a route, where each of its names is a segment's
+abbrev pub numbers_of : List (List ℕ) → List (List ℕ) → Option (List ℕ)
+numbers_of known route = of_each (λ name. number_named name known) route
 
--- an empty route asks for none
-abbrev pub asked_route_of : List ℕ → Option (List ℕ)
-asked_route_of route = if length route == 0 then None else Some route
+-- the routes that are asked for, where each of their names is a segment's; no routes ask for none
+abbrev pub asked_of : List (List ℕ) → List (List (List ℕ)) → Option (Option (List (List ℕ)))
+asked_of known [] = Some None
+asked_of known (route ∷ routes) = option_map Some (of_each (numbers_of known) (route ∷ routes))
 
 -- the cause of a record whose application is refused
 abbrev pub cause_of : ApplicationRefusal → RecordCause
 cause_of SamePlace = bad.SamePlace
-cause_of (BrokenRoute at) = bad.BrokenRoute
+cause_of (BrokenRoute route at) = bad.BrokenRoute
 cause_of DayOrder = bad.DayOrder
+cause_of (AnnualDays days) = bad.AnnualDays
 
 -- an application that no rule of applications refuses
-abbrev pub applied : Roads → ℕ → ℕ → ℕ → Option (List ℕ) → List ℕ → List ℕ → Result Application Cause
+abbrev pub applied : Roads → ℕ → ℕ → ℕ → Option (List (List ℕ)) → List ℕ → List ℕ → Result Application Cause
 applied roads truck from to asked first last =
     unless_refused cause_of (application_of truck from to asked first last) (application_refusal roads from to asked first last)
 
@@ -67,10 +68,10 @@ resolved_of d f = do
   truck ← or_bad (bad.Unknown 3) (number_named f.truck (truck_names d.fleet))
   from ← or_bad (bad.Unknown 4) (number_named f.from d.network.nodes)
   to ← or_bad (bad.Unknown 5) (number_named f.to d.network.nodes)
-  route ← or_bad (bad.Unknown 6) (all_numbers (segment_names d.network.segments) f.route)
+  asked ← or_bad (bad.Unknown 6) (asked_of (segment_names d.network.segments) f.routes)
   first ← or_bad (bad.Range 7) f.first
   last ← or_bad (bad.Range 8) f.last
-  application ← applied d.network truck from to (asked_route_of route) first last
+  application ← applied d.network truck from to asked first last
   Ok (record { actor = actor; command = command.Apply application })
 
 -- apply,ACTOR,TRUCK,FROM,TO,ROUTE,FIRST,LAST: the fields in their forms first, and then what they refer to

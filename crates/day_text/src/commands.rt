@@ -1,12 +1,11 @@
 // The records of commands.
 
-ghost use Rattle.std.specs.Prelude.{◌≡◌, ◌<◌, All, IfOk, length};
+ghost use Rattle.std.specs.Prelude.{◌≡◌};
 ghost use Rattle.csv.specs.Records.{fields_of};
-ghost use Rattle.road_graph.specs.Roads.{segment_names};
-ghost use Rattle.trip_analysis.specs.Applications.{AreAskedThere};
 ghost use Rattle.record_text.specs.Causes.{Judges};
-ghost use Rattle.day_text.specs.Commands.{all_numbers, apply_fields_of, apply_of, asked_route_of, cause_of, order_of, asked_permit_of, post_of, posting_of, resolved_of, set_day_of, show_of, surrender_of};
+ghost use Rattle.day_text.specs.Commands.{apply_fields_of, apply_of, cause_of, order_of, asked_permit_of, post_of, posting_of, resolved_of, set_day_of, show_of, surrender_of};
 
+use crate::asked::find_asked;
 use crate::day_so_far::DaySoFar;
 use crate::kind::CommandKind;
 use crate::orders::Order;
@@ -15,22 +14,22 @@ use names::Name;
 use office_words::Command;
 use permit_days::Day;
 use record_text::{
-    Cause, Posted, RecordCause, RecordRefusal, Route, day_in, demand, field, has_only, name_in,
-    number_in, or_bad, parse_posted, parse_route,
+    Cause, Posted, RecordCause, RecordRefusal, RouteField, day_in, demand, field, has_only,
+    name_in, number_in, or_bad, parse_posted, parse_routes,
 };
 use restriction_log::Change;
-use road_graph::{Network, Numbers, Span};
+use road_graph::{Network, Span};
 use std::alloc::Global;
 use trip_analysis::{Application, ApplicationRefusal};
 
 /// The fields of an application's record, each in its form. A day that the calendar lacks is none.
 #[derive(Drop)]
-pub(crate) struct ApplyFields {
+pub(crate) struct ApplyFields<'a> {
     pub actor: Name,
     pub truck: Name,
     pub from: Name,
     pub to: Name,
-    pub route: Route,
+    pub routes: RouteField<'a>,
     pub first: Option<Day>,
     pub last: Option<Day>,
 }
@@ -57,7 +56,7 @@ pub(crate) fn parse_order(
 fn parse_apply(alloc: Global, so_far: &DaySoFar, row: &StringRecord) -> Result<Order, RecordRefusal>
     ensures { Judges result (apply_of so_far.now (fields_of row.now)) }
 {
-    let fields = parse_apply_fields(alloc, row)?;
+    let fields = parse_apply_fields(row)?;
     let order = resolve(alloc, so_far, &fields);
     drop(fields);
     order
@@ -78,13 +77,9 @@ fn resolve(alloc: Global, so_far: &DaySoFar, fields: &ApplyFields) -> Result<Ord
         so_far.network.node_named(&fields.to),
         RecordCause::Unknown(5),
     )?;
-    let route = or_bad(
-        numbers_of(alloc, &so_far.network, fields.route.as_slice())?,
-        RecordCause::Unknown(6),
-    )?;
+    let asked = find_asked(alloc, &so_far.network, &fields.routes)?;
     let first = or_bad(fields.first, RecordCause::Range(7))?;
     let last = or_bad(fields.last, RecordCause::Range(8))?;
-    let asked = asked_route_of(&so_far.network, route);
     match Application::on(&so_far.network, truck, from, to, asked, first, last) {
         Ok(application) => Ok(Order {
             actor,
@@ -152,14 +147,14 @@ fn parse_show(so_far: &DaySoFar, row: &StringRecord) -> Result<Order, Cause>
 
 // The fields of an application's record.
 #[tactic(auto, unfolding(crate::specs::Commands::apply_fields_of))]
-fn parse_apply_fields(alloc: Global, row: &StringRecord) -> Result<ApplyFields, RecordRefusal>
-    ensures { Judges result (apply_fields_of (fields_of row.now)) }
+fn parse_apply_fields(row: &StringRecord) -> Result<ApplyFields<'_>, Cause>
+    ensures { result ≡ apply_fields_of (fields_of row.now) }
 {
     let actor = name_in(row, 2)?;
     let truck = name_in(row, 3)?;
     let from = name_in(row, 4)?;
     let to = name_in(row, 5)?;
-    let route = or_bad(parse_route(alloc, field(row, 5))?, RecordCause::Field(6))?;
+    let routes = or_bad(parse_routes(field(row, 5)), RecordCause::Field(6))?;
     let first = day_in(row, 7)?;
     let last = day_in(row, 8)?;
     Ok(ApplyFields {
@@ -167,42 +162,10 @@ fn parse_apply_fields(alloc: Global, row: &StringRecord) -> Result<ApplyFields, 
         truck,
         from,
         to,
-        route,
+        routes,
         first,
         last,
     })
-}
-
-// The numbers of the segments of a route, where all are there.
-fn numbers_of(
-    alloc: Global,
-    network: &Network,
-    route: &[Name],
-) -> Result<Option<Numbers>, RecordRefusal>
-    ensures numbers { Judges result (Ok (all_numbers (segment_names network.now.segments) route.now)) }
-    ensures there { IfOk result (AreAskedThere network.now) }
-{
-    let mut list = Vec::new(alloc);
-    'route: for name in route {
-        let Some(number) = network.segment_named(name) else {
-            return Ok(None);
-        };
-        list.push(number)?;
-    }
-    Ok(Some(Numbers::of(list)))
-}
-
-// The route that is asked for; an empty one asks for none.
-fn asked_route_of(network: &Network, route: Numbers) -> Option<Numbers>
-    requires { All (λ s. s < length network.now.segments) route }
-    ensures value { result ≡ asked_route_of route }
-    ensures there { AreAskedThere network.now result }
-{
-    if route.as_slice().is_empty() {
-        None
-    } else {
-        Some(route)
-    }
 }
 
 // The cause of a record whose application is refused.
@@ -213,6 +176,7 @@ fn cause_of(refusal: ApplicationRefusal) -> RecordCause
         ApplicationRefusal::SamePlace => RecordCause::SamePlace,
         ApplicationRefusal::BrokenRoute { .. } => RecordCause::BrokenRoute,
         ApplicationRefusal::DayOrder => RecordCause::DayOrder,
+        ApplicationRefusal::AnnualDays { .. } => RecordCause::AnnualDays,
     }
 }
 

@@ -4,3 +4,5 @@ pub mod Judging
 pub mod Blanks
 pub mod Numbers
 pub mod Steps
+pub mod Each
+pub mod Routes

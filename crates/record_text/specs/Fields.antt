@@ -36,14 +36,14 @@ axle_of_parts (place ∷ weight ∷ more ∷ parts) = None
 abbrev pub axle_of : List ℕ → Option Axle
 axle_of text = axle_of_parts (slice_split (λ b. b == 58) text)
 
--- each of some axles
-abbrev pub all_axles : List (List ℕ) → Option (List Axle)
-all_axles [] = Some []
-all_axles (part ∷ parts) = option_and_then (λ a. option_map (λ axles. a ∷ axles) (all_axles parts)) (axle_of part)
+-- what is given for each of some things, where something is given for all of them
+abbrev pub of_each : {A B : Type 0} → (A → Option B) → List A → Option (List B)
+of_each f [] = Some []
+of_each f (x ∷ xs) = option_and_then (λ y. option_map (λ ys. y ∷ ys) (of_each f xs)) (f x)
 
 -- an axle field: one axle and more, with one space between them
 abbrev pub axles_of : List ℕ → Option (List Axle)
-axles_of text = all_axles (slice_split (λ b. b == 32) text)
+axles_of text = of_each axle_of (slice_split (λ b. b == 32) text)
 
 -- what a posting replaces: a limit of a segment, or the rating of a span
 abbrev pub posted_of : List ℕ → Option Posted
@@ -58,11 +58,14 @@ day_or_none (Err Shape) = None
 abbrev pub day_of : List ℕ → Option (Option (List ℕ))
 day_of text = day_or_none (reading_of text)
 
--- each of some names
-abbrev pub all_names : List (List ℕ) → Option (List (List ℕ))
-all_names [] = Some []
-all_names (part ∷ parts) = option_and_then (λ name. option_map (λ names. name ∷ names) (all_names parts)) (name_of part)
-
--- a route field: nothing, or names with one space between them
+-- a route: one name and more, with one space between them
 abbrev pub route_of : List ℕ → Option (List (List ℕ))
-route_of text = if length text == 0 then Some [] else all_names (slice_split (λ b. b == 32) text)
+route_of text = of_each name_of (slice_split (λ b. b == 32) text)
+
+-- at most eight routes
+abbrev pub few_routes : List (List ℕ) → Option (List (List (List ℕ)))
+few_routes parts = if nat_le (length parts) 8 then of_each route_of parts else None
+
+-- a route field: nothing, or one to eight routes with one bar between them
+abbrev pub routes_of : List ℕ → Option (List (List (List ℕ)))
+routes_of text = if length text == 0 then Some [] else few_routes (slice_split (λ b. b == 124) text)

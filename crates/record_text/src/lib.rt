@@ -24,4 +24,4 @@ pub use fields::{field, parse_day, parse_name, parse_number};
 pub use posted::{Posted, parse_posted};
 pub use records::{Progress, is_blank_from, read_records};
 pub use refusal::{Cause, FileRefusal, Kind, RecordCause, RecordRefusal};
-pub use route::{Route, parse_route};
+pub use route::{RouteField, parse_routes};

@@ -30,10 +30,12 @@ pub enum RecordCause {
     Train(u32),
     /// An application leads from a node to itself.
     SamePlace,
-    /// The route that is asked for is no walk between the two nodes.
+    /// A route that is asked for is no walk between the two nodes.
     BrokenRoute,
     /// The last day is before the first.
     DayOrder,
+    /// Two routes or more are asked for, and the last day lies more than 365 days after the first.
+    AnnualDays,
     /// The input ends without an end.
     End,
 }

@@ -1,51 +1,87 @@
-// The field of a route.
+// The field of routes.
 
-ghost use Rattle.std.specs.Prelude.{◌≡◌, IfOk};
-ghost use Rattle.record_text.specs.Fields.{route_of};
+ghost use Rattle.std.specs.Prelude.{◌≡◌, ◌==◌, nat_le, length, is_some, Some};
+ghost use Rattle.std.specs.List.{list_all, slice_split};
+ghost use Rattle.record_text.specs.Fields.{name_of, route_of, routes_of};
 
 use crate::fields::parse_name;
-use crate::split::split_at_spaces;
-use names::Name;
-use std::alloc::{AllocError, Global};
 use std::marker::Model;
 
-/// The names of a route.
+/// The most routes of a field.
+const MOST_ROUTES: usize = 8;
+
+/// A field that has the form of a route field: nothing, or one to eight routes with one bar between them, each of which is
+/// one name and more with one space between them.
+///
+/// Contracts see the names of each route. The field keeps the text alone, so that a reader goes over it without a list of
+/// these names.
 #[derive(Drop)]
-pub struct Route {
-    names: Vec<Name>,
+pub struct RouteField<'a> {
+    text: &'a str,
 }
 
-impl Model for Route {
-    ghost use Rattle.std.specs.Prelude.{List, ℕ};
+impl<'a> Model for RouteField<'a> {
+    ghost use Rattle.std.specs.Prelude.{List, [], ℕ, IsSome, unwrap_or};
+    ghost use Rattle.record_text.specs.Fields.{routes_of};
 
-    ghost Value = { List (List ℕ) };
+    ghost Value = { List (List (List ℕ)) };
 
-    ghost view = { λ a. a.names.items };
+    ghost view = { λ f. unwrap_or (routes_of f.text.now) [] };
+
+    ghost invariant = { λ f. IsSome (routes_of f.text.now) };
 }
 
-impl Route {
-    /// The names as a slice.
-    pub fn as_slice(&self) -> &[Name]
-        ensures { result.now ≡ self.now }
+impl<'a> RouteField<'a> {
+    /// The text of the field. Takes no memory.
+    pub fn as_str(&self) -> &'a str
+        ensures { routes_of result.now ≡ Some self.now }
     {
-        self.names.as_slice()
+        self.text
     }
 }
 
-/// The names of a route, with one space between them; none where the field is empty.
-pub fn parse_route(alloc: Global, text: &str) -> Result<Option<Route>, AllocError>
-    ensures { IfOk result (λ route. route ≡ route_of text.now) }
+/// The routes of a field, where it has their form. Takes no memory.
+pub fn parse_routes(text: &str) -> Option<RouteField<'_>>
+    ensures { result ≡ routes_of text.now }
 {
-    let mut names = Vec::new(alloc);
-    if text.is_empty() {
-        return Ok(Some(Route { names }));
+    if has_routes(text) {
+        Some(RouteField { text })
+    } else {
+        None
     }
-    let parts = split_at_spaces(alloc, text)?;
-    'parts: for part in &parts {
-        match parse_name(part) {
-            Some(name) => names.push(name)?,
-            None => return Ok(None),
-        }
-    }
-    Ok(Some(Route { names }))
+}
+
+// Whether a text is a route field.
+fn has_routes(text: &str) -> bool
+    ensures { result ≡ is_some (routes_of text.now) }
+{
+    text.is_empty() || has_few_parts(text) && are_routes(text)
+}
+
+// Whether a text has few enough parts around each bar.
+fn has_few_parts(text: &str) -> bool
+    ensures { result ≡ nat_le (length (slice_split (λ b. b == 124) text.now)) 8 }
+{
+    text.split('|').count() <= MOST_ROUTES
+}
+
+// Whether each part of a text around each bar is a route.
+fn are_routes(text: &str) -> bool
+    ensures { result ≡ list_all (λ part. is_some (route_of part)) (slice_split (λ b. b == 124) text.now) }
+{
+    text.split('|').all(is_route)
+}
+
+// Whether a text is a route.
+fn is_route(text: &str) -> bool
+    ensures { result ≡ is_some (route_of text.now) }
+{
+    are_names(text)
+}
+
+// Whether each part of a text around each space is a name.
+fn are_names(text: &str) -> bool
+    ensures { result ≡ list_all (λ part. is_some (name_of part)) (slice_split (λ b. b == 32) text.now) }
+{
+    text.split(' ').all(|name| parse_name(name).is_some())
 }

@@ -96,7 +96,8 @@ bad_told w n =
     else (if bytes_eq w (codes "same-place") then bad.SamePlace
     else (if bytes_eq w (codes "broken-route") then bad.BrokenRoute
     else (if bytes_eq w (codes "day-order") then bad.DayOrder
-    else bad.End)))))))))))
+    else (if bytes_eq w (codes "annual-days") then bad.AnnualDays
+    else bad.End))))))))))))
 
 abbrev told : List ℕ → Option ℕ → Cause
 told w o =
@@ -127,6 +128,7 @@ bad_is_told (bad.Train rule) = (refl, refl)
 bad_is_told bad.SamePlace = (refl, refl)
 bad_is_told bad.BrokenRoute = (refl, refl)
 bad_is_told bad.DayOrder = (refl, refl)
+bad_is_told bad.AnnualDays = (refl, refl)
 bad_is_told bad.End = (refl, refl)
 
 kind_is_told : (k : Kind) → IsTold (why.TooMany k)

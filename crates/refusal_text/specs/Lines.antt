@@ -26,6 +26,7 @@ bad_word (bad.Train rule) = codes "train"
 bad_word bad.SamePlace = codes "same-place"
 bad_word bad.BrokenRoute = codes "broken-route"
 bad_word bad.DayOrder = codes "day-order"
+bad_word bad.AnnualDays = codes "annual-days"
 bad_word bad.End = codes "end"
 
 abbrev pub kind_word : Kind → List ℕ

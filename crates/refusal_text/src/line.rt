@@ -64,6 +64,7 @@ fn bad_word(cause: RecordCause) -> &'static str
         RecordCause::SamePlace => "same-place",
         RecordCause::BrokenRoute => "broken-route",
         RecordCause::DayOrder => "day-order",
+        RecordCause::AnnualDays => "annual-days",
         RecordCause::End => "end",
     }
 }

@@ -1,4 +1,4 @@
-use crate::fixtures::same;
+use crate::fixtures::{holds, same};
 use day_start::prepare;
 use day_text::{Cause, DayFile, FileRefusal, Kind, Order, RecordCause, read_check, read_day};
 use office_words::Command;
@@ -6,6 +6,7 @@ use std::alloc::Global;
 use std::process::Abort;
 use std::test::Fail;
 use trip_analysis::Base;
+use trip_routes::SharedRoutes;
 
 // A load as high as the one road is posted.
 const ISSUED: &str =
@@ -361,6 +362,99 @@ const VALUES: [(&str, RecordCause); 22] = [
 #[test]
 fn refuses_values_out_of_range(rt: HostRuntime) {
     refuse(&rt, rt.alloc(), &VALUES);
+}
+
+// Two ways from A to B: S1, and S2 with S3 behind it.
+fn day_of_routes(
+    rt: &impl Abort,
+    alloc: Global,
+    routes: &str,
+    last: &str,
+) -> Result<DayFile, FileRefusal> {
+    let text = format!(in alloc;
+        "day,2026-03-02,,,,,,\nnode,A,,,,,,\nnode,B,,,,,,\nnode,C,,,,,,\nsegment,S1,A,B,1000,,,\nsegment,S2,A,C,1000,,,\nsegment,S3,C,B,1000,,,\ntruck,T1,ACME,168,102,720,0:12000 180:17000 228:17000,\nactor,ann,,,,,,\napply,ann,T1,A,B,{routes},2026-03-02,{last}\nend,,,,,,,\n"
+    ).expect(rt, "memory");
+    read_day(alloc, text.as_bytes())
+}
+
+// A route field, the last of the days that begin with 2026-03-02, and why the application is refused.
+const ANNUAL: [(&str, &str, RecordCause); 15] = [
+    ("S1|S2 S3", "2027-03-03", RecordCause::AnnualDays),
+    ("S1|S1", "2027-03-03", RecordCause::AnnualDays),
+    ("S1|S1", "2026-03-01", RecordCause::DayOrder),
+    ("S1|S2", "2027-03-02", RecordCause::BrokenRoute),
+    ("S2|S1", "2027-03-03", RecordCause::BrokenRoute),
+    ("S1|S3 S2", "2026-03-01", RecordCause::BrokenRoute),
+    ("S1|S4", "2026-03-01", RecordCause::Unknown(6)),
+    ("S1|", "2027-03-02", RecordCause::Field(6)),
+    ("|S1", "2027-03-02", RecordCause::Field(6)),
+    ("|", "2027-03-02", RecordCause::Field(6)),
+    ("||", "2027-03-02", RecordCause::Field(6)),
+    ("S1||S1", "2027-03-02", RecordCause::Field(6)),
+    ("S1 |S1", "2027-03-02", RecordCause::Field(6)),
+    ("S1| S1", "2027-03-02", RecordCause::Field(6)),
+    (
+        "S1|S1|S1|S1|S1|S1|S1|S1|S1",
+        "2027-03-02",
+        RecordCause::Field(6),
+    ),
+];
+
+#[test]
+fn refuses_routes_of_another_form_or_for_too_long(rt: HostRuntime) {
+    for (row, &(routes, last, cause)) in ANNUAL.iter().enumerate() {
+        let found = day_of_routes(&rt, rt.alloc(), routes, last).err();
+        same(&rt, row, &found, &bad(10, cause));
+    }
+}
+
+// The segments of the routes that an application asks for.
+type Routes = &'static [&'static [u32]];
+
+fn are_routes(rt: &impl Abort, row: usize, asked: Option<&SharedRoutes>, wanted: Routes) {
+    let Some(routes) = asked else {
+        same(rt, row, &0, &wanted.len());
+        return;
+    };
+    same(rt, row, &routes.len(), &wanted.len());
+    for i in 0..routes.len() {
+        same(rt, row, &Some(routes.route(i)), &wanted.get(i).copied());
+    }
+}
+
+fn ask(rt: &impl Abort, row: usize, orders: &[Order], wanted: Routes) {
+    match orders {
+        [
+            Order {
+                command: Command::Apply(application),
+                ..
+            },
+        ] => are_routes(rt, row, application.asked(), wanted),
+        _ => holds(rt, false, "one application"),
+    }
+}
+
+// A route field, the last of the days that begin with 2026-03-02, and the routes that it asks for.
+const ASKED: [(&str, &str, Routes); 6] = [
+    ("", "2030-03-02", &[]),
+    ("S2 S3", "2030-03-02", &[&[1, 2]]),
+    ("S1|S2 S3", "2027-03-02", &[&[0], &[1, 2]]),
+    ("S2 S3|S1", "2026-03-02", &[&[1, 2], &[0]]),
+    ("S1|S1", "2027-03-02", &[&[0], &[0]]),
+    (
+        "S1|S1|S2 S3|S1|S1|S1|S1|S2 S3",
+        "2027-03-02",
+        &[&[0], &[0], &[1, 2], &[0], &[0], &[0], &[0], &[1, 2]],
+    ),
+];
+
+#[test]
+fn takes_up_to_eight_routes(rt: HostRuntime) {
+    for (row, &(routes, last, wanted)) in ASKED.iter().enumerate() {
+        let file = day_of_routes(&rt, rt.alloc(), routes, last).expect(&rt, routes);
+        ask(&rt, row, file.commands(), wanted);
+        drop(file);
+    }
 }
 
 // A text, its record that is refused, and why.

@@ -5,14 +5,14 @@ use std::alloc::Global;
 use std::process::Abort;
 
 // A day of one application.
-const ONE_TRIP: &str = "permit-journal 1
+const ONE_TRIP: &str = "permit-journal 3
 1 snapshot = at 0
 1 submit truck 1 from 1 to 2 asked none days 2026-03-02 2026-03-06 seen 0 route 1 = issued 1 at 0 route 1
 end 2
 ";
 
 // What the files of `examples/` give.
-const BRIDGE: &str = "permit-journal 1
+const BRIDGE: &str = "permit-journal 3
 1 snapshot = at 0
 1 submit truck 1 from 1 to 2 asked 1 days 2026-03-02 2026-03-06 seen 0 route 1 = issued 1 at 0 route 1
 1 post span 1 rating 999 = posted 1 recalled 1
@@ -21,7 +21,7 @@ const BRIDGE: &str = "permit-journal 1
 end 5
 ";
 
-const NO_ROAD: &str = "permit-journal 1
+const NO_ROAD: &str = "permit-journal 3
 1 snapshot = at 0
 1 submit truck 1 from 1 to 2 asked none days 2026-03-02 2026-03-06 seen 0 cut 1,3 = noroad
 1 snapshot = at 0
@@ -31,7 +31,7 @@ const NO_ROAD: &str = "permit-journal 1
 end 6
 ";
 
-const RECALL: &str = "permit-journal 1
+const RECALL: &str = "permit-journal 3
 1 snapshot = at 0
 1 submit truck 1 from 1 to 2 asked 1 days 2026-03-02 2026-03-06 seen 0 route 1 = issued 1 at 0 route 1
 1 post segment 1 height 167 = posted 1 recalled 1
@@ -40,7 +40,7 @@ end 4
 ";
 
 // Every form that a line can have, and the greatest values. Whether a reply fits its call is not asked.
-const FORMS: &str = "permit-journal 1
+const FORMS: &str = "permit-journal 3
 65536 snapshot = at 4294967295
 1 submit truck 65536 from 65536 to 65536 asked - days 0001-01-01 9999-12-28 seen 4294967295 none = notneeded
 1 submit truck 1 from 1 to 2 asked 1,65536 days 2026-03-02 2026-03-06 seen 0 cut - = noroad
@@ -69,8 +69,8 @@ const FORMS: &str = "permit-journal 1
 end 25
 ";
 
-// Three axles over a posted weight of tridem groups, which only the second format has words for.
-const TRIDEM: &str = "permit-journal 2
+// Three axles over a posted weight of tridem groups, which the first format has no words for.
+const TRIDEM: &str = "permit-journal 3
 1 snapshot = at 0
 1 submit truck 1 from 1 to 2 asked none days 2026-03-02 2026-03-06 seen 0 route 1 = issued 1 at 0 route 1
 1 post segment 1 tridem 50999 = posted 1 recalled 1
@@ -79,20 +79,37 @@ const TRIDEM: &str = "permit-journal 2
 end 5
 ";
 
+// An annual permit on two routes, recalled by a segment of the second, which only the third format has words for.
+const ANNUAL: &str = "permit-journal 3
+1 snapshot = at 0
+1 submit truck 1 from 1 to 2 asked 1/2,3 days 2026-03-02 2027-03-02 seen 0 route 1/2,3 = issued 1 at 0 route 1/2,3
+1 post segment 3 closed 1 = posted 1 recalled 1
+end 3
+";
+
+// Eight routes, of which some are equal, and routes of no segment. Whether a route is a walk is not asked.
+const ROUTES: &str = "permit-journal 3
+1 held truck 1 from 1 to 2 asked 1/1/1/1/1/1/1/65536,2 days 2026-03-02 2026-03-06 = issued 1 at 0 route 1/2/3/4/5/6/7/8
+1 submit truck 1 from 1 to 2 asked -/1 days 2026-03-02 2026-03-06 seen 0 route -/- = issued 1 at 0 route 1/-
+end 2
+";
+
 // What is read is printed as the same text.
 fn reads_back(rt: &impl Abort, alloc: Global, text: &str) {
     prints_as(rt, alloc, text, text);
 }
 
 // Texts that are journals.
-const JOURNALS: [&str; 7] = [
-    "permit-journal 1\nend 0\n",
+const JOURNALS: [&str; 9] = [
+    "permit-journal 3\nend 0\n",
     ONE_TRIP,
     BRIDGE,
     NO_ROAD,
     RECALL,
     FORMS,
     TRIDEM,
+    ANNUAL,
+    ROUTES,
 ];
 
 #[test]
@@ -102,16 +119,22 @@ fn journals_are_read_and_printed_again(rt: HostRuntime) {
     }
 }
 
-// A text in the second format that needs only words of the first is read, and printed in the first.
+// The journal under an older first line gives the same history, which is printed in the third format.
+fn is_read_under(rt: &impl Abort, alloc: Global, first_line: &str, text: &str) {
+    let older = text
+        .replace(alloc, "permit-journal 3", first_line)
+        .expect(rt, "memory");
+    prints_as(rt, alloc, older.as_str(), text);
+}
+
 #[test]
-fn journals_are_written_in_the_oldest_format_that_serves(rt: HostRuntime) {
+fn journals_of_the_older_formats_give_the_same_histories(rt: HostRuntime) {
     let alloc = rt.alloc();
     for text in [ONE_TRIP, BRIDGE, NO_ROAD, RECALL, FORMS] {
-        let second = text
-            .replace(alloc, "permit-journal 1", "permit-journal 2")
-            .expect(&rt, "memory");
-        prints_as(&rt, alloc, second.as_str(), text);
+        is_read_under(&rt, alloc, "permit-journal 1", text);
+        is_read_under(&rt, alloc, "permit-journal 2", text);
     }
+    is_read_under(&rt, alloc, "permit-journal 2", TRIDEM);
 }
 
 // The history of the one text is printed as the other.
@@ -135,13 +158,14 @@ fn bad_row(alloc: Global, text: &str) -> Option<u64> {
 }
 
 // Texts that are none, and the row of the first line that no journal has there.
-const BAD_JOURNALS: [(&str, u64); 24] = [
+const BAD_JOURNALS: [(&str, u64); 30] = [
     // no first line, a part of it, another, and none but it
     ("", 1),
     ("\n", 1),
     ("permit-journal 1", 1),
-    ("permit-journal 3\nend 0\n", 1),
-    ("permit-journal 2", 1),
+    ("permit-journal 4\nend 0\n", 1),
+    ("permit-journal 3", 1),
+    ("permit-journal 3\n", 2),
     ("permit-journal 2\n", 2),
     // what the first format has no words for, posted or named
     (
@@ -154,6 +178,27 @@ const BAD_JOURNALS: [(&str, u64); 24] = [
     ),
     (
         "permit-journal 1\n1 snapshot = outdated 0 fails segment 1 tridem 2-4 weight 51000 over 50999\nend 1\n",
+        2,
+    ),
+    // what the first two have no words for: two routes that are asked for, found or issued
+    (
+        "permit-journal 2\n1 held truck 1 from 1 to 2 asked 1/1 days 2026-03-02 2026-03-06 = noroad\nend 1\n",
+        2,
+    ),
+    (
+        "permit-journal 2\n1 submit truck 1 from 1 to 2 asked 1/2 days 2026-03-02 2026-03-06 seen 0 none = noroad\nend 1\n",
+        2,
+    ),
+    (
+        "permit-journal 2\n1 submit truck 1 from 1 to 2 asked 1 days 2026-03-02 2026-03-06 seen 0 route 1/2 = noroad\nend 1\n",
+        2,
+    ),
+    (
+        "permit-journal 2\n1 snapshot = at 0\n1 snapshot = issued 1 at 0 route 1/2\nend 2\n",
+        3,
+    ),
+    (
+        "permit-journal 1\n1 snapshot = issued 1 at 0 route 1/2\nend 1\n",
         2,
     ),
     ("permit-journal 1\n", 2),
@@ -210,12 +255,12 @@ fn names_the_line_that_was_changed(rt: HostRuntime) {
 
 // A journal of this one line names it.
 fn is_bad_line(rt: &impl Abort, alloc: Global, line: &str) -> bool {
-    let text = format!(in alloc; "permit-journal 2\n{line}\nend 1\n").expect(rt, "memory");
+    let text = format!(in alloc; "permit-journal 3\n{line}\nend 1\n").expect(rt, "memory");
     bad_row(alloc, text.as_str()) == Some(2)
 }
 
 // Lines that no journal has, in whatever format.
-const FAULTS: [&str; 48] = [
+const FAULTS: [&str; 57] = [
     // indices and numbers out of range, with a sign, with a zero in front, or none
     "0 snapshot = at 0",
     "65537 snapshot = at 0",
@@ -254,6 +299,16 @@ const FAULTS: [&str; 48] = [
     "1 snapshot = issued 1 at 0 route 0",
     "1 snapshot = issued 1 at 0 route 65537",
     "1 snapshot = issued 1 at 0 route none",
+    // routes: a part that is none, another separator, nine of them
+    "1 snapshot = issued 1 at 0 route /",
+    "1 snapshot = issued 1 at 0 route 1/",
+    "1 snapshot = issued 1 at 0 route /1",
+    "1 snapshot = issued 1 at 0 route 1//2",
+    "1 snapshot = issued 1 at 0 route 1/0",
+    "1 snapshot = issued 1 at 0 route 1|2",
+    "1 snapshot = issued 1 at 0 route 1,/2",
+    "1 snapshot = issued 1 at 0 route 1/2/3/4/5/6/7/8/9",
+    "1 held truck 1 from 1 to 2 asked 1/none days 2026-03-02 2026-03-06 = noroad",
     // days
     "1 day 2026-02-30 = range",
     "1 day 2026-3-02 = range",

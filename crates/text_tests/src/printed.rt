@@ -9,10 +9,10 @@ use permit_book::Status;
 use permit_days::Day;
 use restriction_log::Change;
 use road_graph::Numbers;
-use shared_route::SharedRoute;
 use std::alloc::Global;
 use std::process::Abort;
 use trip_analysis::{Application, Proposal, What};
+use trip_routes::{Routes, SharedRoutes};
 
 // The day of a text, which writes one.
 fn day(rt: &impl Abort, text: &[u8]) -> Day {
@@ -28,13 +28,30 @@ fn one(rt: &impl Abort, alloc: Global, number: u32) -> Numbers {
     Numbers::of(list)
 }
 
+// The route along the segment of this number alone.
+fn along(rt: &impl Abort, alloc: Global, number: u32) -> SharedRoutes {
+    SharedRoutes::along(alloc, one(rt, alloc, number)).expect(rt, "memory")
+}
+
+// The routes along the first segment and along the second.
+fn two(rt: &impl Abort, alloc: Global) -> SharedRoutes {
+    let mut routes = Routes::one(one(rt, alloc, 0));
+    let second = one(rt, alloc, 1);
+    let taken = routes.push(&second);
+    drop(second);
+    if taken.is_err() {
+        rt.abort();
+    }
+    SharedRoutes::of(alloc, routes).expect(rt, "memory")
+}
+
 // An application for the first truck from the first node to the second, until the sixth of the month.
-fn trip(rt: &impl Abort, asked: Option<Numbers>, first: &[u8]) -> Application {
+fn trip(rt: &impl Abort, asked: Option<SharedRoutes>, first: &[u8]) -> Application {
     Application::of_fields(0, 0, 1, asked, day(rt, first), day(rt, b"2026-03-06"))
 }
 
 // The same with what was found for it at the opening.
-fn submit(rt: &impl Abort, asked: Option<Numbers>, first: &[u8], what: What) -> Call {
+fn submit(rt: &impl Abort, asked: Option<SharedRoutes>, first: &[u8], what: What) -> Call {
     Call::Submit {
         application: trip(rt, asked, first),
         proposal: Proposal { seen: 0, what },
@@ -87,7 +104,7 @@ fn is_line(rt: &impl Abort, alloc: Global, entry: (Call, Reply), line: &str) {
     }];
     let text = print(alloc, &history).expect(rt, "memory");
     drop(history);
-    let wanted = format!(in alloc; "permit-journal 1\n1 {line}\nend 1\n").expect(rt, "memory");
+    let wanted = format!(in alloc; "permit-journal 3\n1 {line}\nend 1\n").expect(rt, "memory");
     holds(rt, text.as_slice() == wanted.as_bytes(), line);
 }
 
@@ -106,14 +123,32 @@ fn writes_what_is_submitted(rt: HostRuntime) {
         &rt,
         alloc,
         (
-            submit(&rt, None, b"2026-03-02", What::Route(one(&rt, alloc, 0))),
+            submit(&rt, None, b"2026-03-02", What::Route(along(&rt, alloc, 0))),
             Reply::Issued {
                 number: 1,
                 version: 0,
-                route: SharedRoute::along(alloc, one(&rt, alloc, 0)).expect(&rt, "memory"),
+                routes: along(&rt, alloc, 0),
             },
         ),
         "submit truck 1 from 1 to 2 asked none days 2026-03-02 2026-03-06 seen 0 route 1 = issued 1 at 0 route 1",
+    );
+    is_line(
+        &rt,
+        alloc,
+        (
+            submit(
+                &rt,
+                Some(two(&rt, alloc)),
+                b"2026-03-02",
+                What::Route(two(&rt, alloc)),
+            ),
+            Reply::Issued {
+                number: 1,
+                version: 0,
+                routes: two(&rt, alloc),
+            },
+        ),
+        "submit truck 1 from 1 to 2 asked 1/2 days 2026-03-02 2026-03-06 seen 0 route 1/2 = issued 1 at 0 route 1/2",
     );
     is_line(
         &rt,
@@ -130,7 +165,7 @@ fn writes_what_is_submitted(rt: HostRuntime) {
         (
             submit(
                 &rt,
-                Some(one(&rt, alloc, 0)),
+                Some(along(&rt, alloc, 0)),
                 b"2026-03-02",
                 What::Fails { segment },
             ),

@@ -6,7 +6,7 @@ use axle_train::Axle;
 use csv::StringRecord;
 use record_text::{
     Cause, FileRefusal, Posted, Progress, RecordCause, RecordRefusal, has_only, number_in,
-    parse_axles, parse_day, parse_name, parse_number, parse_posted, parse_route, read_records,
+    parse_axles, parse_day, parse_name, parse_number, parse_posted, parse_routes, read_records,
 };
 use road_graph::What;
 use std::alloc::Global;
@@ -194,40 +194,33 @@ fn reads_axles(rt: HostRuntime) -> Result<(), Fail> {
     Ok(())
 }
 
-// How many names the route of a text has.
-fn names_of(alloc: Global, text: &str) -> Result<Option<usize>, Fail> {
-    Ok(match parse_route(alloc, text)? {
-        Some(route) => Some(route.as_slice().len()),
-        None => None,
-    })
-}
-
-fn read_routes(
-    rt: &impl Abort,
-    alloc: Global,
-    cases: &[(&str, Option<usize>)],
-) -> Result<(), Fail> {
-    for (text, names) in cases {
-        same(rt, text, &names_of(alloc, text)?, names);
-    }
-    Ok(())
-}
+// A text, and whether it has the form of a route field.
+const ROUTES: [(&str, bool); 18] = [
+    ("", true),
+    ("S1", true),
+    ("S1 S2 S1", true),
+    ("S1|S2 S3", true),
+    ("S1|S1", true),
+    ("A|B|C|D|E|F|G|H", true),
+    ("A|B|C|D|E|F|G|H|I", false),
+    (" ", false),
+    ("S1  S2", false),
+    ("S1 ", false),
+    ("S1,S2", false),
+    ("|", false),
+    ("||", false),
+    ("S1|", false),
+    ("|S1", false),
+    ("S1||S2", false),
+    ("S1 |S2", false),
+    ("S1| S2", false),
+];
 
 #[test]
-fn reads_routes(rt: HostRuntime) -> Result<(), Fail> {
-    read_routes(
-        &rt,
-        rt.alloc(),
-        &[
-            ("", Some(0)),
-            ("S1", Some(1)),
-            ("S1 S2 S1", Some(3)),
-            (" ", None),
-            ("S1  S2", None),
-            ("S1 ", None),
-            ("S1,S2", None),
-        ],
-    )
+fn reads_routes(rt: HostRuntime) {
+    for (text, is_field) in &ROUTES {
+        same(&rt, text, &parse_routes(text).is_some(), is_field);
+    }
 }
 
 // A text, and what it names as a limit, and as what a posting replaces.

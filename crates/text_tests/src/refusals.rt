@@ -11,7 +11,7 @@ fn writes(rt: &impl Abort, alloc: Global, row: u64, cause: Cause, line: &str, st
 }
 
 // A row, why its record is bad, and the line.
-const BAD: [(u64, RecordCause, &str); 13] = [
+const BAD: [(u64, RecordCause, &str); 14] = [
     (1, RecordCause::Fields, "refused: record 1 fields\n"),
     (2, RecordCause::Kind, "refused: record 2 kind\n"),
     (3, RecordCause::Order, "refused: record 3 order\n"),
@@ -28,6 +28,11 @@ const BAD: [(u64, RecordCause, &str); 13] = [
         "refused: record 10 broken-route\n",
     ),
     (11, RecordCause::DayOrder, "refused: record 11 day-order\n"),
+    (
+        10,
+        RecordCause::AnnualDays,
+        "refused: record 10 annual-days\n",
+    ),
     (4_194_305, RecordCause::End, "refused: record 4194305 end\n"),
 ];
 

@@ -1,0 +1,11 @@
+use Rattle.std.proofs.Common.{lit<, rules, tests}
+use Rattle.std.specs.Prelude.{is_some}
+use Rattle.std.proofs.lemmas.Iterator.Search.{all_from_yields_List}
+use Rattle.std.proofs.lemmas.Iterator.Splits.{YieldsList-from_str_split}
+use Rattle.record_text.specs.Fields.{route_of}
+use Rattle.record_text.proofs.route.are_routes.Goals as goal
+
+pub returns : goal.returns
+returns c =
+    all_from_yields_List (λ part. is_some (route_of part)) _ _ _ c.all.ensures.ran
+    (YieldsList-from_str_split 124 c.args.text.now (lit< tt) c.split.ensures.text c.split.ensures.has_more c.split.ensures.pattern) (λ x r q k. search (rules, tests))
