@@ -13,11 +13,11 @@ use Rattle.office_core.specs.Replies.{is_full}
 use Rattle.analyst_pool.specs.Unfolds.{AreFinished, AreOutdated, Concludes, Ends, IsAttempt, IsCalled, IsDecided, IsLook, Unfolds, answered, concluded, full, full_between, held, lacks}
 use Rattle.analyst_pool.proofs.Growing.{by_test}
 use Rattle.journal_reader.specs.Fits.{FitsChange, FitsDay, FitsNumber}
-use Rattle.journal_laws.proofs.Fitting.{IsAsked}
+use Rattle.journal_laws.proofs.Fitting.{IsAsked, IsRequest}
 
 -- a command whose numbers and days may stand in a journal
 abbrev pub FitsCommand : Command → Type 0
-FitsCommand (command.Apply a) = FitsDay a.first × FitsDay a.last
+FitsCommand (command.Apply a) = IsRequest a
 FitsCommand (command.Post change) = FitsChange change
 FitsCommand (command.Day day) = FitsDay day
 FitsCommand (command.Surrender number) = FitsNumber number
@@ -44,9 +44,9 @@ joined es front back e h k = All-same Asks es (front ++ back) e (All-append Asks
 called_asks : (caller : ℕ) (c : Call) (r : Reply) (es : List Entry) → IsAsked c → IsCalled caller c r es → AreAsked es
 called_asks caller c r es asked h = by_test (is_full r) (λ all. none es (h.full all)) (λ room. one es (entry caller c r) (h.answered room) asked)
 
-module _ (caller : ℕ) (a : Application) (days : FitsDay a.first × FitsDay a.last) where
+module _ (caller : ℕ) (a : Application) (request : IsRequest a) where
   attempt_asks : (r : Reply) (es : List Entry) → IsAttempt caller a r es → AreAsked es
-  attempt_asks r es (version, w, is) = two es _ _ is tt days
+  attempt_asks r es (version, w, is) = two es _ _ is tt request
 
   outdated_ask : (k : ℕ) (es : List Entry) → AreOutdated caller a k es → AreAsked es
   outdated_ask zero es is = none es is
@@ -63,7 +63,7 @@ module _ (caller : ℕ) (a : Application) (days : FitsDay a.first × FitsDay a.l
 
   ends_ask : (k : ℕ) (r : Reply) (es : List Entry) → Ends caller a k r es → AreAsked es
   ends_ask k r es (concluded few c) = concludes_asks r es c
-  ends_ask k r es (held eight c settled) = called_asks caller (call.Held a) r es days c
+  ends_ask k r es (held eight c settled) = called_asks caller (call.Held a) r es request c
 
   decided_asks : (es : List Entry) (r : Reply) → IsDecided caller a es r → AreAsked es
   decided_asks es r h = joined es h.front h.last h.whole (outdated_ask h.tries h.front h.outdated) (ends_ask h.tries r h.last h.ends)

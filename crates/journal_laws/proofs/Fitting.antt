@@ -1,7 +1,7 @@
 -- Each entry of a legal history may stand in a journal.
 use Rattle.std.proofs.Common.{◌≡◌, ◌+◌, ◌-◌, ◌^◌, ◌<◌, ◌≤◌, ◌∷◌, [], List, ℕ, suc, Bool, true, false, not, nat_eq, cond, All, length, refl, sym, subst, Option, Some, None, ◌⊎◌, inl, inr, arith, length-append, length-set}
 use Rattle.std.specs.Prelude.{slice_get}
-use Rattle.std.specs.List.{AllByRecursion, range_with_len}
+use Rattle.std.specs.List.{AllByRecursion, concat, range_with_len}
 use Rattle.std.proofs.lemmas.Bool.{cases_Bool, cases_lt}
 use Rattle.std.proofs.lemmas.List.{get_or_past, length-map, set_past}
 use Rattle.std.proofs.lemmas.List.Elements.{All-filter, All-head, All-map, All-nil, All-push, All-set, All-tail, All-weaker, All-from_recursion, recursion_from_All}
@@ -26,7 +26,9 @@ use Rattle.trip_analysis.specs.declared.finding.What.TheVariants as what
 use Rattle.trip_analysis.specs.Applications.{IsAskedWalk, Sound}
 use Rattle.trip_analysis.specs.Bases.{BaseLists, IsBase, no_truck, truck_of}
 use Rattle.trip_analysis.specs.Findings.{InRange, IsFinding, IsFoundBy, asked_finding, first_meeting, first_on, first_or, flags_of, is_passable, leaves, leaving, limit_for, needs_none, what_of}
-use Rattle.trip_analysis.proofs.Found.{found_in_range, pick, walk_there}
+use Rattle.trip_analysis.proofs.Found.{found_in_range, pick}
+use Rattle.trip_analysis.proofs.Joined.{all_routes, walks_there}
+use Rattle.trip_routes.specs.Routes.{AreRoutes}
 use Rattle.permit_book.specs.declared.permit.Mark.{Mark}
 use Rattle.permit_book.specs.declared.permit.Mark.TheVariants as mark
 use Rattle.permit_book.specs.declared.permit.Permit.{Permit}
@@ -37,6 +39,7 @@ use Rattle.office_words.specs.declared.entry.Call.TheVariants as call
 use Rattle.office_words.specs.declared.entry.Entry.{Entry}
 use Rattle.office_words.specs.declared.entry.Reply.{Reply}
 use Rattle.office_words.specs.declared.entry.Reply.TheVariants as reply
+use Rattle.day_text.specs.Bounds.{AreAskedRoutes}
 use Rattle.office_core.specs.Machine.{IsAnswer, IsGood, IsLegalFrom, Machine, MayAsk, after, after_entry, opened, posted_reply, recalled_with, reply_in, state_at, state_in, state_with, trip_for, version_of, with_day, with_permit, with_posting, with_surrender}
 use Rattle.office_core.specs.Recalls.{is_recalled, recalled_if}
 use Rattle.office_core.specs.Replies.{day_reply, early_reply, show_reply, shown, surrender_reply}
@@ -44,14 +47,20 @@ use Rattle.office_core.proofs.Cases.{apply_found, none_early}
 use Rattle.office_core.proofs.Founds.{of_base}
 use Rattle.office_core.proofs.Goods.{good_after}
 use Rattle.office_core.proofs.Lasting.{numbers_of}
-use Rattle.journal_reader.specs.Fits.{FitsAsked, FitsCall, FitsChange, FitsDay, FitsEntry, FitsIndex, FitsIndices, FitsLimit, FitsNumber, FitsNumbers, FitsReply, FitsStatus, FitsWhat}
+use Rattle.journal_reader.specs.Fits.{FitsApplication, FitsAsked, FitsCall, FitsChange, FitsDay, FitsEntry, FitsIndex, FitsIndices, FitsLimit, FitsNumber, FitsNumbers, FitsReply, FitsRoutes, FitsStatus, FitsWhat}
 use Rattle.journal_laws.proofs.Limiting.{limit_fits, state_ranged}
+
+-- what is known of an application by the record that it comes from
+pub record IsRequest (a : Application) : Type 0 where
+  pub first : FitsDay a.first
+  pub last : FitsDay a.last
+  pub asked : AreAskedRoutes a.asked
 
 -- what is known of a call by the command that it comes from
 abbrev pub IsAsked : Call → Type 0
 IsAsked call.Snapshot = Unit {0}
-IsAsked (call.Submit a p) = FitsDay a.first × FitsDay a.last
-IsAsked (call.Held a) = FitsDay a.first × FitsDay a.last
+IsAsked (call.Submit a p) = IsRequest a
+IsAsked (call.Held a) = IsRequest a
 IsAsked (call.Post change) = FitsChange change
 IsAsked (call.Day day) = FitsDay day
 IsAsked (call.Surrender number) = FitsNumber number
@@ -109,42 +118,54 @@ module _ (base : BaseLists) (roads : IsRoads base.roads) (fleet : IsBase base) (
   segment_fits : (s : ℕ) → IsThere s → FitsIndex s
   segment_fits s there = omega (arith, roads.few_segments)
 
-  application_fits : (a : Application) → Sound base a → FitsDay a.first × FitsDay a.last → FitsIndex a.truck × FitsIndex a.from × FitsIndex a.to × FitsAsked a.asked × FitsDay a.first × FitsDay a.last
-  application_fits a sound days = (omega (arith, sound.truck, fleet.few), omega (arith, sound.from, roads.few_nodes), omega (arith, sound.to, roads.few_nodes), asked_fits a.asked sound.asked, days.0, days.1)
+  routes_fit : (routes : List (List ℕ)) → AreRoutes routes → All IsThere (concat routes) → FitsRoutes routes
+  routes_fit routes are there =
+      (are, recursion_from_All FitsIndices routes (All-weaker (All IsThere) FitsIndices (λ route. indices (length base.roads.segments) route (omega (arith, roads.few_segments))) routes (all_routes IsThere routes there)))
+
+  application_fits : (a : Application) → Sound base a → IsRequest a → FitsApplication a
+  application_fits a sound request = (omega (arith, sound.truck, fleet.few), omega (arith, sound.from, roads.few_nodes), omega (arith, sound.to, roads.few_nodes), asked_fits a.asked sound.asked request.asked, request.first, request.last)
     where
-      asked_fits : (asked : Option (List ℕ)) → IsAskedWalk base.roads a.from a.to asked → FitsAsked asked
-      asked_fits None walk = tt
-      asked_fits (Some route) walk = indices (length base.roads.segments) route (omega (arith, roads.few_segments)) (All-from_recursion IsThere route (walk_there base.roads.segments every a.from a.to route walk))
+      asked_fits : (asked : Option (List (List ℕ))) → IsAskedWalk base.roads a.from a.to asked → AreAskedRoutes asked → FitsAsked asked
+      asked_fits None walks are = tt
+      asked_fits (Some routes) walks are = routes_fit routes are (walks_there base.roads.segments every a.from a.to routes walks)
 
-  -- the nodes of a cut are there
-  abbrev CutThere : What → Type 0
-  CutThere (what.Cut nodes) = (k v : ℕ) → slice_get nodes k ≡ Some v → v < length base.roads.nodes
-  CutThere other = Unit {0}
+  -- the routes that are found are one to eight, and the nodes of a cut are there
+  abbrev IsListed : What → Type 0
+  IsListed (what.Route routes) = AreRoutes routes
+  IsListed (what.Cut nodes) = (k v : ℕ) → slice_get nodes k ≡ Some v → v < length base.roads.nodes
+  IsListed other = Unit {0}
 
-  asked_cut : (f : Option Failing) (route : List ℕ) → CutThere (asked_finding f route)
-  asked_cut (Some f) route = tt
-  asked_cut None route = tt
+  asked_listed : (f : Option Failing) (routes : List (List ℕ)) → AreRoutes routes → IsListed (asked_finding f routes)
+  asked_listed (Some f) routes are = tt
+  asked_listed None routes are = are
 
-  searched_cut : (flags : List Bool) (a b : ℕ) (f : Shortest) → a < length base.roads.nodes → IsShortest base.roads flags a b f → CutThere (what_of f)
-  searched_cut flags a b (shortest.Route segments feet) there h = tt
-  searched_cut flags a b (shortest.Cut reached) there h = shortest_in_range base.roads flags a b (shortest.Cut reached) roads there h
-  searched_cut flags a b (shortest.NoRoad reached) there h = shortest_in_range base.roads flags a b (shortest.NoRoad reached) roads there h
+  searched_listed : (flags : List Bool) (a b : ℕ) (f : Shortest) → a < length base.roads.nodes → IsShortest base.roads flags a b f → IsListed (what_of f)
+  searched_listed flags a b (shortest.Route segments feet) there h = record { some = omega arith; few = omega arith }
+  searched_listed flags a b (shortest.Cut reached) there h = shortest_in_range base.roads flags a b (shortest.Cut reached) roads there h
+  searched_listed flags a b (shortest.NoRoad reached) there h = shortest_in_range base.roads flags a b (shortest.NoRoad reached) roads there h
 
-  found_cut : (state : InForce) (a : Application) (w : What) (asked : Option (List ℕ)) → Sound base a → IsFoundBy base state a asked w → CutThere w
-  found_cut state a w (Some route) sound h = subst CutThere (sym h) (asked_cut (first_on base state a.truck route) route)
-  found_cut state a w None sound (f, is, same) = subst CutThere (sym same) (searched_cut (flags_of base state a.truck) a.from a.to f sound.from is)
+  found_listed : (state : InForce) (a : Application) (w : What) (asked : Option (List (List ℕ))) → Sound base a → AreAskedRoutes asked → IsFoundBy base state a asked w → IsListed w
+  found_listed state a w (Some routes) sound are h = subst IsListed (sym h) (asked_listed (first_on base state a.truck (concat routes)) routes are)
+  found_listed state a w None sound are (f, is, same) = subst IsListed (sym same) (searched_listed (flags_of base state a.truck) a.from a.to f sound.from is)
 
-  cut_there : (state : InForce) (a : Application) (w : What) → Sound base a → IsFinding base state a w → CutThere w
-  cut_there state a w sound h = elim (cases_Bool (needs_none base a.truck)) [
-    | inl free ↦ subst CutThere (sym (h.legal free)) tt
-    | inr needed ↦ found_cut state a w a.asked sound (h.found needed)
-  ]
+  -- what is found for an application is in range and listed
+  abbrev IsKnown : What → Type 0
+  IsKnown w = InRange base w × IsListed w
 
-  what_fits : (w : What) → InRange base w → CutThere w → FitsWhat w
-  what_fits what.NotNeeded range cut = tt
-  what_fits (what.Route route) range cut = indices (length base.roads.segments) route (omega (arith, roads.few_segments)) range
-  what_fits (what.Fails s) range cut = segment_fits s range
-  what_fits (what.Cut nodes) range cut = from_places (length base.roads.nodes) nodes (omega (arith, roads.few_nodes)) cut
+  known : (state : InForce) (a : Application) (w : What) → Sound base a → AreAskedRoutes a.asked → IsFinding base state a w → IsKnown w
+  known state a w sound are h = (
+    found_in_range base state a w roads sound h,
+    elim (cases_Bool (needs_none base a.truck)) [
+      | inl free ↦ subst IsListed (sym (h.legal free)) tt
+      | inr needed ↦ found_listed state a w a.asked sound are (h.found needed)
+    ],
+  )
+
+  what_fits : (w : What) → IsKnown w → FitsWhat w
+  what_fits what.NotNeeded h = tt
+  what_fits (what.Route routes) h = routes_fit routes h.1 h.0
+  what_fits (what.Fails s) h = segment_fits s h.0
+  what_fits (what.Cut nodes) h = from_places (length base.roads.nodes) nodes (omega (arith, roads.few_nodes)) h.1
 
   leaving_there : (nodes : List ℕ) → All IsThere (leaving base.roads nodes)
   leaving_there nodes =
@@ -182,13 +203,14 @@ module _ (base : BaseLists) (roads : IsRoads base.roads) (fleet : IsBase base) (
             subst (λ (g : Failing). FitsLimit g.limit) same (limit_of_segment truck s l inside (All-head IsThere s rest all) is)
         by None is later e = later e
 
-    found_fits : (a : Application) (w : What) → a.truck < length base.fleet → (early_reply base m.day a ≡ None → InRange base w) → FitsReply (reply_in base m a w)
-    found_fits a w inside range = apply_found base (state_in base m) (version_of m) m.day (length m.permits + 1) a w FitsReply (λ _. h.day) (λ _. tt) (λ early needed.
-        let there = range (none_early base m.day a early needed) in record {
+    found_fits : (a : Application) (w : What) → a.truck < length base.fleet → (early_reply base m.day a ≡ None → IsKnown w) → FitsReply (reply_in base m a w)
+    found_fits a w inside is_known = apply_found base (state_in base m) (version_of m) m.day (length m.permits + 1) a w FitsReply (λ _. h.day) (λ _. tt) (λ early needed.
+        let both = is_known (none_early base m.day a early needed) in
+        let there = both.0 in record {
           not_needed = λ _. tt;
           no_road = λ _ _ _. tt;
-          now_fails = λ route f e is. (version_fits, first_fits a.truck route f inside (subst (InRange base) e there) is);
-          issued = λ route e meets. (omega (arith, h.permits), version_fits, indices (length base.roads.segments) route (omega (arith, roads.few_segments)) (subst (InRange base) e there));
+          now_fails = λ routes f e is. (version_fits, first_fits a.truck (concat routes) f inside (subst (InRange base) e there) is);
+          issued = λ routes e meets. (omega (arith, h.permits), version_fits, routes_fit routes (subst IsListed e both.1) (subst (InRange base) e there));
           refused = λ s l e is. (version_fits, limit_of_segment a.truck s l inside (subst (InRange base) e there) is);
           now_meets = λ s e is. (version_fits, segment_fits s (subst (InRange base) e there));
           cut_refused = λ nodes rest s l e out none is.
@@ -230,15 +252,15 @@ module _ (base : BaseLists) (roads : IsRoads base.roads) (fleet : IsBase base) (
     answered x r fits (inl e) = subst FitsReply (sym e) fits
     answered x r fits (inr e) = subst FitsReply (sym e.0) tt
 
-    held_fits : (caller : ℕ) (a : Application) (r : Reply) → Sound base a → IsAnswer base m caller (call.Held a) r → FitsReply r
-    held_fits caller a r sound (inl g) = subst FitsReply (sym g.2) (found_fits a g.0 sound.truck (λ early. found_in_range base (state_in base m) a g.0 roads sound (g.1 early)))
-    held_fits caller a r sound (inr e) = subst FitsReply (sym e.0) tt
+    held_fits : (caller : ℕ) (a : Application) (r : Reply) → IsRequest a → Sound base a → IsAnswer base m caller (call.Held a) r → FitsReply r
+    held_fits caller a r request sound (inl g) = subst FitsReply (sym g.2) (found_fits a g.0 sound.truck (λ early. known (state_in base m) a g.0 sound request.asked (g.1 early)))
+    held_fits caller a r request sound (inr e) = subst FitsReply (sym e.0) tt
 
     reply_fits : (caller : ℕ) (c : Call) (r : Reply) → IsAsked c → MayAsk base m c → IsAnswer base m caller c r → FitsReply r
     reply_fits caller call.Snapshot r asked may is = answered (reply.SnapshotAt (version_of m)) r version_fits is
     reply_fits caller (call.Submit a p) r asked may is =
-        answered (reply_in base m a p.what) r (found_fits a p.what may.sound.truck (λ _. found_in_range base (state_at base m p.seen) a p.what roads may.sound may.found)) is
-    reply_fits caller (call.Held a) r asked may is = held_fits caller a r may is
+        answered (reply_in base m a p.what) r (found_fits a p.what may.sound.truck (λ _. known (state_at base m p.seen) a p.what may.sound asked.asked may.found)) is
+    reply_fits caller (call.Held a) r asked may is = held_fits caller a r asked may is
     reply_fits caller (call.Post change) r asked may is =
         answered (posted_reply base m change) r (pick FitsReply (takes base.roads change) (reply.Posted (version_of m + 1) (recalled_with base m change)) reply.OutOfRange (λ _. (omega (arith, h.postings), recalled_fit change)) (λ _. tt)) is
     reply_fits caller (call.Day day) r asked may is =
@@ -251,7 +273,7 @@ module _ (base : BaseLists) (roads : IsRoads base.roads) (fleet : IsBase base) (
     call_fits (call.Submit a p) asked may = (
       application_fits a may.sound asked,
       omega (arith, may.seen, h.postings),
-      what_fits p.what (found_in_range base (state_at base m p.seen) a p.what roads may.sound may.found) (cut_there (state_at base m p.seen) a p.what may.sound may.found),
+      what_fits p.what (known (state_at base m p.seen) a p.what may.sound asked.asked may.found),
     )
     call_fits (call.Held a) asked may = application_fits a may asked
     call_fits (call.Post change) asked may = asked
@@ -262,8 +284,8 @@ module _ (base : BaseLists) (roads : IsRoads base.roads) (fleet : IsBase base) (
     -- and the machine after the answer fits
     issue_fits : (caller : ℕ) (a : Application) (seen : ℕ) (r : Reply) → FitsIndex caller → FitsIndex a.truck → FitsDay a.first × FitsDay a.last → FitsNumber seen → FitsReply r
         → FitsMachine (n + 1) (with_permit m caller a seen r)
-    issue_fits caller a seen (reply.Issued number version route) who truck days since fits =
-        let p = new_permit number (trip_for caller a route) version seen in record {
+    issue_fits caller a seen (reply.Issued number version routes) who truck days since fits =
+        let p = new_permit number (trip_for caller a routes) version seen in record {
           postings = omega (arith, h.postings);
           permits = omega (arith, length-append m.permits (p ∷ []), h.permits);
           day = h.day;
@@ -302,8 +324,8 @@ module _ (base : BaseLists) (roads : IsRoads base.roads) (fleet : IsBase base) (
 
     after_fits : (caller : ℕ) (c : Call) (r : Reply) → FitsIndex caller → MayAsk base m c → FitsCall c → FitsReply r → FitsMachine (n + 1) (after base m caller c r)
     after_fits caller call.Snapshot r who may asked fits = fits_longer n m h
-    after_fits caller (call.Submit a p) r who may asked fits = let (a_fits, seen, w) = asked in let (truck, from, to, route, first, last) = a_fits in issue_fits caller a p.seen r who truck (first, last) seen fits
-    after_fits caller (call.Held a) r who may asked fits = let (truck, from, to, route, first, last) = asked in issue_fits caller a (version_of m) r who truck (first, last) version_fits fits
+    after_fits caller (call.Submit a p) r who may asked fits = let (a_fits, seen, w) = asked in let (truck, from, to, routes, first, last) = a_fits in issue_fits caller a p.seen r who truck (first, last) seen fits
+    after_fits caller (call.Held a) r who may asked fits = let (truck, from, to, routes, first, last) = asked in issue_fits caller a (version_of m) r who truck (first, last) version_fits fits
     after_fits caller (call.Post change) r who may asked fits = post_fits change r fits
     after_fits caller (call.Day day) r who may asked fits = day_fits r fits
     after_fits caller (call.Surrender number) r who may asked fits = given_back_fits number r

@@ -12,7 +12,7 @@ use Rattle.restriction_log.specs.declared.change.Replaced.{Replaced}
 use Rattle.restriction_log.specs.declared.change.Replaced.TheVariants as replaced
 use Rattle.road_graph.specs.declared.values.What.{What}
 use Rattle.road_graph.specs.declared.values.What.TheVariants as what
-use Rattle.journal_text.specs.Formats.{format_for}
+use Rattle.journal_text.specs.declared.format.Format.TheVariants.{Three}
 use Rattle.restriction_log.specs.declared.change.Change.{Change}
 use Rattle.office_words.specs.declared.entry.Command.{Command}
 use Rattle.office_words.specs.declared.entry.Command.TheVariants as command
@@ -63,7 +63,7 @@ change_fits : (roads : Roads) (c : Change) → IsRoads roads → takes roads c �
 change_fits roads c = replaced_fits roads (replaced_by c)
 
 command_fits : (roads : Roads) (c : Command) → IsRoads roads → IsWithin roads c → FitsCommand c
-command_fits roads (command.Apply a) is h = h
+command_fits roads (command.Apply a) is (first, last, asked) = record { first = first; last = last; asked = asked }
 command_fits roads (command.Post change) is h = change_fits roads change is h
 command_fits roads (command.Day day) is h = h
 command_fits roads (command.Surrender number) is h = omega (arith, h)
@@ -106,5 +106,5 @@ journals_read_back bytes history answer h is = printed_is_read history answer (h
 pub journals_have_one_history : DayJournalsHaveOneHistory
 journals_have_one_history bytes other history second h k same =
     one_history history second (journal_of history)
-    (format_for history, (has_journal history (histories_fit bytes history h), refl))
-    (format_for second, (has_journal second (histories_fit other second k), same))
+    (Three, (has_journal history (histories_fit bytes history h), refl))
+    (Three, (has_journal second (histories_fit other second k), same))

@@ -1,12 +1,11 @@
 -- A text has one answer.
-use Rattle.std.proofs.Common.{◌≡◌, ◌≢◌, ◌∙◌, ◌<◌, ◌+◌, ◌∷◌, ◌++◌, [], ℕ, List, Bool, true, false, not, cond, refl, ap, sym, subst, arith, length, append_assoc, inl, inr, ◌⊎◌}
+use Rattle.std.proofs.Common.{◌≡◌, ◌≢◌, ◌∙◌, ◌<◌, ◌+◌, ◌∷◌, ◌++◌, [], ℕ, List, refl, ap, sym, subst, arith, length, append_assoc, inl, inr, ◌⊎◌}
 use Rattle.std.specs.Prelude.{Result, Ok, Err}
-use Rattle.std.specs.List.{AllByRecursion, list_any}
-use Rattle.std.proofs.lemmas.Bool.{cases_order, or_parts}
+use Rattle.std.specs.List.{AllByRecursion}
+use Rattle.std.proofs.lemmas.Bool.{cases_order}
 use Rattle.office_words.specs.declared.entry.Entry.{Entry}
 use Rattle.journal_text.specs.Journals.{ended, journal_of}
-use Rattle.journal_text.specs.declared.format.Format.TheVariants.{One, Two}
-use Rattle.journal_text.specs.Formats.{format_for, tells_tridem}
+use Rattle.journal_text.specs.declared.format.Format.TheVariants.{Three}
 use Rattle.journal_reader.specs.Fits.{FitsHistory}
 use Rattle.journal_reader.specs.Formats.{HasJournalIn}
 use Rattle.journal_reader.specs.Journals.{IsAnswer, IsBadLine, IsBadNext, IsJournalOf, IsLine, lines_text}
@@ -84,25 +83,12 @@ one_answer text (Err refusal.NoMemory) b x y p q = absurd (p refl)
 one_answer text (Ok h) (Err refusal.NoMemory) x y p q = absurd (q refl)
 one_answer text (Err (refusal.BadLine row)) (Err refusal.NoMemory) x y p q = absurd (q refl)
 
--- the format in which a history is written has words for each of its entries
-said_if_none : (history : List Entry) → FitsHistory history → list_any tells_tridem history ≡ false → HasJournalIn One history
-said_if_none [] fits none = tt
-said_if_none (e ∷ history) (fit, fits) none =
-    let parts = or_parts (tells_tridem e) (list_any tells_tridem history) none in
-    ((fit, ap not parts.0), said_if_none history fits parts.1)
-
-all_said : (history : List Entry) → FitsHistory history → HasJournalIn Two history
-all_said [] fits = tt
-all_said (e ∷ history) (fit, fits) = ((fit, refl), all_said history fits)
-
-pub has_journal : (history : List Entry) → FitsHistory history → HasJournalIn (format_for history) history
-has_journal history fits = by (list_any tells_tridem history) refl
-  where
-    by : (b : Bool) → list_any tells_tridem history ≡ b → HasJournalIn (cond b Two One) history
-    by true e = all_said history fits
-    by false e = said_if_none history fits e
+-- a history is written in a format that has words for each of its entries
+pub has_journal : (history : List Entry) → FitsHistory history → HasJournalIn Three history
+has_journal [] fits = tt
+has_journal (e ∷ history) (fit, fits) = ((fit, refl), has_journal history fits)
 
 pub printed_is_read : (history : List Entry) (answer : Result (List Entry) JournalRefusal) → FitsHistory history → IsAnswer (journal_of history) answer → (answer ≡ Ok history) ⊎ (answer ≡ Err refusal.NoMemory)
-printed_is_read history (Ok h) fits is = inl (ap Ok (one_history h history (journal_of history) is (format_for history, (has_journal history fits, refl))))
-printed_is_read history (Err (refusal.BadLine row)) fits is = absurd (none_is_bad history (journal_of history) row (format_for history, (has_journal history fits, refl)) is)
+printed_is_read history (Ok h) fits is = inl (ap Ok (one_history h history (journal_of history) is (Three, (has_journal history fits, refl))))
+printed_is_read history (Err (refusal.BadLine row)) fits is = absurd (none_is_bad history (journal_of history) row (Three, (has_journal history fits, refl)) is)
 printed_is_read history (Err refusal.NoMemory) fits is = inr refl

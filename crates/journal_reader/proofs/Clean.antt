@@ -13,7 +13,7 @@ use Rattle.std.proofs.lemmas.List.Elements.{All-cons}
 use Rattle.std.proofs.lemmas.List.Splits.{slice_split_at, slice_split_none}
 use Rattle.permit_days.specs.Days.{day_of as day_in_month, has_shape, is_day, month_of, year_of}
 use Rattle.permit_days.proofs.Shapes.{IsShaped, shaped}
-use Rattle.journal_text.specs.Words.{Words, index, joined, list_text, spaced}
+use Rattle.journal_text.specs.Words.{Words, index, joined, list_text, routes_text, spaced}
 use Rattle.journal_reader.specs.Words.{all_of, left, list_of, parts}
 use Rattle.journal_reader.specs.Fits.{FitsDay}
 
@@ -53,11 +53,11 @@ pub decimal_all : (P : ℕ → Bool) → Digits P → (n : ℕ) → list_all P (
 unfolding digits
 decimal_all P p n = onto_all P p 64 n [] refl
 
-pub joined_all : (P : ℕ → Bool) (sep : ℕ) (text : ℕ → List ℕ) → P sep ≡ true → ((x : ℕ) → list_all P (text x) ≡ true) → (xs : List ℕ) → list_all P (joined sep text xs) ≡ true
+pub joined_all : {A : Type 0} (P : ℕ → Bool) (sep : ℕ) (text : A → List ℕ) → P sep ≡ true → ((x : A) → list_all P (text x) ≡ true) → (xs : List A) → list_all P (joined sep text xs) ≡ true
 joined_all P sep text s t [] = refl
 joined_all P sep text s t (x ∷ xs) = all_append P (text x) _ (t x) (rest xs)
   where
-    rest : (ys : List ℕ) → list_all P (flat_map (λ y. sep ∷ text y) ys) ≡ true
+    rest : (ys : List _) → list_all P (flat_map (λ y. sep ∷ text y) ys) ≡ true
     rest [] = refl
     rest (y ∷ ys) = rw s (all_append P (text y) _ (t y) (rest ys))
 
@@ -87,6 +87,9 @@ word_numbers (x ∷ xs) = joined_all is_dark 44 decimal refl word_number (x ∷ 
 pub word_indices : (xs : List ℕ) → is_word (list_text index xs) ≡ true
 word_indices [] = refl
 word_indices (x ∷ xs) = joined_all is_dark 44 index refl word_index (x ∷ xs)
+
+pub word_routes : (routes : List (List ℕ)) → is_word (routes_text routes) ≡ true
+word_routes routes = joined_all is_dark 47 (list_text index) refl word_indices routes
 
 pub word_day : (day : List ℕ) → FitsDay day → is_word day ≡ true
 word_day day h = all_at is_dark day (λ i low. above (get_or day i 0) (byte i (omega (arith, low, s.long))))
@@ -160,11 +163,11 @@ left_spaced (w ∷ ws) h = by (is_word w) refl h (left_spaced ws)
         tail (v ∷ vs) k = slice_split_at (λ x. eqb x 32) w 32 (v ++ spaced vs) clean refl ∙ ap (λ t. w ∷ t) k
 
 -- the parts of items that are joined
-parts_joined : (sep : ℕ) (text : ℕ → List ℕ) → ((x : ℕ) → list_all (is_no sep) (text x) ≡ true) → (x : ℕ) (xs : List ℕ) → parts sep (joined sep text (x ∷ xs)) ≡ map text (x ∷ xs)
+pub parts_joined : {A : Type 0} (sep : ℕ) (text : A → List ℕ) → ((x : A) → list_all (is_no sep) (text x) ≡ true) → (x : A) (xs : List A) → parts sep (joined sep text (x ∷ xs)) ≡ map text (x ∷ xs)
 parts_joined sep text t x [] = ap (parts sep) (append_nil (text x)) ∙ slice_split_none (λ b. eqb b sep) (text x) (keeps sep (text x) (t x))
 parts_joined sep text t x (y ∷ ys) = slice_split_at (λ b. eqb b sep) (text x) sep _ (keeps sep (text x) (t x)) (same sep) ∙ ap (λ p. text x ∷ p) (parts_joined sep text t y ys)
 
-all_again : (read : List ℕ → Option ℕ) (text : ℕ → List ℕ) (Fits : ℕ → Type 0) → ((x : ℕ) → Fits x → read (text x) ≡ Some x) → (xs : List ℕ) → AllByRecursion Fits xs → all_of read (map text xs) ≡ Some xs
+pub all_again : {A : Type 0} (read : List ℕ → Option A) (text : A → List ℕ) (Fits : A → Type 0) → ((x : A) → Fits x → read (text x) ≡ Some x) → (xs : List A) → AllByRecursion Fits xs → all_of read (map text xs) ≡ Some xs
 all_again read text Fits r [] h = refl
 all_again read text Fits r (x ∷ xs) (h, hs) = rw (r x h, all_again read text Fits r xs hs) refl
 

@@ -8,3 +8,6 @@ pub mod Whole
 pub mod Rows
 pub mod Answers
 pub mod Changes
+pub mod Cutting
+pub mod OneCut
+pub mod Long

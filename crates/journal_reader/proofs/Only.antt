@@ -12,9 +12,9 @@ use Rattle.influence_line.specs.Fractions.{Ratio, ratio_text}
 use Rattle.permit_days.specs.Days.{day_of as day_in_month, has_shape, is_day, is_day_text, month_of, year_of}
 use Rattle.permit_days.specs.declared.refusal.DayRefusal.{DayRefusal}
 use Rattle.permit_days.specs.declared.refusal.DayRefusal.TheVariants.{Shape, NoSuchDay}
-use Rattle.journal_text.specs.Words.{Words, group, index, joined, list_text}
-use Rattle.journal_reader.specs.Words.{all_of, day_of, fraction_of, group_of, is_empty, list_of, number32, number_of, pair_of, parts, place_of, wide_of, word_at}
-use Rattle.journal_reader.specs.Fits.{FitsDay, FitsIndex, FitsIndices, FitsNumbers, FitsRatio}
+use Rattle.journal_text.specs.Words.{Words, group, index, joined, list_text, routes_text}
+use Rattle.journal_reader.specs.Words.{all_of, day_of, fraction_of, group_of, if_few, is_empty, list_of, number32, number_of, pair_of, parts, place_of, routes_of, wide_of, word_at}
+use Rattle.journal_reader.specs.Fits.{FitsDay, FitsIndex, FitsIndices, FitsNumbers, FitsRatio, FitsRoutes}
 use Rattle.journal_reader.proofs.Pieces.{split_some}
 use Rattle.journal_reader.proofs.Lowest.{lowest_from}
 
@@ -66,27 +66,27 @@ append_nil : (xs : List ℕ) → xs ++ [] ≡ xs
 append_nil [] = refl
 append_nil (x ∷ xs) = ap (λ t. x ∷ t) (append_nil xs)
 
-module _ (read : List ℕ → Option ℕ) (text : ℕ → List ℕ) (Fits : ℕ → Type 0) (only : (w : List ℕ) (x : ℕ) → read w ≡ Some x → (w ≡ text x) × Fits x) where
-  all_only : (ws : Words) (xs : List ℕ) → all_of read ws ≡ Some xs → (ws ≡ map text xs) × AllByRecursion Fits xs
-  all_only [] xs e = let is : [] ≡ xs = cc in subst (λ (ys : List ℕ). ([] ≡ map text ys) × AllByRecursion Fits ys) is (refl, tt)
+module _ {A : Type 0} (read : List ℕ → Option A) (text : A → List ℕ) (Fits : A → Type 0) (only : (w : List ℕ) (x : A) → read w ≡ Some x → (w ≡ text x) × Fits x) where
+  all_only : (ws : Words) (xs : List A) → all_of read ws ≡ Some xs → (ws ≡ map text xs) × AllByRecursion Fits xs
+  all_only [] xs e = let is : [] ≡ xs = cc in subst (λ (ys : List A). ([] ≡ map text ys) × AllByRecursion Fits ys) is (refl, tt)
   all_only (w ∷ ws) xs e =
       let (x, first, rest) = bind_some (read w) _ xs e in
       let (more, others, is) = map_some (all_of read ws) (λ ys. x ∷ ys) xs rest in
       let (spelled, fits) = only w x first in
       let (all_spelled, all_fit) = all_only ws more others in
-      subst (λ (ys : List ℕ). (w ∷ ws ≡ map text ys) × AllByRecursion Fits ys) is (cc, (fits, all_fit))
+      subst (λ (ys : List A). (w ∷ ws ≡ map text ys) × AllByRecursion Fits ys) is (cc, (fits, all_fit))
 
-  joined_is : (sep x : ℕ) (xs : List ℕ) → join_with_byte sep (map text (x ∷ xs)) ≡ joined sep text (x ∷ xs)
+  joined_is : (sep : ℕ) (x : A) (xs : List A) → join_with_byte sep (map text (x ∷ xs)) ≡ joined sep text (x ∷ xs)
   joined_is sep x [] = simp append_nil
   joined_is sep x (y ∷ xs) = ap (λ t. text x ++ (sep ∷ t)) (joined_is sep y xs)
 
-  parts_only : (sep : ℕ) (word : List ℕ) (xs : List ℕ) → all_of read (parts sep word) ≡ Some xs → (word ≡ joined sep text xs) × AllByRecursion Fits xs × (0 < length xs)
+  parts_only : (sep : ℕ) (word : List ℕ) (xs : List A) → all_of read (parts sep word) ≡ Some xs → (word ≡ joined sep text xs) × AllByRecursion Fits xs × (0 < length xs)
   parts_only sep word xs e =
       let (spelled, fits) = all_only (parts sep word) xs e in
       let whole : word ≡ join_with_byte sep (map text xs) = sym (join_with_byte-slice_split sep word) ∙ ap (join_with_byte sep) spelled in
       by xs spelled whole fits
     where
-      by : (ys : List ℕ) → parts sep word ≡ map text ys → word ≡ join_with_byte sep (map text ys) → AllByRecursion Fits ys → (word ≡ joined sep text ys) × AllByRecursion Fits ys × (0 < length ys)
+      by : (ys : List A) → parts sep word ≡ map text ys → word ≡ join_with_byte sep (map text ys) → AllByRecursion Fits ys → (word ≡ joined sep text ys) × AllByRecursion Fits ys × (0 < length ys)
       by [] s w f = absurd (no_parts sep word s)
       by (y ∷ ys) s w f = (w ∙ joined_is sep y ys, f, omega arith)
 
@@ -107,6 +107,14 @@ numbers_only word xs e = list_only number32 decimal (λ n. n < 2 ^ 32) (number_o
 
 pub indices_only : (word xs : List ℕ) → list_of place_of word ≡ Some xs → (word ≡ list_text index xs) × FitsIndices xs
 indices_only word xs e = list_only place_of index (λ i. i < 65536) place_only word xs e
+
+pub routes_only : (word : List ℕ) (routes : List (List ℕ)) → routes_of word ≡ Some routes → (word ≡ routes_text routes) × FitsRoutes routes
+unfolding routes_of
+routes_only word routes e =
+    let (all, read, rest) = bind_some (all_of (list_of place_of) (parts 47 word)) if_few routes e in
+    let (passed, is) = if_some (leb (length all) 8) all routes rest in
+    let (spelled, fits, some) = parts_only (list_of place_of) (list_text index) FitsIndices indices_only 47 word all read in
+    subst (λ (r : List (List ℕ)). (word ≡ routes_text r) × FitsRoutes r) is (spelled, (record { some = omega (arith, some); few = leb_true (length all) 8 passed }, fits))
 
 -- two parts
 pub pair_only : {A B : Type 0} (sep : ℕ) (one : List ℕ → Option A) (two : List ℕ → Option B) (word : List ℕ) (p : A × B) → pair_of sep one two word ≡ Some p
@@ -166,6 +174,9 @@ numbers_found word found e = found_so _ found _ (numbers_only word) e
 
 pub indices_found : (word : List ℕ) (found : Option (List ℕ)) → found ≡ list_of place_of word → IfSome found (λ xs. (word ≡ list_text index xs) × FitsIndices xs)
 indices_found word found e = found_so _ found _ (indices_only word) e
+
+pub routes_found : (word : List ℕ) (found : Option (List (List ℕ))) → found ≡ routes_of word → IfSome found (λ routes. (word ≡ routes_text routes) × FitsRoutes routes)
+routes_found word found e = found_so _ found _ (routes_only word) e
 
 pub fraction_found : (word : List ℕ) (found : Option Ratio) → found ≡ fraction_of word → IfSome found (λ f. (word ≡ ratio_text f) × FitsRatio f)
 fraction_found word found e = found_so _ found _ (fraction_only word) e

@@ -8,7 +8,7 @@ use Rattle.std.proofs.lemmas.Bool.{cases_eq, eqb-true}
 use Rattle.std.proofs.lemmas.Bool.Decides.{nat_tests}
 use Rattle.office_words.specs.declared.entry.Entry.{Entry}
 use Rattle.journal_text.specs.declared.format.Format.{Format}
-use Rattle.journal_text.specs.declared.format.Format.TheVariants.{One, Two}
+use Rattle.journal_text.specs.declared.format.Format.TheVariants.{One, Two, Three}
 use Rattle.journal_text.specs.Journals.{end_line, ended, first_line, journal_in, line_of}
 use Rattle.journal_reader.specs.Formats.{FitsIn, HasJournalIn, if_said}
 use Rattle.journal_reader.specs.Readers.{entry_in}
@@ -188,6 +188,7 @@ one_more_fits f h e new fits fit last = subst (λ (x : List Entry). HasJournalIn
 first_long : (f : Format) → length (ended (first_line f)) ≡ 17
 first_long One = refl
 first_long Two = refl
+first_long Three = refl
 
 -- there are more bytes than lines
 pub few_lines : (f : Format) (h : List Entry) (text rest : List ℕ) → text ≡ front_of f h ++ rest → length h + length rest + 17 ≤ length text

@@ -1,5 +1,5 @@
 -- What is spelled so is read, and holds no space and no line feed.
-use Rattle.std.proofs.Common.{◌≡◌, ◌∙◌, ◌<◌, ◌≤◌, ◌+◌, ◌^◌, ◌∷◌, ◌++◌, [], ℕ, List, Option, Some, None, Bool, true, false, cond, eqb, ltb, leb, refl, ap, sym, arith}
+use Rattle.std.proofs.Common.{◌≡◌, ◌∙◌, ◌<◌, ◌≤◌, ◌+◌, ◌^◌, ◌∷◌, ◌++◌, [], ℕ, List, Option, Some, None, Bool, true, false, cond, eqb, ltb, leb, refl, ap, sym, arith, length}
 use Rattle.std.specs.Prelude.{codes, ◌&&◌, not, option_map, Ok, Err}
 use Rattle.std.specs.Result.{result_ok}
 use Rattle.std.specs.Fmt.{decimal, digits}
@@ -35,14 +35,14 @@ use Rattle.office_words.specs.declared.entry.Cause.TheVariants as cause
 use Rattle.office_words.specs.declared.entry.Reply.{Reply}
 use Rattle.office_words.specs.declared.entry.Reply.TheVariants as reply
 use Rattle.office_words.specs.declared.entry.Entry.{Entry}
-use Rattle.journal_text.specs.Words.{Words, group, index, list_text, spaced}
+use Rattle.journal_text.specs.Words.{Words, group, index, list_text, routes_text, spaced}
 use Rattle.journal_text.specs.Entries.{application_words, asked_words, call_words, cause_words, change_words, days_words, limit_words, replaced_words, reply_words, standing_words, status_words, what_words}
 use Rattle.journal_text.specs.Journals.{line_of}
-use Rattle.journal_reader.specs.Words.{day_at, day_of, fraction_of, group_of, list_of, number32, number_at, number_of, pair_of, parts, place_at, place_of, wide_of}
-use Rattle.journal_reader.specs.Fits.{FitsApplication, FitsAsked, FitsCall, FitsCause, FitsChange, FitsDay, FitsEntry, FitsIndex, FitsIndices, FitsLimit, FitsNumber, FitsNumbers, FitsRatio, FitsReply, FitsStatus, FitsWhat}
-use Rattle.journal_reader.specs.Readers.{application_at, asked_at, bare_reply, call_at, cause_at, change_at, days_at, effect_at, entry_of, entry_words, fraction_at, group_limit, held_at, issued_at, limit_at, list_at, named_number, named_place, numbers_at, outdated_at, over_limit, places_at, plain_call, plain_reply, posted_at, refused_at, reply_at, segment_change, shown_at, span_change, span_limit, standing_at, status_at, submit_at, tridem_limit, trip_at, what_at, whose_at}
+use Rattle.journal_reader.specs.Words.{day_at, day_of, fraction_of, group_of, list_of, number32, number_at, number_of, pair_of, parts, place_at, place_of, routes_of, wide_of}
+use Rattle.journal_reader.specs.Fits.{FitsApplication, FitsAsked, FitsCall, FitsCause, FitsChange, FitsDay, FitsEntry, FitsIndex, FitsIndices, FitsLimit, FitsNumber, FitsNumbers, FitsRatio, FitsReply, FitsRoutes, FitsStatus, FitsWhat}
+use Rattle.journal_reader.specs.Readers.{application_at, asked_at, bare_reply, call_at, cause_at, change_at, days_at, effect_at, entry_of, entry_words, fraction_at, group_limit, held_at, issued_at, limit_at, list_at, named_number, named_place, named_routes, numbers_at, outdated_at, over_limit, plain_call, plain_reply, posted_at, refused_at, reply_at, routes_at, segment_change, shown_at, span_change, span_limit, standing_at, status_at, submit_at, tridem_limit, trip_at, what_at, whose_at}
 use Rattle.journal_reader.proofs.Lowest.{lowest_test}
-use Rattle.journal_reader.proofs.Clean.{all_append, all_words, is_dark, is_no, is_word, keeps, left_spaced, list_again, no_digit, word_day, word_index, word_indices, word_number, word_numbers}
+use Rattle.journal_reader.proofs.Clean.{all_again, all_append, all_words, is_dark, is_no, is_word, joined_all, keeps, left_spaced, list_again, no_digit, parts_joined, word_day, word_index, word_indices, word_number, word_numbers, word_routes}
 
 -- single words
 lt_true : (a b : ℕ) → a < b → ltb a b ≡ true
@@ -89,15 +89,25 @@ place_dash : place_of (codes "-") ≡ None
 unfolding place_of number_of digits
 place_dash = refl
 
-none_is_no_list : list_of place_of (codes "none") ≡ None
-unfolding list_of place_of number_of digits
-none_is_no_list = refl
+none_is_no_route : routes_of (codes "none") ≡ None
+unfolding routes_of list_of place_of number_of digits
+none_is_no_route = refl
 
 numbers_again : (xs : List ℕ) → FitsNumbers xs → list_of number32 (list_text decimal xs) ≡ Some xs
 numbers_again xs h = list_again number32 decimal FitsNumber (λ n k. number_again (2 ^ 32) n k (omega arith)) (λ n. no_digit 44 (omega arith) n) number_dash xs h
 
 indices_again : (xs : List ℕ) → FitsIndices xs → list_of place_of (list_text index xs) ≡ Some xs
 indices_again xs h = list_again place_of index FitsIndex place_again (λ i. no_digit 44 (omega arith) (i + 1)) place_dash xs h
+
+no_slash : (xs : List ℕ) → list_all (is_no 47) (list_text index xs) ≡ true
+no_slash [] = refl
+no_slash (x ∷ xs) = joined_all (is_no 47) 44 index refl (λ i. no_digit 47 (omega arith) (i + 1)) (x ∷ xs)
+
+routes_again : (routes : List (List ℕ)) → FitsRoutes routes → routes_of (routes_text routes) ≡ Some routes
+unfolding routes_of
+routes_again [] (are, fits) = absurd (omega (arith, are.some))
+routes_again (route ∷ routes) (are, fits) =
+    rw (parts_joined 47 (list_text index) no_slash route routes, all_again (list_of place_of) (list_text index) FitsIndices indices_again (route ∷ routes) fits, le_true (length (route ∷ routes)) 8 are.few) refl
 
 pair_again : {A B : Type 0} (sep : ℕ) (one : List ℕ → Option A) (two : List ℕ → Option B) (a b : List ℕ) (x : A) (y : B) → list_all (is_no sep) a ≡ true → list_all (is_no sep) b ≡ true → one a ≡ Some x → two b ≡ Some y → pair_of sep one two (a ++ (sep ∷ b)) ≡ Some (x, y)
 unfolding pair_of
@@ -149,16 +159,16 @@ limit_again (limit.Tridem s i j w a) ws (h, hi, hj, hw, ha) = rw (place_at_again
 limit_again (limit.Moment s b f g r) ws (h, k, hf, hg, hr) = rw (place_at_again s, place_at_again b, effect_again (codes "moment") f g r ws hf hg hr) refl
 limit_again (limit.Shear s b f g r) ws (h, k, hf, hg, hr) = rw (place_at_again s, place_at_again b, effect_again (codes "shear") f g r ws hf hg hr) refl
 
-asked_again : (a : Option (List ℕ)) (ws : Words) → FitsAsked a → asked_at (asked_words a ws) ≡ Some (a, ws)
+asked_again : (a : Option (List (List ℕ))) (ws : Words) → FitsAsked a → asked_at (asked_words a ws) ≡ Some (a, ws)
 unfolding asked_at
 asked_again None ws h = refl
-asked_again (Some route) ws h = by (bytes_eq (list_text index route) (codes "none")) refl
+asked_again (Some routes) ws h = by (bytes_eq (routes_text routes) (codes "none")) refl
   where
-    by : (b : Bool) → bytes_eq (list_text index route) (codes "none") ≡ b → cond {A = Option (Option (List ℕ) × Words)} b (Some (None, ws)) (option_map (λ r. (Some r, ws)) (list_of place_of (list_text index route))) ≡ Some (Some route, ws)
-    by false e = rw (indices_again route h) refl
-    by true e = absurd (differ (sym (indices_again route h) ∙ (ap (list_of place_of) ((bytes_eq-Decides (list_text index route) (codes "none")).0 e) ∙ none_is_no_list)))
+    by : (b : Bool) → bytes_eq (routes_text routes) (codes "none") ≡ b → cond {A = Option (Option (List (List ℕ)) × Words)} b (Some (None, ws)) (option_map (λ r. (Some r, ws)) (routes_of (routes_text routes))) ≡ Some (Some routes, ws)
+    by false e = rw (routes_again routes h) refl
+    by true e = absurd (differ (sym (routes_again routes h) ∙ (ap routes_of ((bytes_eq-Decides (routes_text routes) (codes "none")).0 e) ∙ none_is_no_route)))
       where
-        differ : Some route ≡ None → ⊥
+        differ : Some routes ≡ None → ⊥
         differ q = cc
 
 days_again : (first last : List ℕ) (ws : Words) → FitsDay first → FitsDay last → days_at (days_words first last ws) ≡ Some ((first, last), ws)
@@ -170,9 +180,9 @@ unfolding application_at trip_at named_place
 application_again a ws (t, f, g, h, k, l) = rw (place_at_again a.truck, place_at_again a.from, place_at_again a.to, asked_again a.asked _ h, days_again a.first a.last _ k l) refl
 
 what_again : (w : What) (ws : Words) → FitsWhat w → what_at (what_words w ws) ≡ Some (w, ws)
-unfolding what_at list_at
+unfolding what_at list_at routes_at
 what_again what.NotNeeded ws h = refl
-what_again (what.Route xs) ws h = rw (indices_again xs h) refl
+what_again (what.Route routes) ws h = rw (routes_again routes h) refl
 what_again (what.Fails s) ws h = rw (place_at_again s) refl
 what_again (what.Cut xs) ws h = rw (indices_again xs h) refl
 
@@ -207,9 +217,9 @@ unfolding standing_at named_number
 standing_again v n s ws h k l = rw (number_at_again v, number_at_again n, status_again s ws l) refl
 
 reply_again : (r : Reply) (ws : Words) → FitsReply r → reply_at (reply_words r ws) ≡ Some (r, ws)
-unfolding reply_at issued_at posted_at plain_reply refused_at outdated_at shown_at bare_reply places_at numbers_at named_number
+unfolding reply_at issued_at posted_at plain_reply refused_at outdated_at shown_at bare_reply named_routes routes_at numbers_at named_number
 reply_again (reply.SnapshotAt v) ws h = rw (number_at_again v) refl
-reply_again (reply.Issued n v xs) ws (h, k, l) = rw (number_at_again n, number_at_again v, indices_again xs l) refl
+reply_again (reply.Issued n v routes) ws (h, k, l) = rw (number_at_again n, number_at_again v, routes_again routes l) refl
 reply_again (reply.Refused v l) ws (h, k) = rw (number_at_again v, limit_again l ws k) refl
 reply_again (reply.Outdated v c) ws (h, k) = rw (number_at_again v, cause_again c ws k) refl
 reply_again reply.NotNeeded ws h = refl
@@ -261,9 +271,9 @@ limit_clean (limit.Tridem s i j w a) ws = rw (word_index s, word_group i j, word
 limit_clean (limit.Moment s b f g r) ws = rw (word_index s, word_index b, word_ratio f, word_ratio g, word_number r) refl
 limit_clean (limit.Shear s b f g r) ws = rw (word_index s, word_index b, word_ratio f, word_ratio g, word_number r) refl
 
-asked_clean : (a : Option (List ℕ)) (ws : Words) → all_words (asked_words a ws) ≡ all_words ws
+asked_clean : (a : Option (List (List ℕ))) (ws : Words) → all_words (asked_words a ws) ≡ all_words ws
 asked_clean None ws = refl
-asked_clean (Some xs) ws = rw (word_indices xs) refl
+asked_clean (Some routes) ws = rw (word_routes routes) refl
 
 days_clean : (first last : List ℕ) (ws : Words) → FitsDay first → FitsDay last → all_words (days_words first last ws) ≡ all_words ws
 days_clean first last ws h k = rw (word_day first h, word_day last k) refl
@@ -273,7 +283,7 @@ application_clean a ws (t, f, g, h, k, l) = rw (word_index a.truck, word_index a
 
 what_clean : (w : What) (ws : Words) → all_words (what_words w ws) ≡ all_words ws
 what_clean what.NotNeeded ws = refl
-what_clean (what.Route xs) ws = rw (word_indices xs) refl
+what_clean (what.Route routes) ws = rw (word_routes routes) refl
 what_clean (what.Fails s) ws = rw (word_index s) refl
 what_clean (what.Cut xs) ws = rw (word_indices xs) refl
 
@@ -298,7 +308,7 @@ cause_clean (cause.NowMeets s) ws = rw (word_index s) refl
 
 reply_clean : (r : Reply) (ws : Words) → FitsReply r → all_words (reply_words r ws) ≡ all_words ws
 reply_clean (reply.SnapshotAt v) ws h = rw (word_number v) refl
-reply_clean (reply.Issued n v xs) ws h = rw (word_number n, word_number v, word_indices xs) refl
+reply_clean (reply.Issued n v routes) ws h = rw (word_number n, word_number v, word_routes routes) refl
 reply_clean (reply.Refused v l) ws h = rw (word_number v) (limit_clean l ws)
 reply_clean (reply.Outdated v c) ws h = rw (word_number v) (cause_clean c ws)
 reply_clean reply.NotNeeded ws h = refl

@@ -5,12 +5,13 @@ use Rattle.std.specs.Fmt.{digits}
 use Rattle.std.specs.List.{join_with_byte, list_all}
 use Rattle.std.proofs.lemmas.Bool.{true≢false}
 use Rattle.std.proofs.lemmas.Bool.Decides.{nat_tests}
+use Rattle.std.specs.Str.{bytes_eq}
 use Rattle.std.proofs.lemmas.Slice.Eq.{bytes_eq-Decides}
 use Rattle.std.proofs.lemmas.List.Splits.{join_with_byte-slice_split}
 use Rattle.office_words.specs.declared.entry.Entry.{Entry}
 use Rattle.journal_text.specs.Words.{Words, index, spaced}
 use Rattle.journal_text.specs.declared.format.Format.{Format}
-use Rattle.journal_text.specs.declared.format.Format.TheVariants.{One, Two}
+use Rattle.journal_text.specs.declared.format.Format.TheVariants.{One, Two, Three}
 use Rattle.journal_text.specs.Journals.{end_line, ended, first_line, journal_in, line_of}
 use Rattle.journal_reader.specs.Words.{number_of, parts, place_of}
 use Rattle.journal_reader.specs.Fits.{FitsEntry}
@@ -62,13 +63,22 @@ end_is_line n = line_from (end_line n) (no_digit 10 (omega arith) n)
 pub header_is_line : (f : Format) → IsLine (first_line f)
 header_is_line One = line_from (first_line One) refl
 header_is_line Two = line_from (first_line Two) refl
+header_is_line Three = line_from (first_line Three) refl
+
+other : (f g : Format) → bytes_eq (first_line f) (first_line g) ≡ false → first_line f ≢ first_line g
+other f g differ e = true≢false (sym ((bytes_eq-Decides (first_line f) (first_line g)).1 e) ∙ differ)
 
 -- the first line tells the format
 same_format : (f g : Format) → first_line f ≡ first_line g → f ≡ g
 same_format One One e = refl
-same_format One Two e = absurd (true≢false (sym ((bytes_eq-Decides (first_line One) (first_line Two)).1 e)))
-same_format Two One e = absurd (true≢false (sym ((bytes_eq-Decides (first_line Two) (first_line One)).1 e)))
+same_format One Two e = absurd (other One Two refl e)
+same_format One Three e = absurd (other One Three refl e)
+same_format Two One e = absurd (other Two One refl e)
 same_format Two Two e = refl
+same_format Two Three e = absurd (other Two Three refl e)
+same_format Three One e = absurd (other Three One refl e)
+same_format Three Two e = absurd (other Three Two refl e)
+same_format Three Three e = refl
 
 -- two texts that are equal have one first line
 pub first_lines : (a b x y : List ℕ) → IsLine a → IsLine b → ended a ++ x ≡ ended b ++ y → (a ≡ b) × (x ≡ y)

@@ -1,5 +1,5 @@
--- What may stand in a journal of any format: its indices are below 65536, its numbers below 2^32, its fractions in lowest terms below
--- 2^128, its days are days, and no reply says that the office is full.
+-- What may stand in a journal of any format: its indices are below 65536, its numbers below 2^32, its fractions in lowest terms
+-- below 2^128, its days are days, its routes are one to eight, and no reply says that the office is full.
 use Rattle.std.specs.Prelude.{◌≡◌, ℕ, ◌<◌, ◌^◌, List, Option, Some, None, true}
 use Rattle.std.specs.List.{AllByRecursion}
 use Rattle.influence_line.specs.Fractions.{IsLowest, Ratio}
@@ -10,6 +10,7 @@ use Rattle.restriction_log.specs.declared.change.Replaced.TheVariants as replace
 use Rattle.restriction_log.specs.Changes.{replaced_by}
 use Rattle.clearance_rules.specs.declared.limit.Limit.{Limit}
 use Rattle.clearance_rules.specs.declared.limit.Limit.TheVariants as limit
+use Rattle.trip_routes.specs.Routes.{AreRoutes}
 use Rattle.trip_analysis.specs.declared.application.Application.{Application}
 use Rattle.trip_analysis.specs.declared.finding.What.{What}
 use Rattle.trip_analysis.specs.declared.finding.What.TheVariants as what
@@ -34,6 +35,9 @@ FitsIndices xs = AllByRecursion FitsIndex xs
 
 abbrev pub FitsNumbers : List ℕ → Type 0
 FitsNumbers xs = AllByRecursion FitsNumber xs
+
+abbrev pub FitsRoutes : List (List ℕ) → Type 0
+FitsRoutes routes = AreRoutes routes × AllByRecursion FitsIndices routes
 
 abbrev pub FitsDay : List ℕ → Type 0
 FitsDay day = is_day_text day ≡ true
@@ -63,9 +67,9 @@ FitsLimit (limit.Moment segment span has design rating) =
 FitsLimit (limit.Shear segment span has design rating) =
     FitsIndex segment × FitsIndex span × FitsRatio has × FitsRatio design × FitsNumber rating
 
-abbrev pub FitsAsked : Option (List ℕ) → Type 0
+abbrev pub FitsAsked : Option (List (List ℕ)) → Type 0
 FitsAsked None = Unit {0}
-FitsAsked (Some route) = FitsIndices route
+FitsAsked (Some routes) = FitsRoutes routes
 
 abbrev pub FitsApplication : Application → Type 0
 FitsApplication a =
@@ -73,7 +77,7 @@ FitsApplication a =
 
 abbrev pub FitsWhat : What → Type 0
 FitsWhat what.NotNeeded = Unit {0}
-FitsWhat (what.Route route) = FitsIndices route
+FitsWhat (what.Route routes) = FitsRoutes routes
 FitsWhat (what.Fails segment) = FitsIndex segment
 FitsWhat (what.Cut nodes) = FitsIndices nodes
 
@@ -98,7 +102,7 @@ FitsCause (cause.NowMeets segment) = FitsIndex segment
 
 abbrev pub FitsReply : Reply → Type 0
 FitsReply (reply.SnapshotAt version) = FitsNumber version
-FitsReply (reply.Issued number version route) = FitsNumber number × FitsNumber version × FitsIndices route
+FitsReply (reply.Issued number version routes) = FitsNumber number × FitsNumber version × FitsRoutes routes
 FitsReply (reply.Refused version why) = FitsNumber version × FitsLimit why
 FitsReply (reply.Outdated version why) = FitsNumber version × FitsCause why
 FitsReply reply.NotNeeded = Unit {0}
@@ -120,6 +124,6 @@ FitsReply reply.NoMemory = Unit {0}
 abbrev pub FitsEntry : Entry → Type 0
 FitsEntry e = FitsIndex e.caller × FitsCall e.call × FitsReply e.reply
 
--- a history whose journal can be read, in the format in which it is written
+-- a history whose journal can be read, in the last format, in which it is written
 abbrev pub FitsHistory : List Entry → Type 0
 FitsHistory history = AllByRecursion FitsEntry history

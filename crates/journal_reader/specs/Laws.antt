@@ -1,5 +1,5 @@
 -- Laws of journals.
-use Rattle.std.specs.Prelude.{◌≡◌, ◌≢◌, ◌⊎◌, List, [], ◌++◌, ℕ, Result, Ok, Err}
+use Rattle.std.specs.Prelude.{◌≡◌, ◌≢◌, ◌≤◌, ◌*◌, ◌⊎◌, List, [], ◌++◌, ℕ, length, Result, Ok, Err}
 use Rattle.office_words.specs.declared.entry.Entry.{Entry}
 use Rattle.journal_text.specs.declared.format.Format.{Format}
 use Rattle.journal_text.specs.Journals.{journal_in, journal_of}
@@ -28,3 +28,7 @@ OneAnswer = (text : List ℕ) (a b : Result (List Entry) JournalRefusal)
 abbrev pub PrintedIsRead : Type 0
 PrintedIsRead = (history : List Entry) (answer : Result (List Entry) JournalRefusal)
     → FitsHistory history → IsAnswer (journal_of history) answer → (answer ≡ Ok history) ⊎ (answer ≡ Err NoMemory)
+
+-- a journal has at least five bytes for each entry
+abbrev pub JournalsAreLong : Type 0
+JournalsAreLong = (h : List Entry) (text : List ℕ) → IsJournalOf h text → 5 * length h ≤ length text

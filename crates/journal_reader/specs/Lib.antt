@@ -4,3 +4,4 @@ pub mod Formats
 pub mod Readers
 pub mod Journals
 pub mod Laws
+pub mod Cuts

@@ -25,12 +25,12 @@ use Rattle.office_words.specs.declared.entry.Cause.TheVariants as cause
 use Rattle.office_words.specs.declared.entry.Reply.{Reply}
 use Rattle.office_words.specs.declared.entry.Reply.TheVariants as reply
 use Rattle.office_words.specs.declared.entry.Entry.{Entry}
-use Rattle.journal_text.specs.Words.{Words, index, list_text}
+use Rattle.journal_text.specs.Words.{Words, index, list_text, routes_text}
 use Rattle.journal_text.specs.Entries.{call_words, days_words, limit_words, reply_words, shown_words, standing_words}
 use Rattle.journal_text.specs.declared.format.Format.{Format}
 use Rattle.journal_reader.specs.Formats.{if_said}
 use Rattle.journal_reader.specs.Fits.{FitsDay, FitsEntry, FitsIndex, FitsLimit, FitsNumber, FitsRatio, FitsStatus}
-use Rattle.journal_reader.specs.Words.{Spells, after_word, day_at, fraction_of, group_of, is_empty, list_of, number32, number_at, parts, place_at, place_of, word_at, ◌>>=◌}
+use Rattle.journal_reader.specs.Words.{Spells, after_word, day_at, fraction_of, group_of, is_empty, list_of, number32, number_at, parts, place_at, place_of, routes_of, word_at, ◌>>=◌}
 
 -- words that are read in one go
 abbrev pub trip_words : (ℕ × ℕ × ℕ) → Words → Words
@@ -66,6 +66,9 @@ FitsStanding s = FitsNumber s.0 × FitsNumber s.1 × FitsStatus s.2
 abbrev pub list_words : List ℕ → Words → Words
 list_words xs ws = list_text index xs ∷ ws
 
+abbrev pub lists_words : List (List ℕ) → Words → Words
+lists_words routes ws = routes_text routes ∷ ws
+
 -- the words of an entry's line
 abbrev pub entry_words : Entry → Words
 entry_words e = index e.caller ∷ call_words e.call (codes "=" ∷ reply_words e.reply [])
@@ -78,7 +81,7 @@ abbrev pub SpellsLimitOf : ℕ → List ℕ → Words → Option (Limit × Bor (
 SpellsLimitOf segment named before found =
     FitsIndex segment → Spells limit_words FitsLimit (codes "segment" ∷ index segment ∷ named ∷ before) found
 
--- a list of numbers or of indices behind this word
+-- a list of numbers behind this word
 unfoldable pub numbers_at : List ℕ → Words → Option (List ℕ × Words)
 numbers_at named ws = do
   rest ← after_word named ws
@@ -86,12 +89,17 @@ numbers_at named ws = do
   xs ← list_of number32 w.0
   Some (xs, w.1)
 
-unfoldable pub places_at : List ℕ → Words → Option (List ℕ × Words)
-places_at named ws = do
+-- routes that stand here, and behind this word
+unfoldable pub routes_at : Words → Option (List (List ℕ) × Words)
+routes_at ws = do
+  w ← word_at ws
+  routes ← routes_of w.0
+  Some (routes, w.1)
+
+unfoldable pub named_routes : List ℕ → Words → Option (List (List ℕ) × Words)
+named_routes named ws = do
   rest ← after_word named ws
-  w ← word_at rest
-  xs ← list_of place_of w.0
-  Some (xs, w.1)
+  routes_at rest
 
 -- a number or an index behind this word
 unfoldable pub named_number : List ℕ → Words → Option (ℕ × Words)
@@ -200,13 +208,13 @@ days_at ws = do
   last ← day_at first.1
   Some ((first.0, last.0), last.1)
 
--- the asked route, if one is asked for
-unfoldable pub asked_at : Words → Option (Option (List ℕ) × Words)
+-- the asked routes, if any are asked for
+unfoldable pub asked_at : Words → Option (Option (List (List ℕ)) × Words)
 asked_at ws = do
   rest ← after_word (codes "asked") ws
   w ← word_at rest
   if bytes_eq w.0 (codes "none") then Some (None, w.1)
-      else option_map (λ route. (Some route, w.1)) (list_of place_of w.0)
+      else option_map (λ routes. (Some routes, w.1)) (routes_of w.0)
 
 -- the truck, and the nodes where the trip begins and ends
 unfoldable pub trip_at : Words → Option ((ℕ × ℕ × ℕ) × Words)
@@ -234,7 +242,7 @@ unfoldable pub what_at : Words → Option (Found × Words)
 what_at ws = do
   kind ← word_at ws
   if bytes_eq kind.0 (codes "none") then Some (what.NotNeeded, kind.1)
-      else if bytes_eq kind.0 (codes "route") then option_map (λ x. (what.Route x.0, x.1)) (list_at kind.1)
+      else if bytes_eq kind.0 (codes "route") then option_map (λ x. (what.Route x.0, x.1)) (routes_at kind.1)
       else if bytes_eq kind.0 (codes "fails") then option_map (λ s. (what.Fails s.0, s.1)) (place_at kind.1)
       else if bytes_eq kind.0 (codes "cut") then option_map (λ x. (what.Cut x.0, x.1)) (list_at kind.1)
       else None
@@ -288,8 +296,8 @@ unfoldable pub issued_at : Words → Option (Reply × Words)
 issued_at ws = do
   number ← number_at ws
   version ← named_number (codes "at") number.1
-  route ← places_at (codes "route") version.1
-  Some (reply.Issued number.0 version.0 route.0, route.1)
+  routes ← named_routes (codes "route") version.1
+  Some (reply.Issued number.0 version.0 routes.0, routes.1)
 
 unfoldable pub posted_at : Words → Option (Reply × Words)
 posted_at ws = do

@@ -1,5 +1,5 @@
 -- What single words spell, and the words of what is left of a line.
-use Rattle.std.specs.Prelude.{◌≡◌, ℕ, zero, suc, ◌==◌, ◌+◌, ◌^◌, ◌-◌, ◌*◌, ◌%◌, ◌&&◌, nat_lt, nat_le, if◌then◌else◌, Bool, true, false, List, [], ◌∷◌, Option, Some, None, option_map, option_and_then, IfSome, codes}
+use Rattle.std.specs.Prelude.{◌≡◌, ℕ, zero, suc, ◌==◌, ◌+◌, ◌^◌, ◌-◌, ◌*◌, ◌%◌, ◌&&◌, nat_lt, nat_le, if◌then◌else◌, Bool, true, false, List, [], ◌∷◌, length, Option, Some, None, option_map, option_and_then, IfSome, codes}
 use Rattle.std.specs.Borrow.{Bor}
 use Rattle.std.specs.Result.{result_ok}
 use Rattle.std.specs.List.{slice_split}
@@ -87,6 +87,14 @@ all_of read (w ∷ ws) = read w >>= λ x. option_map (λ xs. x ∷ xs) (all_of r
 -- a list: a dash where it is empty, and else what stands between its commas
 unfoldable pub list_of : (List ℕ → Option ℕ) → List ℕ → Option (List ℕ)
 list_of read word = if bytes_eq word (codes "-") then Some [] else all_of read (parts 44 word)
+
+-- routes, if there are eight at most
+abbrev pub if_few : List (List ℕ) → Option (List (List ℕ))
+if_few routes = if nat_le (length routes) 8 then Some routes else None
+
+-- routes: lists of indices between slashes
+unfoldable pub routes_of : List ℕ → Option (List (List ℕ))
+routes_of word = all_of (list_of place_of) (parts 47 word) >>= if_few
 
 -- two parts with a separator between them
 unfoldable pub pair_of : {A B : Type 0} → ℕ → (List ℕ → Option A) → (List ℕ → Option B) → List ℕ → Option (A × B)

@@ -2,20 +2,21 @@
 
 ghost use Rattle.std.specs.Prelude.{◌≡◌, ◌<◌, ◌∷◌, IfSome, IfOk, codes, ℕ, List, Option, length, option_map};
 ghost use Rattle.std.specs.Fmt.{decimal};
-ghost use Rattle.journal_text.specs.Words.{index, list_text, places_words};
+ghost use Rattle.journal_text.specs.Words.{index, list_text, routes_text};
 ghost use Rattle.journal_text.specs.Entries.{application_words, asked_words, call_words, change_words, days_words, what_words};
-ghost use Rattle.journal_reader.specs.Words.{Spells, left, list_of, place_of, seen, word_at};
+ghost use Rattle.journal_reader.specs.Words.{Spells, left, list_of, place_of, routes_of, seen, word_at};
 ghost use Rattle.journal_reader.specs.Fits.{FitsApplication, FitsAsked, FitsCall, FitsChange, FitsDay, FitsIndex, FitsIndices, FitsNumber, FitsWhat};
 ghost use Rattle.journal_reader.specs.Readers.{FitsTerm, FitsTrip, term_words, trip_words, application_at, asked_at, call_at, change_at, days_at, held_at, plain_call, submit_at, trip_at, what_at};
 
 use crate::limits::change;
-use crate::numbers::{indices_in, is};
-use crate::words::{after, day, named_number, named_place, number, place, places, word};
+use crate::numbers::is;
+use crate::routes::routes_in;
+use crate::words::{after, day, named_number, named_place, number, place, places, routes, word};
 use office_words::Call;
 use permit_days::Day;
-use road_graph::Numbers;
 use std::alloc::{AllocError, Global};
 use trip_analysis::{Application, Proposal, What};
+use trip_routes::SharedRoutes;
 
 /// A call.
 #[tactic(auto, unfolding(crate::specs::Readers::call_at))]
@@ -148,9 +149,9 @@ fn trip(rest: &[u8]) -> Option<((u32, u32, u32), &[u8])>
     Some(((truck, from, to), rest))
 }
 
-// The asked route, if one is asked for.
+// The asked routes, if any are asked for.
 #[tactic(auto, unfolding(crate::specs::Readers::asked_at))]
-fn asked(alloc: Global, rest: &[u8]) -> Result<Option<(Option<Numbers>, &[u8])>, AllocError>
+fn asked(alloc: Global, rest: &[u8]) -> Result<Option<(Option<SharedRoutes>, &[u8])>, AllocError>
     ensures exact { IfOk result (λ found. seen found ≡ asked_at (left rest.now)) }
     ensures sound { IfOk result (Spells asked_words FitsAsked (left rest.now)) }
 {
@@ -163,10 +164,10 @@ fn asked(alloc: Global, rest: &[u8]) -> Result<Option<(Option<Numbers>, &[u8])>,
     if is(text, "none") {
         return Ok(Some((None, rest)));
     }
-    let Some(route) = indices_in(alloc, text)? else {
+    let Some(routes) = routes_in(alloc, text)? else {
         return Ok(None);
     };
-    Ok(Some((Some(route), rest)))
+    Ok(Some((Some(routes), rest)))
 }
 
 // What was found.
@@ -182,10 +183,10 @@ fn what(alloc: Global, rest: &[u8]) -> Result<Option<(What, &[u8])>, AllocError>
         return Ok(Some((What::NotNeeded, rest)));
     }
     if is(kind, "route") {
-        let Some((route, rest)) = places(alloc, rest)? else {
+        let Some((routes, rest)) = routes(alloc, rest)? else {
             return Ok(None);
         };
-        return Ok(Some((What::Route(route), rest)));
+        return Ok(Some((What::Route(routes), rest)));
     }
     if is(kind, "fails") {
         let Some((segment, rest)) = place(rest) else {

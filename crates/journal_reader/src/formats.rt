@@ -16,6 +16,8 @@ pub fn format_of(line: &[u8]) -> Option<Format>
         Some(Format::One)
     } else if is(line, Format::Two.first_line()) {
         Some(Format::Two)
+    } else if is(line, Format::Three.first_line()) {
+        Some(Format::Three)
     } else {
         None
     }

@@ -1,6 +1,7 @@
 // Laws of journals.
 
-ghost use Rattle.journal_reader.specs.Laws.{NoProperPrefix, OneAnswer, OneHistory, PrintedIsRead};
+ghost use Rattle.journal_reader.specs.Cuts.{CutsAreOne};
+ghost use Rattle.journal_reader.specs.Laws.{JournalsAreLong, NoProperPrefix, OneAnswer, OneHistory, PrintedIsRead};
 
 /// A text is the journal of one history at most, so that histories which differ have texts which differ.
 pub fn histories_differ_in_text()
@@ -20,4 +21,14 @@ pub fn answers_are_one()
 /// The journal of a history is read as that history, unless there is no memory.
 pub fn what_is_printed_is_read()
     ensures { PrintedIsRead }
+{}
+
+/// A journal has at least five bytes for each entry.
+pub fn journals_are_long()
+    ensures { JournalsAreLong }
+{}
+
+/// Bytes are cut behind the end of a journal in one way alone.
+pub fn cuts_are_one()
+    ensures { CutsAreOne }
 {}

@@ -2,19 +2,18 @@
 
 ghost use Rattle.std.specs.Prelude.{◌≡◌, ◌<◌, ◌∷◌, IfSome, IfOk, codes, ℕ, List, length, option_map};
 ghost use Rattle.std.specs.Fmt.{decimal};
-ghost use Rattle.journal_text.specs.Words.{index, numbers_words, places_words};
+ghost use Rattle.journal_text.specs.Words.{index, numbers_words, routes_words};
 ghost use Rattle.journal_text.specs.Entries.{cause_words, days_words, limit_words, reply_words, shown_words, standing_words, status_words};
 ghost use Rattle.journal_reader.specs.Words.{Spells, left, seen, word_at};
-ghost use Rattle.journal_reader.specs.Fits.{FitsCause, FitsDay, FitsIndex, FitsIndices, FitsLimit, FitsNumber, FitsNumbers, FitsReply, FitsStatus};
+ghost use Rattle.journal_reader.specs.Fits.{FitsCause, FitsDay, FitsIndex, FitsLimit, FitsNumber, FitsNumbers, FitsReply, FitsRoutes, FitsStatus};
 ghost use Rattle.journal_reader.specs.Readers.{FitsStanding, FitsWhose, stands_words, whose_words, bare_reply, issued_at, outdated_at, plain_reply, posted_at, refused_at, reply_at, shown_at, standing_at, status_at, whose_at};
 
 use crate::calls::days;
 use crate::limits::{cause, limit};
 use crate::numbers::is;
-use crate::words::{day, named_number, named_numbers, named_place, named_places, number, word};
+use crate::words::{day, named_number, named_numbers, named_place, named_routes, number, word};
 use office_words::Reply;
 use permit_book::Status;
-use shared_route::SharedRoute;
 use std::alloc::{AllocError, Global};
 
 /// A reply.
@@ -47,15 +46,14 @@ fn issued(alloc: Global, rest: &[u8]) -> Result<Option<(Reply, &[u8])>, AllocErr
     let Some((version, rest)) = named_number(rest, "at") else {
         return Ok(None);
     };
-    let Some((segments, rest)) = named_places(alloc, rest, "route")? else {
+    let Some((routes, rest)) = named_routes(alloc, rest, "route")? else {
         return Ok(None);
     };
-    let route = SharedRoute::along(alloc, segments)?;
     Ok(Some((
         Reply::Issued {
             number,
             version,
-            route,
+            routes,
         },
         rest,
     )))

@@ -3,17 +3,19 @@
 ghost use Rattle.std.specs.Prelude.{◌≡◌, ◌≢◌, ◌<◌, ◌^◌, ◌∷◌, IfSome, IfOk, IsTrue, codes, ℕ, List, get_or, length, option_map};
 ghost use Rattle.std.specs.Fmt.{decimal};
 ghost use Rattle.influence_line.specs.Fractions.{ratio_text};
-ghost use Rattle.journal_text.specs.Words.{index, list_text, numbers_words, places_words};
-ghost use Rattle.journal_reader.specs.Words.{Spells, parts_seen, after_word, day_at, left, list_of, number32, number_at, number_of, place_at, place_of, seen, word_at};
-ghost use Rattle.journal_reader.specs.Fits.{FitsDay, FitsIndex, FitsIndices, FitsNumber, FitsNumbers, FitsRatio};
-ghost use Rattle.journal_reader.specs.Readers.{list_words, fraction_at, list_at, named_number, named_place, numbers_at, places_at};
+ghost use Rattle.journal_text.specs.Words.{index, list_text, numbers_words, routes_words};
+ghost use Rattle.journal_reader.specs.Words.{Spells, parts_seen, after_word, day_at, left, list_of, number32, number_at, number_of, place_at, place_of, routes_of, seen, word_at};
+ghost use Rattle.journal_reader.specs.Fits.{FitsDay, FitsIndex, FitsIndices, FitsNumber, FitsNumbers, FitsRatio, FitsRoutes};
+ghost use Rattle.journal_reader.specs.Readers.{fraction_at, list_at, list_words, lists_words, named_number, named_place, named_routes, numbers_at, routes_at};
 
 use crate::numbers::{day_in, fraction_in, indices_in, is, next_number, next_place, numbers_in};
 use crate::parts::part;
+use crate::routes::routes_in;
 use influence_line::Frac;
 use permit_days::Day;
 use road_graph::Numbers;
 use std::alloc::{AllocError, Global};
+use trip_routes::SharedRoutes;
 
 /// The next word.
 pub fn word(rest: &[u8]) -> Option<(&[u8], &[u8])>
@@ -113,20 +115,35 @@ pub fn places(alloc: Global, rest: &[u8]) -> Result<Option<(Numbers, &[u8])>, Al
     Ok(Some((list, rest)))
 }
 
-/// A word and a list of indices.
-#[tactic(auto, unfolding(crate::specs::Readers::places_at, crate::specs::Readers::list_at))]
-pub fn named_places<'a>(
+/// Routes.
+#[tactic(auto, unfolding(crate::specs::Readers::routes_at))]
+pub fn routes(alloc: Global, rest: &[u8]) -> Result<Option<(SharedRoutes, &[u8])>, AllocError>
+    ensures exact { IfOk result (λ found. seen found ≡ routes_at (left rest.now)) }
+    ensures sound { IfOk result (Spells lists_words FitsRoutes (left rest.now)) }
+{
+    let Some((text, rest)) = word(rest) else {
+        return Ok(None);
+    };
+    let Some(routes) = routes_in(alloc, text)? else {
+        return Ok(None);
+    };
+    Ok(Some((routes, rest)))
+}
+
+/// A word and routes.
+#[tactic(auto, unfolding(crate::specs::Readers::named_routes))]
+pub fn named_routes<'a>(
     alloc: Global,
     rest: &'a [u8],
     text: &str,
-) -> Result<Option<(Numbers, &'a [u8])>, AllocError>
-    ensures exact { IfOk result (λ found. seen found ≡ places_at text.now (left rest.now)) }
-    ensures sound { IfOk result (Spells (places_words text.now) FitsIndices (left rest.now)) }
+) -> Result<Option<(SharedRoutes, &'a [u8])>, AllocError>
+    ensures exact { IfOk result (λ found. seen found ≡ named_routes text.now (left rest.now)) }
+    ensures sound { IfOk result (Spells (routes_words text.now) FitsRoutes (left rest.now)) }
 {
     let Some(rest) = after(rest, text) else {
         return Ok(None);
     };
-    places(alloc, rest)
+    routes(alloc, rest)
 }
 
 /// A word and a list of numbers.

@@ -1,7 +1,8 @@
 -- A text that grows word by word.
-use Rattle.std.proofs.Common.{◌≡◌, ◌∙◌, ◌∷◌, ◌++◌, [], ℕ, List, sym, refl, ap, append_assoc}
+use Rattle.std.proofs.Common.{◌≡◌, ◌∙◌, ◌<◌, ◌≤◌, ◌+◌, ◌∷◌, ◌++◌, [], ℕ, zero, suc, List, sym, refl, ap, arith, append_assoc, length, get_or, take}
 use Rattle.std.specs.Prelude.{codes, flat_map}
-use Rattle.journal_text.specs.Words.{Adds, Words, list_text, spaced}
+use Rattle.std.proofs.lemmas.List.{take_more}
+use Rattle.journal_text.specs.Words.{Adds, Words, index, joined, list_text, routes_text, spaced}
 
 pub adds_word : (old middle new text : List ℕ) → middle ≡ old ++ (32 ∷ []) → new ≡ middle ++ text → Adds old new (λ ws. text ∷ ws)
 unfolding spaced
@@ -26,6 +27,32 @@ list_adds text old a new numbers rest first is one more = rw (more, one, is) (si
 append_nil : (xs : List ℕ) → xs ++ [] ≡ xs
 append_nil [] = refl
 append_nil (x ∷ xs) = ap (λ t. x ∷ t) (append_nil xs)
+
+-- one text more behind a separator
+joined_last : {A : Type 0} (sep : ℕ) (text : A → List ℕ) (x : A) (xs : List A) (last : A) → joined sep text ((x ∷ xs) ++ (last ∷ [])) ≡ joined sep text (x ∷ xs) ++ (sep ∷ text last)
+joined_last sep text x xs last = ap (λ t. text x ++ t) (rest xs) ∙ sym (append_assoc (text x) (flat_map (λ y. sep ∷ text y) xs) (sep ∷ text last))
+  where
+    rest : (ys : List _) → flat_map (λ y. sep ∷ text y) (ys ++ (last ∷ [])) ≡ flat_map (λ y. sep ∷ text y) ys ++ (sep ∷ text last)
+    rest [] = append_nil (sep ∷ text last)
+    rest (y ∷ ys) = ap (λ t. (sep ∷ text y) ++ t) (rest ys) ∙ sym (append_assoc (sep ∷ text y) (flat_map (λ z. sep ∷ text z) ys) (sep ∷ text last))
+
+joined_more : {A : Type 0} (sep : ℕ) (text : A → List ℕ) (xs : List A) (i : ℕ) (d : A) → 1 ≤ i → i < length xs → joined sep text (take (i + 1) xs) ≡ joined sep text (take i xs) ++ (sep ∷ text (get_or xs i d))
+joined_more sep text [] i d some low = absurd (omega arith)
+joined_more sep text (x ∷ xs) zero d some low = absurd (omega arith)
+joined_more sep text (x ∷ xs) (suc i) d some low = ap (joined sep text) (take_more (x ∷ xs) (suc i) d low) ∙ joined_last sep text x (take i xs) (get_or xs i d)
+
+-- the first route, behind a space
+pub first_route : (old new : List ℕ) (routes : List (List ℕ)) → 0 < length routes → new ≡ old ++ (32 ∷ list_text index (get_or routes 0 [])) → new ≡ old ++ (32 ∷ routes_text (take 1 routes))
+first_route old new [] some h = absurd (omega arith)
+first_route old new (route ∷ routes) some h = h ∙ ap (λ t. old ++ (32 ∷ t)) (sym (append_nil (list_text index route)))
+
+-- one route more, behind a slash
+pub one_more_route : (old out new : List ℕ) (routes : List (List ℕ)) (i : ℕ) → 1 ≤ i → i < length routes → out ≡ old ++ (32 ∷ routes_text (take i routes)) → new ≡ out ++ (47 ∷ list_text index (get_or routes i []))
+    → new ≡ old ++ (32 ∷ routes_text (take (i + 1) routes))
+one_more_route old out new routes i some low h k =
+    k ∙ (ap (λ t. t ++ (47 ∷ list_text index (get_or routes i []))) h
+    ∙ (append_assoc old (32 ∷ routes_text (take i routes)) (47 ∷ list_text index (get_or routes i []))
+    ∙ ap (λ t. old ++ (32 ∷ t)) (sym (joined_more 47 (list_text index) routes i [] some low))))
 
 -- a line, from its first word on
 pub line_adds : (old a b c d new caller : List ℕ) (call reply : Words → Words) → a ≡ old ++ caller → Adds a b call → Adds b c (λ ws. codes "=" ∷ ws) → Adds c d reply → new ≡ d ++ (10 ∷ []) → new ≡ old ++ ((caller ++ spaced (call (codes "=" ∷ reply []))) ++ (10 ∷ []))

@@ -20,7 +20,7 @@ use Rattle.office_words.specs.declared.entry.Cause.{Cause}
 use Rattle.office_words.specs.declared.entry.Cause.TheVariants as cause
 use Rattle.office_words.specs.declared.entry.Reply.{Reply}
 use Rattle.office_words.specs.declared.entry.Reply.TheVariants as reply
-use Rattle.journal_text.specs.Words.{Words, group, index, numbers_words, places_words}
+use Rattle.journal_text.specs.Words.{Words, group, index, numbers_words, places_words, routes_words}
 
 -- a value of a segment
 abbrev pub posted_words : ℕ → List ℕ → ℕ → Words → Words
@@ -73,10 +73,10 @@ IsOfSpan (limit.Moment segment span has design rating) = Unit {0}
 IsOfSpan (limit.Shear segment span has design rating) = Unit {0}
 IsOfSpan _ = ⊥
 
--- the asked route, if one is asked for
-abbrev pub asked_words : Option (List ℕ) → Words → Words
+-- the asked routes, if any are asked for
+abbrev pub asked_words : Option (List (List ℕ)) → Words → Words
 asked_words None ws = codes "asked" ∷ codes "none" ∷ ws
-asked_words (Some route) ws = places_words (codes "asked") route ws
+asked_words (Some routes) ws = routes_words (codes "asked") routes ws
 
 abbrev pub days_words : List ℕ → List ℕ → Words → Words
 days_words first last ws = codes "days" ∷ first ∷ last ∷ ws
@@ -88,7 +88,7 @@ application_words a ws =
 -- what was found
 abbrev pub what_words : What → Words → Words
 what_words what.NotNeeded ws = codes "none" ∷ ws
-what_words (what.Route route) ws = places_words (codes "route") route ws
+what_words (what.Route routes) ws = routes_words (codes "route") routes ws
 what_words (what.Fails segment) ws = codes "fails" ∷ index segment ∷ ws
 what_words (what.Cut nodes) ws = places_words (codes "cut") nodes ws
 
@@ -123,8 +123,8 @@ standing_words version seen now ws = codes "at" ∷ decimal version ∷ codes "s
 -- that an office is full is the reply of no entry, and has no words
 abbrev pub reply_words : Reply → Words → Words
 reply_words (reply.SnapshotAt version) ws = codes "at" ∷ decimal version ∷ ws
-reply_words (reply.Issued number version route) ws =
-    codes "issued" ∷ decimal number ∷ codes "at" ∷ decimal version ∷ places_words (codes "route") route ws
+reply_words (reply.Issued number version routes) ws =
+    codes "issued" ∷ decimal number ∷ codes "at" ∷ decimal version ∷ routes_words (codes "route") routes ws
 reply_words (reply.Refused version why) ws = codes "refused" ∷ decimal version ∷ limit_words why ws
 reply_words (reply.Outdated version why) ws = codes "outdated" ∷ decimal version ∷ cause_words why ws
 reply_words reply.NotNeeded ws = codes "notneeded" ∷ ws

@@ -1,10 +1,11 @@
--- The formats of journals: which entries each has words for, and in which a history is written.
-use Rattle.std.specs.Prelude.{Bool, true, false, not, List, if◌then◌else◌}
-use Rattle.std.specs.List.{list_any}
+-- The formats of journals: which entries each has words for.
+use Rattle.std.specs.Prelude.{Bool, true, false, not, ℕ, List, length, nat_lt, Option, Some, None, if◌then◌else◌}
 use Rattle.restriction_log.specs.declared.change.Change.{Change}
 use Rattle.restriction_log.specs.declared.change.Change.TheVariants as change
 use Rattle.clearance_rules.specs.declared.limit.Limit.{Limit}
 use Rattle.clearance_rules.specs.declared.limit.Limit.TheVariants as limit
+use Rattle.trip_analysis.specs.declared.finding.What.{What}
+use Rattle.trip_analysis.specs.declared.finding.What.TheVariants as what
 use Rattle.office_words.specs.declared.entry.Call.{Call}
 use Rattle.office_words.specs.declared.entry.Call.TheVariants as call
 use Rattle.office_words.specs.declared.entry.Cause.{Cause}
@@ -13,7 +14,7 @@ use Rattle.office_words.specs.declared.entry.Reply.{Reply}
 use Rattle.office_words.specs.declared.entry.Reply.TheVariants as reply
 use Rattle.office_words.specs.declared.entry.Entry.{Entry}
 use Rattle.journal_text.specs.declared.format.Format.{Format}
-use Rattle.journal_text.specs.declared.format.Format.TheVariants.{One, Two}
+use Rattle.journal_text.specs.declared.format.Format.TheVariants.{One, Two, Three}
 
 -- whether a limit on tridem groups is posted, or is the one that fails
 abbrev pub posts_tridem : Change → Bool
@@ -40,12 +41,34 @@ answers_tridem other = false
 abbrev pub tells_tridem : Entry → Bool
 tells_tridem e = if asks_tridem e.call then true else answers_tridem e.reply
 
--- whether the format has words for the entry
-abbrev pub is_said_in : Format → Entry → Bool
-is_said_in One e = not (tells_tridem e)
-is_said_in Two e = true
+-- more than one route
+abbrev pub are_several : List (List ℕ) → Bool
+are_several routes = nat_lt 1 (length routes)
 
--- the oldest format that has words for a whole history: whoever reads the first format reads on, as long as no limit on tridem
--- groups is posted
-abbrev pub format_for : List Entry → Format
-format_for history = if list_any tells_tridem history then Two else One
+-- whether more than one route is asked for, is found or is issued
+abbrev pub seeks_several : Option (List (List ℕ)) → Bool
+seeks_several None = false
+seeks_several (Some routes) = are_several routes
+
+abbrev pub finds_several : What → Bool
+finds_several (what.Route routes) = are_several routes
+finds_several other = false
+
+abbrev pub asks_several : Call → Bool
+asks_several (call.Submit a p) = if seeks_several a.asked then true else finds_several p.what
+asks_several (call.Held a) = seeks_several a.asked
+asks_several other = false
+
+abbrev pub answers_several : Reply → Bool
+answers_several (reply.Issued number version routes) = are_several routes
+answers_several other = false
+
+abbrev pub tells_several : Entry → Bool
+tells_several e = if asks_several e.call then true else answers_several e.reply
+
+-- whether the format has words for the entry: until the third there is one route wherever routes stand, and the first has no
+-- limit on tridem groups
+abbrev pub is_said_in : Format → Entry → Bool
+is_said_in One e = if tells_several e then false else not (tells_tridem e)
+is_said_in Two e = not (tells_several e)
+is_said_in Three e = true

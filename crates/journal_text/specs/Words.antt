@@ -19,7 +19,7 @@ abbrev pub index : ℕ → List ℕ
 index i = decimal (i + 1)
 
 -- texts with a separator between them
-abbrev pub joined : ℕ → (ℕ → List ℕ) → List ℕ → List ℕ
+abbrev pub joined : {A : Type 0} → ℕ → (A → List ℕ) → List A → List ℕ
 joined sep text [] = []
 joined sep text (x ∷ xs) = text x ++ flat_map (λ y. sep ∷ text y) xs
 
@@ -27,6 +27,10 @@ joined sep text (x ∷ xs) = text x ++ flat_map (λ y. sep ∷ text y) xs
 abbrev pub list_text : (ℕ → List ℕ) → List ℕ → List ℕ
 list_text text [] = codes "-"
 list_text text (x ∷ xs) = joined 44 text (x ∷ xs)
+
+-- routes: their lists with slashes between them
+abbrev pub routes_text : List (List ℕ) → List ℕ
+routes_text routes = joined 47 (list_text index) routes
 
 -- a group of axles, by its first and last
 abbrev pub group : ℕ → ℕ → List ℕ
@@ -38,3 +42,7 @@ numbers_words named numbers ws = named ∷ list_text decimal numbers ∷ ws
 
 abbrev pub places_words : List ℕ → List ℕ → Words → Words
 places_words named places ws = named ∷ list_text index places ∷ ws
+
+-- a word, and routes behind it
+abbrev pub routes_words : List ℕ → List (List ℕ) → Words → Words
+routes_words named routes ws = named ∷ routes_text routes ∷ ws

@@ -6,7 +6,7 @@ ghost use Rattle.journal_text.specs.Words.{Adds, index, list_text};
 ghost use Rattle.journal_text.specs.Entries.{application_words, asked_words, call_words, days_words, what_words};
 
 use crate::limits::change;
-use crate::words::{day, named, named_place, named_places, word};
+use crate::words::{day, named, named_place, named_places, named_routes, word};
 use office_words::Call;
 use permit_days::Day;
 use std::alloc::AllocError;
@@ -79,7 +79,7 @@ fn application(out: &mut Vec<u8>, application: &Application) -> Result<(), Alloc
     Ok(())
 }
 
-// The asked route, if one is asked for.
+// The asked routes, if any are asked for.
 fn asked(out: &mut Vec<u8>, application: &Application) -> Result<(), AllocError>
     ensures { OnOk result (Adds out.old.items out.new.items (asked_words application.now.asked)) }
 {
@@ -89,8 +89,8 @@ fn asked(out: &mut Vec<u8>, application: &Application) -> Result<(), AllocError>
             word(out, "none")?;
             Ok(())
         }
-        Some(list) => {
-            named_places(out, "asked", list.as_slice())?;
+        Some(routes) => {
+            named_routes(out, "asked", routes)?;
             Ok(())
         }
     }
@@ -105,8 +105,8 @@ fn what(out: &mut Vec<u8>, what: &What) -> Result<(), AllocError>
             word(out, "none")?;
             Ok(())
         }
-        What::Route(route) => {
-            named_places(out, "route", route.as_slice())?;
+        What::Route(routes) => {
+            named_routes(out, "route", routes)?;
             Ok(())
         }
         What::Fails { segment } => {

@@ -1,21 +1,24 @@
-// The formats of journals: which entries each has words for, and in which a history is written.
+// The formats of journals: which entries each has words for.
 
 ghost use Rattle.std.specs.Prelude.{◌≡◌};
-ghost use Rattle.std.specs.List.{list_any};
-ghost use Rattle.journal_text.specs.Formats.{answers_tridem, asks_tridem, format_for, is_by_tridem, is_of_tridem, is_said_in, posts_tridem, tells_tridem};
+ghost use Rattle.journal_text.specs.Formats.{answers_several, answers_tridem, are_several, asks_several, asks_tridem, finds_several, is_by_tridem, is_of_tridem, is_said_in, posts_tridem, seeks_several, tells_several, tells_tridem};
 ghost use Rattle.journal_text.specs.Journals.{first_line};
 
 use clearance_rules::Limit;
 use office_words::{Call, Cause, Entry, Reply};
 use restriction_log::Change;
+use trip_analysis::{Application, What};
+use trip_routes::SharedRoutes;
 
 /// A format of journals, by its number. A line has one text in all of them, and they differ in what may stand in them.
 #[derive(Clone, Copy, PartialEq, Eq)]
 pub enum Format {
-    /// No limit on tridem groups is posted, and none is named.
+    /// No limit on tridem groups is posted or named, and wherever routes stand there is one.
     One,
-    /// All that an office answers.
+    /// Wherever routes stand there is one.
     Two,
+    /// All that an office answers.
+    Three,
 }
 
 impl Format {
@@ -26,6 +29,7 @@ impl Format {
         match self {
             Format::One => "permit-journal 1",
             Format::Two => "permit-journal 2",
+            Format::Three => "permit-journal 3",
         }
     }
 
@@ -34,28 +38,64 @@ impl Format {
         ensures { result ≡ is_said_in self entry.now }
     {
         match self {
-            Format::One => !tells_tridem(entry),
-            Format::Two => true,
-        }
-    }
-
-    /// The oldest format that has words for a whole history. Takes no memory.
-    pub fn of(history: &[Entry]) -> Format
-        ensures { result ≡ format_for history.now }
-    {
-        if any_tells_tridem(history) {
-            Format::Two
-        } else {
-            Format::One
+            Format::One => !tells_several(entry) && !tells_tridem(entry),
+            Format::Two => !tells_several(entry),
+            Format::Three => true,
         }
     }
 }
 
-// Whether an entry of the history needs words for tridem groups.
-fn any_tells_tridem(history: &[Entry]) -> bool
-    ensures { result ≡ list_any tells_tridem history.now }
+// Whether more than one route is asked for, is found or is issued.
+fn tells_several(entry: &Entry) -> bool
+    ensures { result ≡ tells_several entry.now }
 {
-    history.iter().any(tells_tridem)
+    asks_several(&entry.call) || answers_several(&entry.reply)
+}
+
+fn asks_several(call: &Call) -> bool
+    ensures { result ≡ asks_several call.now }
+{
+    match call {
+        Call::Submit {
+            application,
+            proposal,
+        } => seeks_several(application) || finds_several(&proposal.what),
+        Call::Held { application } => seeks_several(application),
+        _ => false,
+    }
+}
+
+fn seeks_several(application: &Application) -> bool
+    ensures { result ≡ seeks_several application.now.asked }
+{
+    match application.asked() {
+        Some(routes) => are_several(routes),
+        None => false,
+    }
+}
+
+fn finds_several(what: &What) -> bool
+    ensures { result ≡ finds_several what.now }
+{
+    match what {
+        What::Route(routes) => are_several(routes),
+        _ => false,
+    }
+}
+
+fn answers_several(reply: &Reply) -> bool
+    ensures { result ≡ answers_several reply.now }
+{
+    match reply {
+        Reply::Issued { routes, .. } => are_several(routes),
+        _ => false,
+    }
+}
+
+fn are_several(routes: &SharedRoutes) -> bool
+    ensures { result ≡ are_several routes.now }
+{
+    routes.len() > 1
 }
 
 // Whether a limit on tridem groups is posted, or is the one that fails.

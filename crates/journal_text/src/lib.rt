@@ -1,7 +1,8 @@
 //! The journal: the history of an office as text, a line for each call with its reply.
 //!
-//! The formats are this project's own, and the oldest one is written that has words for the history. A line is the caller, the call, `=` and the reply, in words with one space between
-//! them; indices are counted from 1, fractions are in lowest terms, and each value has one spelling.
+//! The formats are this project's own, and the last one is written. A line is the caller, the call, `=` and the reply, in words
+//! with one space between them; indices are counted from 1, fractions are in lowest terms, and each value has one spelling.
+//! Routes are lists of segments with slashes between them. The older formats say less: which entries each has words for.
 //!
 //! To the crate above it promises that what is printed is the text that the definition gives for the history.
 #![tactic(auto)]

@@ -11,8 +11,8 @@ use names::NoMemory;
 use office_words::Entry;
 use std::alloc::{AllocError, Global};
 
-/// The text of a history, in the oldest format that has words for it: a line for each entry, between a first line and an end that counts them. `NoMemory` where no
-/// memory was left.
+/// The text of a history, in the last format, which has words for all that an office answers: a line for each entry, between a
+/// first line and an end that counts them. `NoMemory` where no memory was left.
 pub fn print(alloc: Global, history: &[Entry]) -> Result<Vec<u8>, NoMemory>
     ensures { IfOk result (λ text. text.items ≡ journal_of history.now) }
 {
@@ -24,7 +24,7 @@ fn text(alloc: Global, history: &[Entry]) -> Result<Vec<u8>, AllocError>
     ensures { IfOk result (λ text. text.items ≡ journal_of history.now) }
 {
     let mut out = Vec::new(alloc);
-    out.extend_from_slice(Format::of(history).first_line().as_bytes())?;
+    out.extend_from_slice(Format::Three.first_line().as_bytes())?;
     out.push(b'\n')?;
     lines(&mut out, history)?;
     out.extend_from_slice(b"end ")?;

@@ -7,11 +7,12 @@ ghost use Rattle.journal_text.specs.Entries.{reply_words, shown_words, standing_
 
 use crate::calls::days;
 use crate::limits::{cause, limit};
-use crate::words::{named, named_day, named_numbers, named_place, named_places, word};
+use crate::words::{named, named_day, named_numbers, named_place, named_routes, word};
 use clearance_rules::Limit;
 use office_words::{Cause, Reply};
 use permit_book::Status;
 use std::alloc::AllocError;
+use trip_routes::SharedRoutes;
 
 /// A reply.
 pub fn reply(out: &mut Vec<u8>, reply: &Reply) -> Result<(), AllocError>
@@ -22,8 +23,8 @@ pub fn reply(out: &mut Vec<u8>, reply: &Reply) -> Result<(), AllocError>
         Reply::Issued {
             number,
             version,
-            route,
-        } => issued(out, *number, *version, route.as_slice()),
+            routes,
+        } => issued(out, *number, *version, routes),
         Reply::Refused {
             version,
             limit: why,
@@ -64,13 +65,18 @@ pub fn reply(out: &mut Vec<u8>, reply: &Reply) -> Result<(), AllocError>
 }
 
 // That a permit is issued.
-fn issued(out: &mut Vec<u8>, number: u32, version: u32, route: &[u32]) -> Result<(), AllocError>
+fn issued(
+    out: &mut Vec<u8>,
+    number: u32,
+    version: u32,
+    routes: &SharedRoutes,
+) -> Result<(), AllocError>
     ensures { OnOk result (Adds out.old.items out.new.items
-        (reply_words (Reply.Issued number version route.now))) }
+        (reply_words (Reply.Issued number version routes.now))) }
 {
     named(out, "issued", number)?;
     named(out, "at", version)?;
-    named_places(out, "route", route)?;
+    named_routes(out, "route", routes)?;
     Ok(())
 }
 

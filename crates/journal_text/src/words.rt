@@ -3,12 +3,13 @@
 ghost use Rattle.std.specs.Prelude.{◌≡◌, ◌<◌, ◌+◌, ◌∷◌, ◌++◌, ◌%◌, OnOk, codes, flat_map};
 ghost use Rattle.std.specs.Fmt.{decimal};
 ghost use Rattle.influence_line.specs.Fractions.{ratio_text};
-ghost use Rattle.journal_text.specs.Words.{Adds, group, index, list_text, numbers_words, places_words};
+ghost use Rattle.journal_text.specs.Words.{Adds, group, index, list_text, numbers_words, places_words, routes_text, routes_words};
 
 use influence_line::Frac;
 use numerals::write_number;
 use permit_days::Day;
 use std::alloc::AllocError;
+use trip_routes::SharedRoutes;
 
 /// A word.
 #[inline(always)]
@@ -124,7 +125,16 @@ pub fn named_places(out: &mut Vec<u8>, text: &str, places: &[u32]) -> Result<(),
     ensures { OnOk result (Adds out.old.items out.new.items (places_words text.now places.now)) }
 {
     word(out, text)?;
-    place_list(out, places)?;
+    place_list(out, b' ', places)?;
+    Ok(())
+}
+
+/// A word and routes.
+pub fn named_routes(out: &mut Vec<u8>, text: &str, routes: &SharedRoutes) -> Result<(), AllocError>
+    ensures { OnOk result (Adds out.old.items out.new.items (routes_words text.now routes.now)) }
+{
+    word(out, text)?;
+    route_lists(out, routes)?;
     Ok(())
 }
 
@@ -169,15 +179,28 @@ fn more_numbers(out: &mut Vec<u8>, numbers: &[u32]) -> Result<(), AllocError>
     Ok(())
 }
 
-// The indices of a list, counted from 1, behind a space.
-fn place_list(out: &mut Vec<u8>, places: &[u32]) -> Result<(), AllocError>
-    ensures { OnOk result (out.new.items ≡ out.old.items ++ (32 ∷ list_text index places.now)) }
+// The lists of routes with slashes between them, behind a space.
+#[tactic(auto, using(crate::proofs::Pieces::first_route, crate::proofs::Pieces::one_more_route))]
+fn route_lists(out: &mut Vec<u8>, routes: &SharedRoutes) -> Result<(), AllocError>
+    ensures { OnOk result (out.new.items ≡ out.old.items ++ (32 ∷ routes_text routes.now)) }
+{
+    let count = routes.len();
+    place_list(out, b' ', routes.route(0))?;
+    'routes: for i in 1..count {
+        place_list(out, b'/', routes.route(i))?;
+    }
+    Ok(())
+}
+
+// A byte, and the indices of a list, counted from 1.
+fn place_list(out: &mut Vec<u8>, before: u8, places: &[u32]) -> Result<(), AllocError>
+    ensures { OnOk result (out.new.items ≡ out.old.items ++ (before ∷ list_text index places.now)) }
 {
     let Some((first, rest)) = places.split_first() else {
-        out.extend_from_slice(b" -")?;
+        out.extend_from_slice(&[before, b'-'])?;
         return Ok(());
     };
-    index_behind(out, b' ', *first)?;
+    index_behind(out, before, *first)?;
     more_places(out, rest)?;
     Ok(())
 }

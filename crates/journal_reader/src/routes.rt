@@ -1,0 +1,66 @@
+// The routes that a word spells.
+
+ghost use Rattle.std.specs.Prelude.{◌≡◌, ◌++◌, ◌∷◌, [], IfOk, OnOk, IsTrue, length, nat_lt, true};
+ghost use Rattle.journal_text.specs.Words.{routes_text};
+ghost use Rattle.journal_reader.specs.Words.{IsTextOf, routes_of};
+ghost use Rattle.journal_reader.specs.Fits.{FitsRoutes};
+
+use crate::numbers::indices_in;
+use crate::parts::{first_part, part};
+use road_graph::Numbers;
+use std::alloc::{AllocError, Global};
+use trip_routes::{Routes, RoutesRefusal, SharedRoutes};
+
+/// The routes that a word spells.
+#[tactic(auto, using(crate::proofs::Only::routes_found))]
+pub fn routes_in(alloc: Global, word: &[u8]) -> Result<Option<SharedRoutes>, AllocError>
+    ensures exact { IfOk result (λ found. found ≡ routes_of word.now) }
+    ensures sound { IfOk result (IsTextOf routes_text FitsRoutes word.now) }
+{
+    let found = routes_in_exact(alloc, word)?;
+    Ok(found)
+}
+
+fn routes_in_exact(alloc: Global, word: &[u8]) -> Result<Option<SharedRoutes>, AllocError>
+    ensures { IfOk result (λ found. found ≡ routes_of word.now) }
+{
+    let Some(routes) = all_routes(alloc, word)? else {
+        return Ok(None);
+    };
+    let routes = SharedRoutes::of(alloc, routes)?;
+    Ok(Some(routes))
+}
+
+// The lists with slashes between them, if there are eight at most.
+#[tactic(auto, unfolding(crate::specs::Words::routes_of))]
+fn all_routes(alloc: Global, word: &[u8]) -> Result<Option<Routes>, AllocError>
+    ensures { IfOk result (λ found. found ≡ routes_of word.now) }
+{
+    let (first, mut rest) = first_part(word, b'/');
+    let Some(route) = indices_in(alloc, first)? else {
+        return Ok(None);
+    };
+    let mut routes = Routes::one(route);
+    'parts: while let Some((next, more)) = part(rest, b'/') {
+        let Some(route) = indices_in(alloc, next)? else {
+            return Ok(None);
+        };
+        if !takes(&mut routes, &route)? {
+            return Ok(None);
+        }
+        rest = more;
+    }
+    Ok(Some(routes))
+}
+
+// Whether there was room for one route more, which is added then.
+fn takes(routes: &mut Routes, route: &Numbers) -> Result<bool, AllocError>
+    ensures room { IfOk result (λ taken. taken ≡ nat_lt (length routes.old) 8) }
+    ensures added { IfOk result (λ taken. IsTrue taken → routes.new ≡ routes.old ++ route.now ∷ []) }
+{
+    match routes.push(route) {
+        Ok(()) => Ok(true),
+        Err(RoutesRefusal::Full) => Ok(false),
+        Err(RoutesRefusal::NoMemory) => Err(AllocError),
+    }
+}
