@@ -280,7 +280,7 @@ fn serve_each<L: Ledger>(
 
 // The journal of the office has these lines, so many.
 fn has_lines(rt: &impl Abort, alloc: Global, office: &Office, lines: &str, entries: usize) {
-    let wanted = format!(in alloc; "permit-journal 1\n{lines}end {entries}\n");
+    let wanted = format!(in alloc; "permit-journal 3\n{lines}end {entries}\n");
     let journal = print(alloc, office.history()).expect(rt, "memory");
     assert!(rt;
         journal.as_slice() == wanted.expect(rt, "memory").as_bytes(),

@@ -96,8 +96,8 @@ fn issues_a_long_route_of_which_one_segment_changed(rt: HostRuntime) {
         Reply::Issued {
             number: 1,
             version: 1,
-            route,
-        } => route.as_slice().len() == 200,
+            routes,
+        } => routes.all().len() == 200,
         _ => false,
     };
     assert!(rt; is_wanted);

@@ -126,7 +126,7 @@ fn look_behind_a_posting<L: Ledger + Send + Sync>(
     let (office, _tests) = desk.close(root);
     assert_eq!(rt; version, 1);
     let journal = "\
-permit-journal 1
+permit-journal 3
 1 post segment 1 closed 1 = posted 1 recalled -
 1 snapshot = at 1
 2 show 0 = unknown
@@ -159,7 +159,7 @@ fn take_all_turns<L: Ledger>(rt: &(impl Abort + Wait + AllocGlobal + Sync), blan
         rt,
         rt.alloc(),
         &office,
-        "permit-journal 1\n1 show 0 = unknown\nend 1\n",
+        "permit-journal 3\n1 show 0 = unknown\nend 1\n",
     );
 }
 

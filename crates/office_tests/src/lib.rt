@@ -7,6 +7,8 @@
 #[cfg(test)]
 mod analysts;
 #[cfg(test)]
+mod audits;
+#[cfg(test)]
 mod calls;
 #[cfg(test)]
 mod chains;

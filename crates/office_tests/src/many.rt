@@ -12,6 +12,7 @@ use road_graph::Numbers;
 use std::alloc::Global;
 use std::process::Abort;
 use trip_analysis::{Application, Base, Proposal, What};
+use trip_routes::SharedRoutes;
 
 // Days of many permits on two segments that lead from node 0 to node 1.
 
@@ -22,8 +23,9 @@ fn by_segment(rt: &impl Abort, alloc: Global, base: &Base, segment: u32) -> Appl
     let network = base.network();
     assert!(rt; !base.fleet().is_empty() && network.nodes() >= 2 && segment < network.segments());
     let route = Numbers::of(Vec::from_slice(alloc, &[segment]).expect(rt, "memory"));
+    let routes = SharedRoutes::along(alloc, route).expect(rt, "memory");
     let (first, last) = (day(rt, "2026-03-02"), day(rt, "2026-03-06"));
-    Application::new(base, 0, 0, 1, Some(route), first, last).expect(rt, "an application")
+    Application::new(base, 0, 0, 1, Some(routes), first, last).expect(rt, "an application")
 }
 
 // Issues a permit by one segment, and answers whether it has this number.
@@ -127,18 +129,18 @@ fn heavy(rt: &impl Abort, alloc: Global) -> Base {
     base_of(rt, alloc, text.expect(rt, "memory").as_str())
 }
 
-// The route that was found, once more.
-fn copy_of_route(rt: &impl Abort, alloc: Global, what: &What) -> What
+// The routes that were found, with one more owner.
+fn copy_of_route(rt: &impl Abort, what: &What) -> What
     ensures { result ≡ what.now }
 {
     match what {
-        What::Route(route) => What::Route(route.try_clone(alloc).expect(rt, "memory")),
+        What::Route(routes) => What::Route(routes.clone().expect(rt, "memory")),
         _ => rt.abort(),
     }
 }
 
 // The call that submits a route, once more.
-fn copy_of(rt: &impl Abort, alloc: Global, call: &Call) -> Call
+fn copy_of(rt: &impl Abort, call: &Call) -> Call
     ensures { result ≡ call.now }
 {
     match call {
@@ -146,10 +148,10 @@ fn copy_of(rt: &impl Abort, alloc: Global, call: &Call) -> Call
             application,
             proposal,
         } => Call::Submit {
-            application: application.try_clone(alloc).expect(rt, "memory"),
+            application: application.try_clone().expect(rt, "memory"),
             proposal: Proposal {
                 seen: proposal.seen,
-                what: copy_of_route(rt, alloc, &proposal.what),
+                what: copy_of_route(rt, &proposal.what),
             },
         },
         _ => rt.abort(),
@@ -167,7 +169,7 @@ pub(crate) fn submit_copies(
     requires found { MayAsk office.old.base (machine_in office.old) call.now }
 {
     'copies: for i in 0..count {
-        let reply = answer(office, 0, copy_of(rt, alloc, call));
+        let reply = answer(office, 0, copy_of(rt, call));
         assert!(rt; is_issue_of(reply, i + 1), "copy {i}");
     }
 }

@@ -1,0 +1,56 @@
+// The audit of a history.
+
+ghost use Rattle.std.specs.Prelude.{◌≡◌, ◌<◌, ◌≤◌, IfOk, length};
+ghost use Rattle.std.specs.Arc.{arc_value};
+ghost use Rattle.journal_audit.specs.Auditors.{HasOpened};
+ghost use Rattle.journal_audit.specs.Verdicts.{IsVerdict};
+
+use crate::auditor::Auditor;
+use crate::verdict::Verdict;
+use clearance_rules::Steps;
+use names::NoMemory;
+use office_words::Entry;
+use permit_days::Day;
+use std::alloc::Global;
+use std::marker::Brand;
+use std::sync::Arc;
+use std::sync::ledger::{Blank, Ledger};
+use trip_analysis::Base;
+
+/// Whether a history is one of an office about this base that opened on this day, and else which is the first entry with which it
+/// is not. Nothing of the entries is known. `NoMemory` where no memory was left for the audit.
+pub fn audit(
+    alloc: Global,
+    base: Arc<Base, Global>,
+    day: Day,
+    history: &[Entry],
+) -> Result<Verdict, NoMemory>
+    requires { length history.now ≤ 1000000 }
+    ensures { IfOk result (IsVerdict (arc_value base) day history.now) }
+{
+    let auditor = Auditor::open(alloc, base, day, history)?;
+    judge_all::<Brand>(auditor, day, history, Blank::new(1))
+}
+
+// Judges the entries one after another, up to the first that is no step. What is tested is counted by a counter of this ledger.
+fn judge_all<L: Ledger>(
+    mut auditor: Auditor,
+    day: Day,
+    history: &[Entry],
+    blank: Blank,
+) -> Result<Verdict, NoMemory>
+    requires name { blank.name ≡ L.name }
+    requires parts { blank.parts ≡ L.parts }
+    requires some { 0 < blank.parts }
+    requires few { length history.now ≤ 1000000 }
+    requires opened { HasOpened auditor day history.now }
+    ensures { IfOk result (IsVerdict auditor.replay.base day history.now) }
+{
+    let mut steps = Steps::<L>::new(blank);
+    'entries: for i in 0..history.len() {
+        if !auditor.judge(&history[i], &mut steps)? {
+            return Ok(Verdict::Bad { entry: i });
+        }
+    }
+    Ok(Verdict::Legal)
+}
