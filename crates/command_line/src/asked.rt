@@ -13,6 +13,8 @@ pub enum Task {
     Make,
     /// A day file is made and run, and summed up.
     Trial,
+    /// A journal is checked against its day file.
+    Audit,
     /// One truck is rated against three design loads.
     Design,
     /// Trucks that follow each other are rated.

@@ -78,6 +78,7 @@ fn task_named(word: &str) -> Option<Task>
         "day" => Some(Task::Day),
         "make" => Some(Task::Make),
         "trial" => Some(Task::Trial),
+        "audit" => Some(Task::Audit),
         "design" => Some(Task::Design),
         "convoy" => Some(Task::Convoy),
         _ => None,

@@ -1,5 +1,5 @@
 -- How a run ends, by what its parts promise.
-use Rattle.std.proofs.Common.{◌≡◌, ◌⊎◌, ◌+◌, ◌++◌, ◌<◌, ◌≤◌, ℕ, Bool, true, false, List, [], Option, Some, None, IfSome, length, take, refl, ap, sym, subst, inl, inr, ◌∙◌, arith}
+use Rattle.std.proofs.Common.{◌≡◌, ◌≢◌, ◌⊎◌, ◌+◌, ◌++◌, ◌<◌, ◌≤◌, ℕ, Bool, true, false, List, [], Option, Some, None, IfSome, length, take, refl, ap, sym, subst, inl, inr, ◌∙◌, arith}
 use Rattle.std.specs.Prelude.{nat_lt}
 use Rattle.std.proofs.lemmas.Bool.Decides.{nat_tests}
 use Rattle.std.specs.Io.KnownBytes.{Appends, Consumes, IsAtEnd}
@@ -19,16 +19,21 @@ use Rattle.convoy_moves.specs.Refusals.{first_refusal}
 use Rattle.convoy_moves.specs.declared.refusal.ConvoyRefusal.{ConvoyRefusal}
 use Rattle.day_text.specs.declared.check_file.CheckFile.{CheckFile}
 use Rattle.day_text.specs.Checks.{check_of}
-use Rattle.day_text.specs.Days.{day_of}
 use Rattle.record_text.specs.declared.refusal.Cause.{Cause}
 use Rattle.record_text.specs.declared.refusal.Cause.TheVariants as why
 use Rattle.std.specs.Prelude.{Result, Ok, Err, option_map}
 use Rattle.std.specs.String.{string_bytes}
-use Rattle.permit_program.specs.Command.{Answer, Command, IsRefusalOf, Makes, refusal_in}
+use Rattle.refusal_text.specs.Lines.{status_of}
+use Rattle.day_text.specs.Days.{DayParts, day_of}
+use Rattle.office_words.specs.declared.entry.Entry.{Entry}
+use Rattle.journal_audit.specs.declared.verdict.Verdict.{Verdict}
+use Rattle.journal_audit.specs.declared.verdict.Verdict.TheVariants.{Bad, Legal}
+use Rattle.permit_program.specs.Audit.{JudgesHistory, JudgesParts, answer_to_entry, answer_to_line, answer_to_verdict}
+use Rattle.permit_program.specs.Command.{Answer, Command, IsRefusalOf, Makes, answer_to, refusal_in}
 use Rattle.permit_program.specs.Commands.{command_by, command_of}
 use Rattle.permit_program.specs.Convoy.{answer_to_convoy, convoy_refusal}
 use Rattle.permit_program.specs.Endings.{AnswersRefusal, AnswersText, AnswersUnread, WasUnread}
-use Rattle.permit_program.specs.Runs.{AsksForDay, IsPlain, IsRun, IsSettled, IsStatusOr, Outside, SinkFailed, SourceAt, Told, Took, WroteLine, bytes_for, bytes_line, most_bytes, status_by, status_for}
+use Rattle.permit_program.specs.Runs.{AsksForDay, CallFor, IsPlain, IsRun, IsSettled, IsStatusFor, IsStatusOr, Outside, SinkFailed, SourceAt, Told, Took, WroteLine, bytes_for, bytes_line, most_bytes, status_by}
 use Rattle.permit_program.specs.declared.refusal.Refusal.{Refusal}
 use Rattle.permit_program.specs.declared.refusal.Refusal.TheVariants.{NoMemory, Refused}
 
@@ -54,43 +59,68 @@ pub takes_none : (left : Option (List ℕ)) → TookAtMost (most_bytes + 1) left
 takes_none None = ([], tt, omega arith)
 takes_none (Some bytes) = ([], refl, omega arith)
 
--- each refusal of a command ends with 5 or 6
-file_status : {T : Type 0} (told : Result T (ℕ × Cause)) (answer : Answer) → refusal_in told ≡ Some answer → (answer.status ≡ 5) ⊎ (answer.status ≡ 6)
-file_status (Ok file) answer is = absurd cc
-file_status (Err (row, why.Bad cause)) answer is = inl (sym (ap status_by is))
-file_status (Err (row, why.TooMany kind)) answer is = inr (sym (ap status_by is))
+-- each refusal of a command ends with 5, 6 or 9
+abbrev pub IsRefusalStatus : ℕ → Type 0
+IsRefusalStatus status = (status ≡ 5) ⊎ (status ≡ 6) ⊎ (status ≡ 9)
 
-limit_status : (refused : Option ConvoyRefusal) (answer : Answer) → option_map answer_to_convoy refused ≡ Some answer → answer.status ≡ 5
+cause_status : (cause : Cause) → IsRefusalStatus (status_of cause)
+cause_status (why.Bad cause) = inl refl
+cause_status (why.TooMany kind) = inr (inl refl)
+
+-- the answer is one of such a status
+answers : (told wanted : Answer) → Some told ≡ Some wanted → IsRefusalStatus told.status → IsRefusalStatus wanted.status
+answers told wanted is status = subst (λ (o : Option Answer). IsRefusalStatus (status_by o)) is status
+
+file_status : {T : Type 0} (told : Result T (ℕ × Cause)) (answer : Answer) → refusal_in told ≡ Some answer → IsRefusalStatus answer.status
+file_status (Ok file) answer is = absurd cc
+file_status (Err (row, cause)) answer is = answers (answer_to (row, cause)) answer is (cause_status cause)
+
+limit_status : (refused : Option ConvoyRefusal) (answer : Answer) → option_map answer_to_convoy refused ≡ Some answer → IsRefusalStatus answer.status
 limit_status None answer is = absurd cc
-limit_status (Some refusal) answer is = sym (ap status_by is)
+limit_status (Some refusal) answer is = answers (answer_to_convoy refusal) answer is (inl refl)
 
 convoy_status : (trucks gap : ℕ) (told : Result CheckFile (ℕ × Cause)) (answer : Answer)
-    → convoy_refusal trucks gap told ≡ Some answer → (answer.status ≡ 5) ⊎ (answer.status ≡ 6)
-convoy_status trucks gap (Ok file) answer is = inl (limit_status (first_refusal (convoy_of file.truck.load.train trucks gap)) answer is)
+    → convoy_refusal trucks gap told ≡ Some answer → IsRefusalStatus answer.status
+convoy_status trucks gap (Ok file) answer is = limit_status (first_refusal (convoy_of file.truck.load.train trucks gap)) answer is
 convoy_status trucks gap (Err refused) answer is = file_status {T = CheckFile} (Err refused) answer is
 
-pub refusal_status : (t : Task) (options : Options) (bytes : List ℕ) (answer : Answer) → (command_by t options).refusal bytes ≡ Some answer → (answer.status ≡ 5) ⊎ (answer.status ≡ 6)
+verdict_status : (verdict : Verdict) (answer : Answer) → answer_to_verdict verdict ≡ Some answer → IsRefusalStatus answer.status
+verdict_status Legal answer is = absurd cc
+verdict_status (Bad n) answer is = answers (answer_to_entry n) answer is (inr (inr refl))
+
+history_status : (history : List Entry) (told : Result DayParts (ℕ × Cause)) (answer : Answer) → JudgesHistory history told (Some answer) → IsRefusalStatus answer.status
+history_status history (Ok file) answer (verdict, right, is) = verdict_status verdict answer is
+history_status history (Err (row, cause)) answer is = answers (answer_to (row, cause)) answer is (cause_status cause)
+
+audit_status : (journal behind : List ℕ) (answer : Answer) → JudgesParts journal behind (Some answer) → IsRefusalStatus answer.status
+audit_status journal behind answer (inl (row, bad, is)) = answers (answer_to_line row) answer is (inl refl)
+audit_status journal behind answer (inr (history, read, judged)) = history_status history (day_of behind) answer judged
+
+pub refusal_status : (t : Task) (options : Options) (bytes : List ℕ) (answer : Answer) → (command_by t options).Judges bytes (Some answer) → IsRefusalStatus answer.status
 refusal_status task.Check options bytes answer is = file_status (check_of bytes) answer is
 refusal_status task.Day options bytes answer is = file_status (day_of bytes) answer is
 refusal_status task.Make options bytes answer is = absurd cc
 refusal_status task.Trial options bytes answer is = absurd cc
+refusal_status task.Audit options bytes answer is = audit_status is.journal is.behind answer is.judged
 refusal_status task.Design options bytes answer is = file_status (check_of bytes) answer is
 refusal_status task.Convoy options bytes answer is = convoy_status options.trucks options.gap (check_of bytes) answer is
 
--- neither is plain
-is_another : (n k : ℕ) → (k < 5) ⊎ (6 < k) → (n ≡ 5) ⊎ (n ≡ 6) → n ≡ k → ⊥
-is_another n k (inl less) (inl five) is = omega (arith, less, five, is)
-is_another n k (inl less) (inr six) is = omega (arith, less, six, is)
-is_another n k (inr more) (inl five) is = omega (arith, more, five, is)
-is_another n k (inr more) (inr six) is = omega (arith, more, six, is)
+-- none of these is plain
+away : (k : ℕ) → k ≢ 0 → k ≢ 2 → k ≢ 3 → k ≢ 4 → k ≢ 7 → k ≢ 8 → (n : ℕ) → n ≡ k → IsPlain n → ⊥
+away k no0 no2 no3 no4 no7 no8 n is (inl e) = no0 (sym is ∙ e)
+away k no0 no2 no3 no4 no7 no8 n is (inr (inl e)) = no2 (sym is ∙ e)
+away k no0 no2 no3 no4 no7 no8 n is (inr (inr (inl e))) = no3 (sym is ∙ e)
+away k no0 no2 no3 no4 no7 no8 n is (inr (inr (inr (inl e)))) = no4 (sym is ∙ e)
+away k no0 no2 no3 no4 no7 no8 n is (inr (inr (inr (inr (inl e))))) = no7 (sym is ∙ e)
+away k no0 no2 no3 no4 no7 no8 n is (inr (inr (inr (inr (inr e))))) = no8 (sym is ∙ e)
 
-is_refusals : (n : ℕ) → (n ≡ 5) ⊎ (n ≡ 6) → IsPlain n → ⊥
-is_refusals n is (inl e) = is_another n 0 (inl (omega arith)) is e
-is_refusals n is (inr (inl e)) = is_another n 2 (inl (omega arith)) is e
-is_refusals n is (inr (inr (inl e))) = is_another n 3 (inl (omega arith)) is e
-is_refusals n is (inr (inr (inr (inl e)))) = is_another n 4 (inl (omega arith)) is e
-is_refusals n is (inr (inr (inr (inr (inl e))))) = is_another n 7 (inr (omega arith)) is e
-is_refusals n is (inr (inr (inr (inr (inr e))))) = is_another n 8 (inr (omega arith)) is e
+is_refusals : (n : ℕ) → IsRefusalStatus n → IsPlain n → ⊥
+is_refusals n (inl five) plain =
+    away 5 (λ e. omega (arith, e)) (λ e. omega (arith, e)) (λ e. omega (arith, e)) (λ e. omega (arith, e)) (λ e. omega (arith, e)) (λ e. omega (arith, e)) n five plain
+is_refusals n (inr (inl six)) plain =
+    away 6 (λ e. omega (arith, e)) (λ e. omega (arith, e)) (λ e. omega (arith, e)) (λ e. omega (arith, e)) (λ e. omega (arith, e)) (λ e. omega (arith, e)) n six plain
+is_refusals n (inr (inr nine)) plain =
+    away 9 (λ e. omega (arith, e)) (λ e. omega (arith, e)) (λ e. omega (arith, e)) (λ e. omega (arith, e)) (λ e. omega (arith, e)) (λ e. omega (arith, e)) n nine plain
 
 -- a command that is no day's tells nobody
 pub tells_nobody : (t : Task) (options : Options) → (t ≡ task.Day → ⊥) → (bytes text : List ℕ) (output : (command_by t options).IsOutput bytes text) → (command_by t options).recalls bytes text output ≡ None
@@ -98,6 +128,7 @@ tells_nobody task.Check options other bytes text output = refl
 tells_nobody task.Day options other bytes text output = absurd (other refl)
 tells_nobody task.Make options other bytes text output = refl
 tells_nobody task.Trial options other bytes text output = refl
+tells_nobody task.Audit options other bytes text output = refl
 tells_nobody task.Design options other bytes text output = refl
 tells_nobody task.Convoy options other bytes text output = refl
 
@@ -107,28 +138,34 @@ of_day None before after status is run = absurd is
 of_day (Some a) before after status is run = run a is
 
 -- the status that bytes call for which were taken
-module _ (c : Command) (bytes : List ℕ) (few : length bytes ≤ most_bytes) (status : ℕ) (is : IsStatusOr (status_by (c.refusal bytes)) status) where
-  here : IsStatusOr (status_for c bytes) status
-  here = rw (not_below most_bytes (length bytes) few) is
+module _ (c : Command) (bytes : List ℕ) (few : length bytes ≤ most_bytes) (judgement : Option Answer) (judges : c.Judges bytes judgement)
+    (status : ℕ) (is : IsStatusOr (status_by judgement) status) where
+  here : IsStatusFor c bytes status
+  here =
+      let called : CallFor c (nat_lt most_bytes (length bytes)) bytes (status_by judgement) =
+      subst (λ (many : Bool). CallFor c many bytes (status_by judgement)) (sym (not_below most_bytes (length bytes) few)) (judgement, judges, refl) in
+      inr (status_by judgement, called, is)
 
-  of_all : (left rest : Option (List ℕ)) → IfSome left (λ all. (bytes ≡ all) × (rest ≡ Some [])) → IfSome left (λ all. IsStatusOr (status_for c all) status)
+  of_all : (left rest : Option (List ℕ)) → IfSome left (λ all. (bytes ≡ all) × (rest ≡ Some [])) → IfSome left (λ all. IsStatusFor c all status)
   of_all None rest took = tt
-  of_all (Some all) rest took = subst (λ (b : List ℕ). IsStatusOr (status_for c b) status) took.0 here
+  of_all (Some all) rest took = subst (λ (b : List ℕ). IsStatusFor c b status) took.0 here
 
-  of_read : {S : Type 0} (reads : Bool) (before after : SourceAt S) → Took reads before after bytes → IfSome (bytes_for reads before.left) (λ all. IsStatusOr (status_for c all) status)
+  of_read : {S : Type 0} (reads : Bool) (before after : SourceAt S) → Took reads before after bytes → IfSome (bytes_for reads before.left) (λ all. IsStatusFor c all status)
   of_read true before after took = of_all before.left after.left took
-  of_read false before after took = subst (λ (b : List ℕ). IsStatusOr (status_for c b) status) took.0 here
+  of_read false before after took = subst (λ (b : List ℕ). IsStatusFor c b status) took.0 here
 
 -- and so of too many
-many_settled : (c : Command) (reads : Bool) (left : Option (List ℕ)) → reads ≡ true → IfSome left (λ bytes. most_bytes < length bytes) → IfSome (bytes_for reads left) (λ bytes. IsStatusOr (status_for c bytes) 6)
+many_settled : (c : Command) (reads : Bool) (left : Option (List ℕ)) → reads ≡ true → IfSome left (λ bytes. most_bytes < length bytes) → IfSome (bytes_for reads left) (λ bytes. IsStatusFor c bytes 6)
 many_settled c true None is many = tt
-many_settled c true (Some bytes) is many = inl (rw (below most_bytes (length bytes) many) refl)
+many_settled c true (Some bytes) is many =
+    let called : CallFor c (nat_lt most_bytes (length bytes)) bytes 6 = subst (λ (b : Bool). CallFor c b bytes 6) (sym (below most_bytes (length bytes) many)) refl in
+    inr (6, called, inl refl)
 many_settled c false left is many = absurd cc
 
 -- want of memory settles nothing
-memory_settled : (c : Command) (left : Option (List ℕ)) → IfSome left (λ bytes. IsStatusOr (status_for c bytes) 7)
+memory_settled : (c : Command) (left : Option (List ℕ)) → IfSome left (λ bytes. IsStatusFor c bytes 7)
 memory_settled c None = tt
-memory_settled c (Some bytes) = inr (inl refl)
+memory_settled c (Some bytes) = inl refl
 
 module _ {S K : Type 0} (a : Asked) (before after : Outside S K) (most : TookAtMost (most_bytes + 1) before.source.left after.source.left) where
   abbrev pub c : Command
@@ -211,10 +248,10 @@ module _ {S K : Type 0} (a : Asked) (before after : Outside S K) (most : TookAtM
   ends_unread unread.NoMemory status calm answered desk = of_status answered.0 (lacked answered.1 calm desk)
 
   module _ (bytes : List ℕ) (took : Took c.reads before.source after.source bytes) (few : length bytes ≤ most_bytes) (calm : after.source.faults ≡ before.source.faults) where
-    settles : (status : ℕ) → IsStatusOr (status_by (c.refusal bytes)) status → IsSettled c before.source.left status
-    settles status is = of_read c bytes few status is c.reads before.source after.source took
+    settles : (judgement : Option Answer) → c.Judges bytes judgement → (status : ℕ) → IsStatusOr (status_by judgement) status → IsSettled c before.source.left status
+    settles judgement judges status is = of_read c bytes few judgement judges status is c.reads before.source after.source took
 
-    told_why : (answer : Answer) → c.refusal bytes ≡ Some answer → WroteLine answer.line before.sink after.sink → after.desk ≡ before.desk → IsRun (Some a) before after answer.status
+    told_why : (answer : Answer) → c.Judges bytes (Some answer) → WroteLine answer.line before.sink after.sink → after.desk ≡ before.desk → IsRun (Some a) before after answer.status
     told_why answer refused told desk =
         let named : IsPlain answer.status → ⊥ = is_refusals answer.status (refusal_status a.task a.options bytes answer refused) in record {
           done = λ is. absurd (named (inl is));
@@ -224,7 +261,7 @@ module _ {S K : Type 0} (a : Asked) (before after : Outside S K) (most : TookAtM
           written = λ is. absurd (named (inr (inr (inr (inl is)))));
           noticed = λ is. absurd (named (inr (inr (inr (inr (inr is))))));
           refused = inr (inr (record { bytes = bytes; answer = answer; took = took; few = few; refused = refused; is_status = refl; told = told }));
-          settled = λ well. settles answer.status (inl (sym (ap status_by refused)));
+          settled = λ well. settles (Some answer) refused answer.status (inl refl);
           usage_told = λ is. absurd (named (inr (inl is)));
           nothing_read = λ is. absurd (named (inr (inr (inl is))));
           front = λ is. absurd (named (inr (inr (inr (inl is)))));
@@ -243,9 +280,6 @@ module _ {S K : Type 0} (a : Asked) (before after : Outside S K) (most : TookAtM
     ends_refused NoMemory result refused answered desk = of_status answered.0 (lacked answered.1 calm desk)
 
     module _ (text : List ℕ) (made : Makes c bytes text) where
-      fine : status_by (c.refusal bytes) ≡ 0
-      fine = ap status_by made.taken
-
       in_front : (count : ℕ) → Appends before.sink.held after.sink.held (take count text) → SinkFailed before.sink after.sink → after.desk ≡ before.desk → IsRun (Some a) before after 4
       in_front count wrote failed desk = record {
         done = λ is. absurd (omega (arith, is));
@@ -255,7 +289,7 @@ module _ {S K : Type 0} (a : Asked) (before after : Outside S K) (most : TookAtM
         written = λ is. failed;
         noticed = λ is. absurd (omega (arith, is));
         refused = inl (inr (inr (inr (inl refl))));
-        settled = λ well. settles 4 (inr (inr (fine, inl refl)));
+        settled = λ well. settles None made.taken 4 (inr (refl, inl refl));
         usage_told = λ is. absurd (omega (arith, is));
         nothing_read = λ is. absurd (omega (arith, is));
         front = λ is. record { bytes = bytes; text = text; count = count; took = took; made = made; wrote = wrote };
@@ -277,7 +311,7 @@ module _ {S K : Type 0} (a : Asked) (before after : Outside S K) (most : TookAtM
         written = λ is. absurd (omega (arith, is));
         noticed = λ is. absurd (omega (arith, is));
         refused = inl (inl refl);
-        settled = λ well. settles 0 (inl (sym fine));
+        settled = λ well. settles None made.taken 0 (inl refl);
         usage_told = λ is. absurd (omega (arith, is));
         nothing_read = λ is. absurd (omega (arith, is));
         front = λ is. absurd (omega (arith, is));
@@ -309,7 +343,7 @@ module _ {S K : Type 0} (a : Asked) (before after : Outside S K) (most : TookAtM
         written = λ is. absurd (omega (arith, is));
         noticed = λ is. (place, rose);
         refused = inl (inr (inr (inr (inr (inr refl)))));
-        settled = λ well. settles 8 (inr (inr (fine, inr refl)));
+        settled = λ well. settles None made.taken 8 (inr (refl, inr refl));
         usage_told = λ is. absurd (omega (arith, is));
         nothing_read = λ is. absurd (omega (arith, is));
         front = λ is. absurd (omega (arith, is));

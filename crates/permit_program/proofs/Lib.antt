@@ -1,5 +1,6 @@
 pub mod Lines
 pub mod Only
+pub mod Audits
 pub mod Ends
 pub mod Heard
 pub mod Serial

@@ -24,22 +24,15 @@ use Rattle.recall_list.specs.RecallLists.{recalls_in}
 use Rattle.day_maker.specs.Made.{made_day}
 use Rattle.day_trial.specs.Serial.{IsSerial, SerialHistoriesAreOne}
 use Rattle.day_trial.specs.Summaries.{summary_of}
-use Rattle.record_text.specs.declared.refusal.Cause.{Cause}
 use Rattle.permit_program.specs.Headline.{Headline}
 use Rattle.permit_program.specs.Check.{check}
-use Rattle.permit_program.specs.Command.{Command, IsAnswer, IsAnswerTo, IsRefusalOf, Makes, MakesAndTells, refusal_in}
+use Rattle.permit_program.specs.Command.{IsAnswer, IsAnswerTo, IsRefusalOf, Makes, MakesAndTells, refusal_in}
 use Rattle.permit_program.specs.Convoy.{answer_to_convoy, convoy, convoy_refusal}
 use Rattle.permit_program.specs.Day.{HasFewActors, day}
 use Rattle.permit_program.specs.Design.{design}
 use Rattle.permit_program.specs.Made.{IsTrial, make, trial}
 use Rattle.permit_program.specs.declared.refusal.Refusal.{Refusal}
 use Rattle.permit_program.specs.declared.refusal.Refusal.TheVariants as refusal
-
--- the answer to a refused file is the command's
-pub refused_file : (c : Command) (bytes : List ℕ) {T : Type 0} (told : Result T (ℕ × Cause)) (refused : FileRefusal) (r : Refusal) → c.refusal bytes ≡ refusal_in told → IsRefusedAs told refused → IsAnswerTo refused r → IsRefusalOf c bytes r
-refused_file c bytes told (file.Refused row cause) (refusal.Refused status line) same is answers = same ∙ (ap refusal_in is ∙ ap Some answers)
-refused_file c bytes told file.NoMemory (refusal.Refused status line) same is answers = absurd answers
-refused_file c bytes told refused refusal.NoMemory same is answers = tt
 
 -- the report on a check file
 pub report_made : (bytes text : List ℕ) (file : CheckFile) → check_of bytes ≡ Ok file → IsReport file text → IsOnlyReport file text → Makes check bytes text

@@ -17,8 +17,8 @@ pub record Answer : Type 0 where
 pub record Command : Type 1 where
   -- whether it reads what the source has left; a command that does not has no bytes
   pub reads : Bool
-  -- how it refuses bytes, if it does
-  pub refusal : List ℕ → Option Answer
+  -- its judgement of bytes: none where it takes them, or how it refuses them
+  pub Judges : List ℕ → Option Answer → Type 0
   -- its promise about the text that it writes for bytes
   pub IsOutput : List ℕ → List ℕ → Type 0
   -- the bytes for which the promise leaves no choice
@@ -26,10 +26,14 @@ pub record Command : Type 1 where
   -- the recalls that are told behind a text, or that nobody is told anything
   pub recalls : (bytes text : List ℕ) → IsOutput bytes text → Option (List Recall)
 
--- A command makes this text of these bytes: it does not refuse them, the text keeps its promise, and no other text does where
+-- The judgement of bytes is what a function says of them.
+abbrev pub judged_by : (List ℕ → Option Answer) → List ℕ → Option Answer → Type 0
+judged_by refusal bytes judgement = refusal bytes ≡ judgement
+
+-- A command makes this text of these bytes: it takes them, the text keeps its promise, and no other text does where
 -- the promise leaves no choice.
 pub record Makes (command : Command) (bytes text : List ℕ) : Type 0 where
-  pub taken : command.refusal bytes ≡ None
+  pub taken : command.Judges bytes None
   pub output : command.IsOutput bytes text
   pub only : command.LeavesNoChoice bytes → (other : List ℕ) → command.IsOutput bytes other → other ≡ text
 
@@ -41,7 +45,7 @@ pub record MakesAndTells (command : Command) (bytes text : List ℕ) (recalls : 
 -- A command refuses the bytes in just this way, unless memory was wanting.
 abbrev pub IsRefusalOf : Command → List ℕ → Refusal → Type 0
 IsRefusalOf command bytes (Refused status line) =
-    command.refusal bytes ≡ Some (record { status = status; line = string_bytes line })
+    command.Judges bytes (Some (record { status = status; line = string_bytes line }))
 IsRefusalOf command bytes NoMemory = Unit {0}
 
 -- bytes are answered in this way, unless memory was wanting

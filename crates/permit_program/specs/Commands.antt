@@ -7,6 +7,7 @@ use Rattle.permit_program.specs.Command.{Command}
 use Rattle.permit_program.specs.Check.{check}
 use Rattle.permit_program.specs.Day.{day}
 use Rattle.permit_program.specs.Made.{make, trial}
+use Rattle.permit_program.specs.Audit.{audit}
 use Rattle.permit_program.specs.Design.{design}
 use Rattle.permit_program.specs.Convoy.{convoy}
 
@@ -16,6 +17,7 @@ command_by task.Check options = check
 command_by task.Day options = day
 command_by task.Make options = make options.seed options.size
 command_by task.Trial options = trial options.seed options.size
+command_by task.Audit options = audit
 command_by task.Design options = design
 command_by task.Convoy options = convoy options.trucks options.gap
 

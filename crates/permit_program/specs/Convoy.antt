@@ -7,7 +7,7 @@ use Rattle.record_text.specs.declared.refusal.Cause.{Cause}
 use Rattle.day_text.specs.declared.check_file.CheckFile.{CheckFile}
 use Rattle.day_text.specs.Checks.{check_of}
 use Rattle.loading_report.specs.Convoys.{IsConvoyReport, convoy_refusal_line}
-use Rattle.permit_program.specs.Command.{Answer, Command, answer_to}
+use Rattle.permit_program.specs.Command.{Answer, Command, answer_to, judged_by}
 
 -- how trucks that are no convoy are answered
 abbrev pub answer_to_convoy : ConvoyRefusal → Answer
@@ -27,7 +27,7 @@ pub record IsConvoyReportOn (trucks gap : ℕ) (bytes text : List ℕ) : Type 0 
 abbrev pub convoy : ℕ → ℕ → Command
 convoy trucks gap = record {
   reads = true;
-  refusal = λ bytes. convoy_refusal trucks gap (check_of bytes);
+  Judges = judged_by (λ bytes. convoy_refusal trucks gap (check_of bytes));
   IsOutput = IsConvoyReportOn trucks gap;
   LeavesNoChoice = λ bytes. Unit {0};
   recalls = λ bytes text report. None;

@@ -3,7 +3,7 @@ use Rattle.std.specs.Prelude.{◌≡◌, ◌≤◌, ℕ, true, List, length, Som
 use Rattle.day_text.specs.Days.{DayParts, day_of}
 use Rattle.recall_list.specs.RecallLists.{recalls_in}
 use Rattle.permit_program.specs.Headline.{Headline}
-use Rattle.permit_program.specs.Command.{Command, refusal_in}
+use Rattle.permit_program.specs.Command.{Command, judged_by, refusal_in}
 
 -- the bytes have at most one actor, where they are a day file
 abbrev pub HasFewActors : List ℕ → Type 0
@@ -14,7 +14,7 @@ HasFewActors bytes = (file : DayParts) → day_of bytes ≡ Ok file → length f
 abbrev pub day : Command
 day = record {
   reads = true;
-  refusal = λ bytes. refusal_in (day_of bytes);
+  Judges = judged_by (λ bytes. refusal_in (day_of bytes));
   IsOutput = Headline;
   LeavesNoChoice = HasFewActors;
   recalls = λ bytes text headline. Some (recalls_in headline.file.base headline.history);

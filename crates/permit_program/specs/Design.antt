@@ -3,7 +3,7 @@ use Rattle.std.specs.Prelude.{◌≡◌, ℕ, true, List, None, Ok}
 use Rattle.day_text.specs.declared.check_file.CheckFile.{CheckFile}
 use Rattle.day_text.specs.Checks.{check_of}
 use Rattle.loading_report.specs.Designs.{IsDesignReport}
-use Rattle.permit_program.specs.Command.{Command, refusal_in}
+use Rattle.permit_program.specs.Command.{Command, judged_by, refusal_in}
 
 -- the promise: the bytes are a check file, and the text is the report on that file
 pub record IsDesignReportOn (bytes text : List ℕ) : Type 0 where
@@ -14,7 +14,7 @@ pub record IsDesignReportOn (bytes text : List ℕ) : Type 0 where
 abbrev pub design : Command
 design = record {
   reads = true;
-  refusal = λ bytes. refusal_in (check_of bytes);
+  Judges = judged_by (λ bytes. refusal_in (check_of bytes));
   IsOutput = IsDesignReportOn;
   LeavesNoChoice = λ bytes. Unit {0};
   recalls = λ bytes text report. None;

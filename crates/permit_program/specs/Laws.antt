@@ -9,6 +9,8 @@ use Rattle.notice_desk.specs.declared.notice.Whom.TheVariants as whom
 use Rattle.recall_list.specs.RecallLists.{recalls_in}
 use Rattle.day_trial.specs.Serial.{IsSerial}
 use Rattle.permit_program.specs.Headline.{Headline}
+use Rattle.permit_program.specs.Command.{Answer}
+use Rattle.permit_program.specs.Commands.{command_of}
 use Rattle.permit_program.specs.Day.{HasFewActors}
 use Rattle.permit_program.specs.Runs.{AsksForDay, DeskAt, IsRun, Outside, TookAll}
 use Rattle.command_line.specs.declared.asked.Asked.{Asked}
@@ -17,11 +19,16 @@ use Rattle.command_line.specs.declared.asked.Asked.{Asked}
 abbrev pub IsStatus : ℕ → Type 0
 IsStatus status =
     (status ≡ 0) ⊎ (status ≡ 2) ⊎ (status ≡ 3) ⊎ (status ≡ 4) ⊎ (status ≡ 5) ⊎ (status ≡ 6) ⊎ (status ≡ 7) ⊎ (status ≡ 8)
+    ⊎ (status ≡ 9)
 
 -- No run ends with another one.
 abbrev pub EveryStatusIsNamed : Type 0 → Type 0 → Type 0
 EveryStatusIsNamed S K = (asked : Option Asked) (before after : Outside S K) (status : ℕ) → IsRun asked before after status
     → IsStatus status
+
+-- A command judges bytes in one way alone.
+abbrev pub CommandsJudgeOnce : Type 0
+CommandsJudgeOnce = (asked : Asked) (bytes : List ℕ) (a b : Option Answer) → (command_of asked).Judges bytes a → (command_of asked).Judges bytes b → a ≡ b
 
 -- Status 8 comes only where a day is asked for.
 abbrev pub OnlyDaysTell : Type 0 → Type 0 → Type 0

@@ -1,5 +1,6 @@
 pub mod Headline
 pub mod Command
+pub mod Audit
 pub mod Check
 pub mod Day
 pub mod Made

@@ -5,7 +5,7 @@ use Rattle.day_maker.specs.Made.{made_day}
 use Rattle.day_trial.specs.Serial.{IsSerial}
 use Rattle.day_trial.specs.Summaries.{summary_of}
 use Rattle.office_words.specs.declared.entry.Entry.{Entry}
-use Rattle.permit_program.specs.Command.{Command}
+use Rattle.permit_program.specs.Command.{Command, judged_by}
 
 -- the promise of `trial`: what is made of the seed and the size is a day file, the history is one of an office on one thread
 -- that carries out its commands one after another, and the text sums that history up
@@ -20,7 +20,7 @@ pub record IsTrial (seed size : ℕ) (text : List ℕ) : Type 0 where
 abbrev pub reading_none : (List ℕ → Type 0) → Command
 reading_none IsText = record {
   reads = false;
-  refusal = λ bytes. None;
+  Judges = judged_by (λ bytes. None);
   IsOutput = λ bytes text. IsText text;
   LeavesNoChoice = λ bytes. Unit {0};
   recalls = λ bytes text output. None;

@@ -1,5 +1,5 @@
 -- What one run of the program does: its status, what it read, what it wrote, and who was told of recalls.
-use Rattle.std.specs.Prelude.{◌≡◌, ◌≢◌, ◌⊎◌, ℕ, ◌+◌, ◌<◌, ◌≤◌, Bool, true, false, if◌then◌else◌, nat_lt, List, [], ◌∷◌, ◌++◌, codes, length, take, Option, Some, None, IfSome, IsSomeAnd}
+use Rattle.std.specs.Prelude.{◌≡◌, ◌≢◌, ◌⊎◌, ℕ, ◌+◌, ◌<◌, ◌≤◌, Bool, true, false, nat_lt, List, [], ◌∷◌, ◌++◌, codes, length, take, Option, Some, None, IfSome, IsSomeAnd}
 use Rattle.std.specs.Io.KnownBytes.{Appends}
 use Rattle.office_io.specs.Causes.{Rose, TookAtMost}
 use Rattle.notice_desk.specs.Deliveries.{Delivered, RoseAt, StoppedAt}
@@ -23,7 +23,7 @@ most_bytes = 4194304
 
 -- the line that answers words that ask for nothing
 abbrev pub usage_line : List ℕ
-usage_line = codes "usage: permit_cli check|day|make|trial|design|convoy [--seed N] [--size N] [--trucks N] [--gap N]" ++ (10 ∷ [])
+usage_line = codes "usage: permit_cli check|day|make|trial|audit|design|convoy [--seed N] [--size N] [--trucks N] [--gap N]" ++ (10 ∷ [])
 
 -- the line that answers too many bytes
 abbrev pub bytes_line : List ℕ
@@ -151,7 +151,7 @@ pub record RefusedFile {S K : Type 0} (status : ℕ) (command : Command) (before
   pub answer : Answer
   pub took : Took command.reads before.source after.source bytes
   pub few : length bytes ≤ most_bytes
-  pub refused : command.refusal bytes ≡ Some answer
+  pub refused : command.Judges bytes (Some answer)
   pub is_status : answer.status ≡ status
   pub told : WroteLine answer.line before.sink after.sink
 
@@ -162,17 +162,24 @@ pub record RefusedBytes {S K : Type 0} (status : ℕ) (command : Command) (befor
   pub many : IfSome before.source.left (λ bytes. most_bytes < length bytes)
   pub told : WroteLine bytes_line before.sink after.sink
 
--- The status that bytes call for, where nothing fails.
+-- The status that a judgement calls for, where nothing fails.
 abbrev pub status_by : Option Answer → ℕ
 status_by None = 0
 status_by (Some answer) = answer.status
 
-abbrev pub status_for : Command → List ℕ → ℕ
-status_for command bytes = if nat_lt most_bytes (length bytes) then 6 else status_by (command.refusal bytes)
+-- The status that bytes call for: 6 where there are too many, and else the one of the command's judgement of them.
+abbrev pub CallFor : Command → Bool → List ℕ → ℕ → Type 0
+CallFor command true bytes status = status ≡ 6
+CallFor command false bytes status = (judgement : Option Answer) × command.Judges bytes judgement × (status ≡ status_by judgement)
 
--- The status is this one, or memory was wanting; and in the place of 0 the sink may have failed, or an object that is told.
+-- The status is this one; and in the place of 0 the sink may have failed, or an object that is told.
 abbrev pub IsStatusOr : ℕ → ℕ → Type 0
-IsStatusOr wanted status = (status ≡ wanted) ⊎ (status ≡ 7) ⊎ ((wanted ≡ 0) × ((status ≡ 4) ⊎ (status ≡ 8)))
+IsStatusOr wanted status = (status ≡ wanted) ⊎ ((wanted ≡ 0) × ((status ≡ 4) ⊎ (status ≡ 8)))
+
+-- The status is the one that a command and bytes call for, or memory was wanting.
+abbrev pub IsStatusFor : Command → List ℕ → ℕ → Type 0
+IsStatusFor command bytes status =
+    (status ≡ 7) ⊎ ((wanted : ℕ) × CallFor command (nat_lt most_bytes (length bytes)) bytes wanted × IsStatusOr wanted status)
 
 -- The bytes that a command is to have: what the source has left, where it tells that, or none.
 abbrev pub bytes_for : Bool → Option (List ℕ) → Option (List ℕ)
@@ -181,7 +188,7 @@ bytes_for false left = Some []
 
 -- The status is the one that the command and its bytes call for, where they are told.
 abbrev pub IsSettled : Command → Option (List ℕ) → ℕ → Type 0
-IsSettled command left status = IfSome (bytes_for command.reads left) (λ bytes. IsStatusOr (status_for command bytes) status)
+IsSettled command left status = IfSome (bytes_for command.reads left) (λ bytes. IsStatusFor command bytes status)
 
 -- A status that is no refusal's.
 abbrev pub IsPlain : ℕ → Type 0

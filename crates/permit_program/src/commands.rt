@@ -1,11 +1,13 @@
 // The list of the commands: which read the source, and what each makes of its bytes.
 
-ghost use Rattle.std.specs.Prelude.{◌≡◌, ◌≢◌, IfErr, IfOk};
+ghost use Rattle.std.specs.Prelude.{◌≡◌, ◌≢◌, ◌≤◌, IfErr, IfOk, length};
 ghost use Rattle.command_line.specs.Asking.{AreInRange};
 ghost use Rattle.command_line.specs.declared.asked.Task.TheVariants as task;
 ghost use Rattle.permit_program.specs.Command.{IsRefusalOf, Makes};
 ghost use Rattle.permit_program.specs.Commands.{command_of};
+ghost use Rattle.permit_program.specs.Runs.{most_bytes};
 
+use crate::audit::make_audit;
 use crate::check::make_report;
 use crate::convoy::make_convoy_report;
 use crate::design::make_design_report;
@@ -19,7 +21,7 @@ pub(crate) fn reads(asked: Asked) -> bool
     ensures { result ≡ (command_of asked).reads }
 {
     match asked.task {
-        Task::Check | Task::Day | Task::Design | Task::Convoy => true,
+        Task::Check | Task::Day | Task::Audit | Task::Design | Task::Convoy => true,
         Task::Make | Task::Trial => false,
     }
 }
@@ -28,6 +30,7 @@ pub(crate) fn reads(asked: Asked) -> bool
 pub(crate) fn make_text(alloc: Global, asked: Asked, bytes: &[u8]) -> Result<Vec<u8>, Refusal>
     requires alone { asked.task ≢ task.Day }
     requires range { AreInRange asked.options }
+    requires few { length bytes.now ≤ most_bytes }
     ensures made { IfOk result (λ text. Makes (command_of asked) bytes.now text.items) }
     ensures refused { IfErr result (IsRefusalOf (command_of asked) bytes.now) }
 {
@@ -36,6 +39,7 @@ pub(crate) fn make_text(alloc: Global, asked: Asked, bytes: &[u8]) -> Result<Vec
         Task::Check => make_report(alloc, bytes),
         Task::Make => Ok(make_day_file(alloc, options.seed, options.size)?),
         Task::Trial => Ok(make_summary(alloc, options.seed, options.size)?),
+        Task::Audit => make_audit(alloc, bytes),
         Task::Design => make_design_report(alloc, bytes),
         Task::Convoy => make_convoy_report(alloc, options, bytes),
         Task::Day => unreachable!(),

@@ -1,10 +1,15 @@
 // Laws of a run.
 
-ghost use Rattle.permit_program.specs.Laws.{EveryStatusIsNamed, ListenersHearAll, LoneDaysAreSerial, OnlyDaysTell};
+ghost use Rattle.permit_program.specs.Laws.{CommandsJudgeOnce, EveryStatusIsNamed, ListenersHearAll, LoneDaysAreSerial, OnlyDaysTell};
 
-/// Every run ends with 0 or with one of 2 to 8.
+/// Every run ends with 0 or with one of 2 to 9.
 pub fn every_status_is_named<S, K>()
     ensures { EveryStatusIsNamed S K }
+{}
+
+/// A command judges bytes in one way alone, so the status that it calls for is one.
+pub fn commands_judge_once()
+    ensures { CommandsJudgeOnce }
 {}
 
 /// A run ends with 8 only where a day is asked for.

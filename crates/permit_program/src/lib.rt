@@ -3,10 +3,11 @@
 //!
 //! The program on top hands the words and the standard streams in, and the status out. Whoever has other words, another source
 //! or another sink calls [`run`] as it does. A command is a value, `Command` in `specs/Command.antt`: what it reads, how it
-//! refuses bytes, what it promises of its text, and whom it tells. What a run gives is one record over any command, `IsRun` in
+//! judges bytes, what it promises of its text, and whom it tells. What a run gives is one record over any command, `IsRun` in
 //! `specs/Runs.antt`; what the text is that a day's run writes stands on one page, `specs/Headline.antt`.
 #![tactic(auto)]
 
+mod audit;
 mod check;
 mod commands;
 mod convoy;
@@ -19,7 +20,7 @@ mod refusal;
 mod runs;
 
 pub use laws::{
-    every_status_is_named, lone_days_are_serial, only_days_tell,
+    commands_judge_once, every_status_is_named, lone_days_are_serial, only_days_tell,
     standard_error_has_a_line_for_each_recall,
 };
 pub use notices::{LineNotice, add_listener};

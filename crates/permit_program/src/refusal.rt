@@ -1,12 +1,16 @@
 // How bytes are refused.
 
-ghost use Rattle.std.specs.Prelude.{◌≡◌};
+ghost use Rattle.std.specs.Prelude.{◌≡◌, ◌<◌, ◌∷◌, ◌++◌, [], IfOk};
+ghost use Rattle.std.specs.Fmt.{decimal};
+ghost use Rattle.std.specs.String.{string_bytes};
 ghost use Rattle.permit_program.specs.Command.{IsAnswer, IsAnswerTo};
+ghost use Rattle.permit_program.specs.Audit.{IsAnswerToText, answer_to_entry};
 ghost use Rattle.permit_program.specs.Convoy.{answer_to_convoy};
 ghost use Rattle.permit_program.specs.declared.refusal.Refusal.TheVariants as refusal;
 
 use convoy_moves::ConvoyRefusal;
 use day_text::FileRefusal;
+use journal_reader::JournalRefusal;
 use loading_report::convoy_refusal_line;
 use names::NoMemory;
 use refusal_text::{refusal_line, refusal_status};
@@ -50,6 +54,39 @@ impl Refusal {
             Err(NoMemory) => Refusal::NoMemory,
         }
     }
+
+    /// How a text that is no journal is answered: by the first line with which no journal goes on.
+    pub(crate) fn of_journal(alloc: Global, refused: JournalRefusal) -> Refusal
+        ensures { IsAnswerToText refused result }
+    {
+        let JournalRefusal::BadLine { row } = refused else {
+            return Refusal::NoMemory;
+        };
+        match numbered_line(alloc, "refused: line", row) {
+            Ok(line) => Refusal::Refused { status: 5, line },
+            Err(NoMemory) => Refusal::NoMemory,
+        }
+    }
+
+    /// How a history that is not legal is answered: by its first bad entry, counted from 0 here and from 1 in the line.
+    pub(crate) fn of_entry(alloc: Global, entry: usize) -> Refusal
+        requires { entry < 1000000 }
+        ensures { IsAnswer (answer_to_entry entry) result }
+    {
+        match numbered_line(alloc, "not legal: entry", entry as u64 + 1) {
+            Ok(line) => Refusal::Refused { status: 9, line },
+            Err(NoMemory) => Refusal::NoMemory,
+        }
+    }
+}
+
+// A line of some words and a number.
+fn numbered_line(alloc: Global, words: &str, number: u64) -> Result<String, NoMemory>
+    ensures { IfOk result (λ text. string_bytes text ≡ words.now ++ (32 ∷ (decimal number ++ (10 ∷ [])))) }
+{
+    let mut text = String::new(alloc);
+    write!(text, "{words} {number}\n")?;
+    Ok(text)
 }
 
 impl From<NoMemory> for Refusal {

@@ -69,8 +69,9 @@ const MOST_BYTES: u32 = 4_194_304;
 /// tells the subscribers of a day's recalls, and ends with its status.
 ///
 /// 0 is done; 2 words that ask for nothing; 3 a fault of the source; 4 a fault of the sink while the output was written;
-/// 5 a record that is bad, or trucks that are no convoy; 6 a record that is one too many of its kind, or more than 4,194,304 bytes; 7 no memory; 8 a fault of
-/// an object that is told of recalls, after the whole journal was written.
+/// 5 a record that is bad, trucks that are no convoy, or a text that is no journal; 6 a record that is one too many of its kind,
+/// or more than 4,194,304 bytes; 7 no memory; 8 a fault of an object that is told of recalls, after the whole journal was
+/// written; 9 a journal that is not legal for its day file.
 ///
 /// A day's actors work on threads of their own, and the gate is told how far each is. The call waits until all are done.
 /// What the office tests in their turns is counted by a counter that is made of the blank, and handed out.
@@ -145,7 +146,7 @@ pub fn refuse_words<K: Sink>(sink: &mut K) -> u8
 {
     refuse(
         sink,
-        b"usage: permit_cli check|day|make|trial|design|convoy [--seed N] [--size N] [--trucks N] [--gap N]\n",
+        b"usage: permit_cli check|day|make|trial|audit|design|convoy [--seed N] [--size N] [--trucks N] [--gap N]\n",
         2,
     )
 }

@@ -24,7 +24,7 @@ pub(crate) const TWO_RECALLS: (&str, &str) = (
      post,ann,S1,height,149,,,\n\
      end,,,,,,,\n",
     "\
-     permit-journal 1\n\
+     permit-journal 3\n\
      1 snapshot = at 0\n\
      1 submit truck 1 from 1 to 2 asked none days 2026-03-02 2026-03-06 seen 0 route 1 = issued 1 at 0 route 1\n\
      1 snapshot = at 0\n\
@@ -35,7 +35,7 @@ pub(crate) const TWO_RECALLS: (&str, &str) = (
 );
 
 /// A day file, and the journal that `day` writes for it.
-pub(crate) const DAYS: [(&str, &str); 11] = [
+pub(crate) const DAYS: [(&str, &str); 12] = [
     // One road posted at 168 in, and a load as high as that.
     (
         "\
@@ -49,7 +49,7 @@ pub(crate) const DAYS: [(&str, &str); 11] = [
          apply,ann,T1,A,B,,2026-03-02,2026-03-06\n\
          end,,,,,,,\n",
         "\
-         permit-journal 1\n\
+         permit-journal 3\n\
          1 snapshot = at 0\n\
          1 submit truck 1 from 1 to 2 asked none days 2026-03-02 2026-03-06 seen 0 route 1 = issued 1 at 0 route 1\n\
          end 2\n",
@@ -67,7 +67,7 @@ pub(crate) const DAYS: [(&str, &str); 11] = [
          apply,ann,T1,A,B,,2026-03-02,2028-02-29\n\
          end,,,,,,,\n",
         "\
-         permit-journal 1\n\
+         permit-journal 3\n\
          1 snapshot = at 0\n\
          1 submit truck 1 from 1 to 2 asked none days 2026-03-02 2028-02-29 seen 0 route 1 = issued 1 at 0 route 1\n\
          end 2\n",
@@ -90,7 +90,7 @@ pub(crate) const DAYS: [(&str, &str); 11] = [
          post,ann,S1,height,167,,,\n\
          end,,,,,,,\n",
         "\
-         permit-journal 1\n\
+         permit-journal 3\n\
          1 snapshot = at 0\n\
          1 submit truck 1 from 1 to 2 asked none days 2026-03-02 2026-03-06 seen 0 route 1 = issued 1 at 0 route 1\n\
          1 snapshot = at 0\n\
@@ -116,7 +116,7 @@ pub(crate) const DAYS: [(&str, &str); 11] = [
          apply,ann,T1,A,C,S1,2026-03-02,2026-03-06\n\
          end,,,,,,,\n",
         "\
-         permit-journal 1\n\
+         permit-journal 3\n\
          1 snapshot = at 0\n\
          1 submit truck 1 from 1 to 2 asked none days 2026-03-02 2026-03-06 seen 0 cut 1,3 = noroad\n\
          1 snapshot = at 0\n\
@@ -142,7 +142,7 @@ pub(crate) const DAYS: [(&str, &str); 11] = [
          show,ann,0,,,,,\n\
          end,,,,,,,\n",
         "\
-         permit-journal 1\n\
+         permit-journal 3\n\
          1 snapshot = at 0\n\
          1 submit truck 1 from 1 to 2 asked none days 2026-03-02 2026-03-06 seen 0 route 1 = issued 1 at 0 route 1\n\
          1 day 2026-03-01 = dayback 2026-03-02\n\
@@ -164,7 +164,7 @@ pub(crate) const DAYS: [(&str, &str); 11] = [
          apply,ann,FHWA,A,B,,2026-03-02,2026-03-06\n\
          end,,,,,,,\n",
         "\
-         permit-journal 1\n\
+         permit-journal 3\n\
          1 snapshot = at 0\n\
          1 submit truck 1 from 1 to 2 asked none days 2026-03-02 2026-03-06 seen 0 cut 1 = refused 0 segment 1 group 2-5 weight 68000 limit 65500 allowance 1038\n\
          end 2\n",
@@ -184,7 +184,7 @@ pub(crate) const DAYS: [(&str, &str); 11] = [
          apply,ann,TRI,A,B,,2026-03-02,2026-03-06\n\
          end,,,,,,,\n",
         "\
-         permit-journal 2\n\
+         permit-journal 3\n\
          1 snapshot = at 0\n\
          1 submit truck 1 from 1 to 2 asked none days 2026-03-02 2026-03-06 seen 0 route 1 = issued 1 at 0 route 1\n\
          1 post segment 1 tridem 50999 = posted 1 recalled 1\n\
@@ -205,7 +205,7 @@ pub(crate) const DAYS: [(&str, &str); 11] = [
          apply,ann,FHWA,A,B,,2026-03-02,2026-03-06\n\
          end,,,,,,,\n",
         "\
-         permit-journal 1\n\
+         permit-journal 3\n\
          1 snapshot = at 0\n\
          1 submit truck 1 from 1 to 2 asked none days 2026-03-02 2026-03-06 seen 0 route 1 = issued 1 at 0 route 1\n\
          end 2\n",
@@ -225,7 +225,7 @@ pub(crate) const DAYS: [(&str, &str); 11] = [
          apply,ann,HS20,A,B,,2026-03-02,2026-03-06\n\
          end,,,,,,,\n",
         "\
-         permit-journal 1\n\
+         permit-journal 3\n\
          1 snapshot = at 0\n\
          1 submit truck 1 from 1 to 2 asked none days 2026-03-02 2026-03-06 seen 0 route 1 = issued 1 at 0 route 1\n\
          1 post span 1 rating 999 = posted 1 recalled 1\n\
@@ -246,7 +246,7 @@ pub(crate) const DAYS: [(&str, &str); 11] = [
          apply,ann,T1,A,B,,2026-03-02,2026-03-06\n\
          end,,,,,,,\n",
         "\
-         permit-journal 1\n\
+         permit-journal 3\n\
          1 snapshot = at 0\n\
          1 submit truck 1 from 1 to 2 asked none days 2026-03-02 2026-03-06 seen 0 none = notneeded\n\
          end 2\n",
@@ -264,10 +264,32 @@ pub(crate) const DAYS: [(&str, &str); 11] = [
          apply,ann,T1,A,B,,2026-03-01,2026-03-06\n\
          end,,,,,,,\n",
         "\
-         permit-journal 1\n\
+         permit-journal 3\n\
          1 snapshot = at 0\n\
          1 submit truck 1 from 1 to 2 asked none days 2026-03-01 2026-03-06 seen 0 route 1 = late 2026-03-02\n\
          end 2\n",
+    ),
+    // A permit for a year on two routes, of which a posting closes the second.
+    (
+        "\
+         day,2026-03-02,,,,,,\n\
+         node,A,,,,,,\n\
+         node,B,,,,,,\n\
+         node,C,,,,,,\n\
+         segment,S1,A,B,1000,,,\n\
+         segment,S2,A,C,1000,,,\n\
+         segment,S3,C,B,1000,,,\n\
+         truck,T1,ACME,168,102,720,0:12000 180:17000 228:17000,\n\
+         actor,ann,,,,,,\n\
+         apply,ann,T1,A,B,S1|S2 S3,2026-03-02,2027-03-02\n\
+         post,ann,S3,closed,1,,,\n\
+         end,,,,,,,\n",
+        "\
+         permit-journal 3\n\
+         1 snapshot = at 0\n\
+         1 submit truck 1 from 1 to 2 asked 1/2,3 days 2026-03-02 2027-03-02 seen 0 route 1/2,3 = issued 1 at 0 route 1/2,3\n\
+         1 post segment 3 closed 1 = posted 1 recalled 1\n\
+         end 3\n",
     ),
 ];
 
@@ -299,7 +321,7 @@ pub(crate) const MEETING: &str = "\
 
 /// Its journal, where the posting comes between what the first found and its submit.
 pub(crate) const MET: &str = "\
-    permit-journal 1\n\
+    permit-journal 3\n\
     1 snapshot = at 0\n\
     2 post segment 1 height 167 = posted 1 recalled -\n\
     1 submit truck 1 from 1 to 2 asked none days 2026-03-02 2026-03-06 seen 0 route 1 = outdated 1 fails segment 1 height 168 over 167\n\
@@ -324,28 +346,28 @@ pub(crate) const BOTH: &str = "\
 /// Its journals, where each has found a route before either submits: who looks first may submit last.
 pub(crate) const BOTH_ISSUED: [&str; 4] = [
     "\
-    permit-journal 1\n\
+    permit-journal 3\n\
     1 snapshot = at 0\n\
     2 snapshot = at 0\n\
     1 submit truck 1 from 1 to 2 asked none days 2026-03-02 2026-03-06 seen 0 route 1 = issued 1 at 0 route 1\n\
     2 submit truck 1 from 1 to 2 asked none days 2026-03-02 2026-03-06 seen 0 route 1 = issued 2 at 0 route 1\n\
     end 4\n",
     "\
-    permit-journal 1\n\
+    permit-journal 3\n\
     1 snapshot = at 0\n\
     2 snapshot = at 0\n\
     2 submit truck 1 from 1 to 2 asked none days 2026-03-02 2026-03-06 seen 0 route 1 = issued 1 at 0 route 1\n\
     1 submit truck 1 from 1 to 2 asked none days 2026-03-02 2026-03-06 seen 0 route 1 = issued 2 at 0 route 1\n\
     end 4\n",
     "\
-    permit-journal 1\n\
+    permit-journal 3\n\
     2 snapshot = at 0\n\
     1 snapshot = at 0\n\
     1 submit truck 1 from 1 to 2 asked none days 2026-03-02 2026-03-06 seen 0 route 1 = issued 1 at 0 route 1\n\
     2 submit truck 1 from 1 to 2 asked none days 2026-03-02 2026-03-06 seen 0 route 1 = issued 2 at 0 route 1\n\
     end 4\n",
     "\
-    permit-journal 1\n\
+    permit-journal 3\n\
     2 snapshot = at 0\n\
     1 snapshot = at 0\n\
     2 submit truck 1 from 1 to 2 asked none days 2026-03-02 2026-03-06 seen 0 route 1 = issued 1 at 0 route 1\n\
@@ -375,7 +397,7 @@ pub(crate) const OVERTAKING: &str = "\
 
 /// Its journal, where a posting comes between what the first found and its submit in each of its eight attempts.
 pub(crate) const OVERTAKEN: &str = "\
-    permit-journal 1\n\
+    permit-journal 3\n\
     1 snapshot = at 0\n\
     2 post segment 1 closed 1 = posted 1 recalled -\n\
     1 submit truck 1 from 1 to 2 asked none days 2026-03-02 2026-03-06 seen 0 route 1 = outdated 1 fails segment 1 closed\n\

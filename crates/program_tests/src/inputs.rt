@@ -102,7 +102,7 @@ fn counts_commands(rt: HostRuntime) {
         asking(&rt, alloc, 4_097, ""),
     );
     let line = "1 show 0 = unknown\n";
-    let journal = repeated(&rt, alloc, "permit-journal 1\n", line, 4_096, "end 4096\n");
+    let journal = repeated(&rt, alloc, "permit-journal 3\n", line, 4_096, "end 4096\n");
     ends(&rt, &["day"], most.as_bytes(), 0, journal.as_str());
     let refused = "refused: record 4099 commands\n";
     ends(&rt, &["day"], more.as_bytes(), 6, refused);

@@ -22,7 +22,7 @@ const HS20: &str =
     "truck,HS20,ACME,150,102,500,0:8000 168:32000 336:32000,\nprobe,240,963,,,,,\nend,,,,,,,\n";
 
 const USAGE: &str =
-    "usage: permit_cli check|day|make|trial|design|convoy [--seed N] [--size N] [--trucks N] [--gap N]\n";
+    "usage: permit_cli check|day|make|trial|audit|design|convoy [--seed N] [--size N] [--trucks N] [--gap N]\n";
 
 // One actor too many.
 const SEVENTEEN: &str = "\
@@ -459,5 +459,5 @@ fn runs_sixteen_actors(rt: HostRuntime) {
 #[test]
 fn runs_no_actor(rt: HostRuntime) {
     let input = b"day,2026-03-02,,,,,,\nend,,,,,,,\n";
-    ends(&rt, &["day"], input, 0, "permit-journal 1\nend 0\n");
+    ends(&rt, &["day"], input, 0, "permit-journal 3\nend 0\n");
 }

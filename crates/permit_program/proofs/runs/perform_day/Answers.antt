@@ -8,8 +8,9 @@ use Rattle.permit_program.specs.Command.{IsRefusalOf, MakesAndTells}
 use Rattle.permit_program.specs.Commands.{command_by, command_of}
 use Rattle.permit_program.specs.Day.{day}
 use Rattle.permit_program.specs.Headline.{CountedHeadline}
+use Rattle.permit_program.specs.Endings.{AnswersText}
 use Rattle.permit_program.specs.Runs.{IsRun, Told, Took, desk_at, outside_of}
-use Rattle.permit_program.proofs.Ends.{ends_refused, ends_untold, whole}
+use Rattle.permit_program.proofs.Ends.{ends_made, ends_refused, ends_untold, whole}
 use Rattle.permit_program.proofs.runs.perform_day.Goals as goal
 
 pub returns-in-Err-make_journal-clause-run : goal.returns-in-Err-make_journal-clause-run
@@ -25,6 +26,22 @@ returns-in-Err-make_journal-clause-run g c = λ asked is.
     (subst (λ (b : List ℕ). IsRefusalOf day b refusal) c.as_slice.ensures.value c.in-Err-make_journal.ensures.refused) in
     subst (λ (n : ℕ). IsRun (Some asked) before after n) (sym c.uncounted-in-Err-make_journal.ensures.status)
     (ends_refused asked before after c.take_bytes.ensures.most bytes took c.in-Ok.ensures.few c.in-Ok.ensures.calm refusal c.end_refused.result refused c.end_refused.ensures refl)
+
+pub returns-then-status-ne0-clause-run : goal.returns-then-status-ne0-clause-run
+returns-then-status-ne0-clause-run g c = λ asked is.
+    let outside = outside_of g.S.Source.left g.S.Source.faults g.K.Sink.held g.K.Sink.faults in
+    let desk_now = desk_at (λ n. (g.dyn-1.0.entry n.vtable).1.list n.value) (λ n. (g.dyn-1.0.entry n.vtable).1.faults n.value) (λ n. (g.dyn-1.0.entry n.vtable).1.text n.value) in
+    let before = outside c.args.source.now c.args.sink.now (desk_now c.args.notices.now) in
+    let after = outside c.take_bytes.new.source c.end_made-status.new.sink (desk_now c.args.notices.now) in
+    let bytes = c.in-Ok.bytes.items in
+    let text = c.in-Ok-make_journal.day.journal.items in
+    let recalls = c.in-Ok-make_journal.day.recalls.items in
+    let took : Took (command_of asked).reads before.source after.source bytes = subst (λ (t : Task). Took (command_by t asked.options).reads before.source after.source bytes) (sym is) c.in-Ok.ensures.took in
+    let made : MakesAndTells (command_of asked) bytes text recalls = subst (λ (t : Task). MakesAndTells (command_by t asked.options) bytes text recalls) (sym is)
+    (subst (λ (b : List ℕ). MakesAndTells day b text recalls) c.as_slice.ensures.value c.in-Ok-make_journal.ensures.made) in
+    let answered : AnswersText text before.sink after.sink c.end_made-status.result = subst (λ (t : List ℕ). AnswersText t before.sink after.sink c.end_made-status.result) c.as_slice-2.ensures.value c.end_made-status.ensures in
+    subst (λ (n : ℕ). IsRun (Some asked) before after n) (sym c.uncounted-then-status-ne0.ensures.status)
+    (ends_made asked before after c.take_bytes.ensures.most bytes took c.in-Ok.ensures.few c.in-Ok.ensures.calm text made.made c.end_made-status.result answered (λ zero. absurd (c.if-status-ne0.true zero)) refl)
 
 pub returns-in-Ok-deliver-clause-run : goal.returns-in-Ok-deliver-clause-run
 returns-in-Ok-deliver-clause-run g c = λ asked is.
