@@ -3,10 +3,12 @@ import subprocess
 from dataclasses import dataclass
 
 from cases.families import Case
+from model.audit import audited
 from model.files import CheckFile, DayFile, Refused
 from model.journal import Wrong, alone, judge
 from model.making import made_day, trial
 from model.report import convoy_report, design_report, report
+from model.reroute import rerouted
 from model.words import USAGE, asked
 
 SECONDS = 120
@@ -29,6 +31,8 @@ def ran(program: str, case: Case) -> Ran:
 
 def wanted(case: Case) -> Ran | DayFile:
     """What has to come: a run, or, for a day of several actors, the day file, whose journal has to be judged."""
+    if case.words == ["reroute"]:
+        return Ran(*rerouted(case.data))
     found = asked(case.words)
     if found is None:
         return Ran(2, USAGE)
@@ -43,6 +47,8 @@ def wanted(case: Case) -> Ran | DayFile:
             return Ran(0, made_day(found.seed, found.size))
         if found.command == "trial":
             return Ran(0, trial(found.seed, found.size))
+        if found.command == "audit":
+            return Ran(*audited(case.data))
         day = DayFile(case.data)
     except Refused as refused:
         return Ran(refused.status, refused.line)

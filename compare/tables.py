@@ -1,4 +1,4 @@
-"""Published tables, compared with the program and with the model. Their values are as printed, and come from neither.
+"""Tables, compared with the program and with the model. Their values are as printed or worked by hand, from neither.
 
 - The federal bridge formula table: "Bridge Formula Weights", Federal Highway Administration, table B, for 23 CFR
   658.17(e). A row is a spread in feet; its columns are 2 to 9 axles, in thousands of pounds. The line 'more than 8'
@@ -11,6 +11,8 @@
 - The same table where the lane load gives the shear, and from 145 feet on the moment too. These spans are compared with
   `design`, and so are those of 40 feet and more above; on shorter ones the military loading gives more than the table.
   They were written down from memory, and were not held against the printed page.
+- A day with an annual permit on two routes, worked by hand: its journal, and the causes for which three others like it
+  are refused. So are audits of that journal beside its day, and of others like it, which are not legal or no journals.
 
 Three more things are tried on the model: that no second spacing of HS20-44 from 14 to 30 ft exceeds 14 ft; that no
 place of some trucks, at whole and at half inches, exceeds the peaks; and that no places of two trucks with at least a
@@ -21,10 +23,13 @@ from collections.abc import Iterator, Sequence
 from fractions import Fraction
 from typing import NamedTuple
 
+from model.audit import audited
 from model.bridges import HS20, closest, design, moment, peak_moment, peak_shear
-from model.files import CheckFile
+from model.files import CheckFile, DayFile, Refused
+from model.journal import alone
 from model.limits import Axles
 from model.report import design_report, report
+from model.reroute import MOST_ENTRIES, rerouted
 
 FORMULA = """
 8+ 38 42
@@ -98,6 +103,37 @@ LANE = """
 240 5688.0 102.8
 300 8550.0 122.0
 """
+
+
+ANNUAL = """
+day,2026-03-02,,,,,,
+node,A,,,,,,
+node,B,,,,,,
+node,C,,,,,,
+segment,S1,A,B,1000,,,
+segment,S2,A,C,1000,,,
+segment,S3,C,B,1000,,,
+truck,T1,ACME,168,102,720,0:12000 180:17000 228:17000,
+actor,ann,,,,,,
+apply,ann,T1,A,B,S1|S2 S3,2026-03-02,2027-03-02
+post,ann,S3,closed,1,,,
+end,,,,,,,
+"""
+
+ANNUAL_JOURNAL = """
+permit-journal 3
+1 snapshot = at 0
+1 submit truck 1 from 1 to 2 asked 1/2,3 days 2026-03-02 2027-03-02 seen 0 route 1/2,3 = issued 1 at 0 route 1/2,3
+1 post segment 3 closed 1 = posted 1 recalled 1
+end 3
+"""
+
+# what is written instead in that day or in its journal, and the line that comes of it
+ANNUAL_REFUSED = (
+    ("2027-03-02", "2027-03-03", "refused: record 10 annual-days"),
+    ("S1|S2 S3", "S1|", "refused: record 10 field 6"),
+    ("S1|S2 S3", "S1|S2", "refused: record 10 broken-route"),
+)
 
 
 class FormulaRow(NamedTuple):
@@ -248,9 +284,139 @@ def wrong_convoys() -> Iterator[str]:
             yield f"model: two trucks with more than {gap} in between them exceed those with {gap} on {span} in"
 
 
+def day_said(program: str | None, text: str) -> str:
+    """What `day` says of a day file: by the program, or by the model where there is none."""
+    data = text.encode()
+    if program is not None:
+        return subprocess.run([program, "day"], input=data, capture_output=True).stdout.decode("latin-1")
+    try:
+        return alone(DayFile(data))[0]
+    except Refused as refused:
+        return refused.line
+
+
+def wrong_annual(program: str | None, name: str) -> Iterator[str]:
+    """The day of the annual permit has its journal, and those like it are refused."""
+    day = ANNUAL.lstrip()
+    rows = [(day, ANNUAL_JOURNAL.lstrip())]
+    rows += [(day.replace(old, new), f"{line}\n") for old, new, line in ANNUAL_REFUSED]
+    for text, wanted in rows:
+        told = day_said(program, text)
+        if told != wanted:
+            yield f"{name}: a day of an annual permit: {told!r} is not {wanted!r}"
+
+
+# what is written instead in the journal of that day or in the day behind it, and what an audit answers
+ENTRIES = ANNUAL_JOURNAL.lstrip().partition("\n")[2]
+AUDITED = (
+    ("", "", (0, "legal 3\n")),
+    ("issued 1 at 0 route 1/2,3\n1 post segment 3 closed 1 = posted 1 recalled 1", "nomemory\n"
+     "1 post segment 3 closed 1 = posted 1 recalled -", (0, "legal 3\n")),
+    ("issued 1 at 0 route 1/2,3", "nomemory", (9, "not legal: entry 3\n")),
+    ("= at 0", "= nomemory", (9, "not legal: entry 1\n")),
+    ("seen 0", "seen 1", (9, "not legal: entry 2\n")),
+    ("closed 1 = posted 1 recalled 1", "closed 1 = posted 1 recalled -", (9, "not legal: entry 3\n")),
+    ("= issued 1 at 0 route 1/2,3", "= notneeded", (9, "not legal: entry 2\n")),
+    ("seen 0 route 1/2,3 = issued 1 at 0 route 1/2,3", "seen 0 route 1 = issued 1 at 0 route 1",
+     (9, "not legal: entry 2\n")),
+    ("permit-journal 3", "permit-journal 2", (5, "refused: line 3\n")),
+    (ENTRIES, "", (5, "refused: line 2\n")),
+    ("end 3\n", "", (5, "refused: line 5\n")),
+    ("end 3", "end 4", (5, "refused: line 5\n")),
+    (ANNUAL.lstrip(), "", (5, "refused: record 1 end\n")),
+    ("end,,,,,,,", "end 0", (5, "refused: record 12 fields\n")),
+    ("S1|S2 S3,2026-03-02,2027-03-02", "S1|S2 S3,2026-03-02,2027-03-03", (5, "refused: record 10 annual-days\n")),
+    ("node,C,,,,,,", "node,C,,,,,", (5, "refused: record 4 fields\n")),
+)
+
+
+def wrong_audit(program: str | None, name: str) -> Iterator[str]:
+    """The journal of the day of the annual permit is legal, and those like it are not, or are no journals."""
+    for old, new, wanted in AUDITED:
+        data = f"{ANNUAL_JOURNAL.lstrip()}{ANNUAL.lstrip()}".replace(old, new, 1).encode()
+        if program is None:
+            told = audited(data)
+        else:
+            run = subprocess.run([program, "audit"], input=data, capture_output=True)
+            told = run.returncode, run.stdout.decode("latin-1")
+        if told != wanted:
+            yield f"{name}: an audit with {new!r} for {old!r}: {told} is not {wanted}"
+
+
+# the commands behind the roads, the truck and the actor of that day, and what `reroute` writes
+TRIP = "apply,ann,T1,A,B,,2026-03-02,2026-03-06"
+REROUTED = (
+    ((TRIP, "post,ann,S1,closed,1", "post,ann,S3,closed,1"),
+     "permit 1 replaced 2 at 1 route 2,3\npermit 2 refused 2 segment 1 closed\n"),
+    # the desk's permits are no actor's
+    ((TRIP, "post,ann,S1,closed,1", "surrender,ann,2", "post,ann,S3,closed,1"),
+     "permit 1 replaced 2 at 1 route 2,3\npermit 2 refused 2 segment 1 closed\n"),
+    # a replacement is a permit as others are
+    ((TRIP, "post,ann,S1,closed,1", "post,ann,S1,closed,0", "post,ann,S3,closed,1"),
+     "permit 1 replaced 2 at 1 route 2,3\npermit 2 replaced 3 at 3 route 1\n"),
+    ((TRIP, TRIP, "post,ann,S1,height,167", "post,ann,S2,height,167"),
+     "permit 1 replaced 3 at 1 route 2,3\npermit 2 replaced 4 at 1 route 2,3\n"
+     "permit 3 refused 2 segment 1 height 168 over 167\npermit 4 refused 2 segment 1 height 168 over 167\n"),
+    # what was refused is not tried again
+    ((TRIP, "post,ann,S2,closed,1", "post,ann,S1,closed,1", "post,ann,S2,closed,0"),
+     "permit 1 refused 2 segment 1 closed\n"),
+    # a route that was asked for is not asked for again, nor are several
+    (("apply,ann,T1,A,B,S2 S3,2026-03-02,2026-03-06", "post,ann,S2,closed,1"), "permit 1 replaced 2 at 1 route 1\n"),
+    (("apply,ann,T1,A,B,S1|S2 S3,2026-03-02,2027-03-02", "post,ann,S3,closed,1"), "permit 1 replaced 2 at 1 route 1\n"),
+    # from today on, to the last day of the permit; and an expired one is not recalled
+    ((TRIP, "setday,ann,2026-03-06", "post,ann,S1,closed,1", "setday,ann,2026-03-07", "post,ann,S2,closed,1"),
+     "permit 1 replaced 2 at 1 route 2,3\n"),
+    ((TRIP, "surrender,ann,1", "post,ann,S1,closed,1"), ""),
+    (("apply,ann,T1,A,B,S1|S2 S3,2026-03-02,2027-03-03",), "refused: record 10 annual-days\n"),
+)
+
+
+def rerouting(commands: Sequence[str]) -> bytes:
+    """The day of the annual permit with other commands."""
+    front = ANNUAL.lstrip().partition("apply,")[0].splitlines()
+    return "".join(f"{row}{',' * (7 - row.count(','))}\n" for row in (*front, *commands, "end")).encode()
+
+
+def crowded_desk(shows: int) -> bytes:
+    """A thousand permits, all recalled and replaced 996 times, which are 999,991 entries; and so many shows."""
+    rounds = [f"post,ann,{segment},closed,{value}" for segment in ("S1", "S3") for value in (1, 0)] * 498
+    return rerouting([TRIP] * 1000 + rounds[:-1] + ["show,ann,1"] * shows)
+
+
+def reroute_said(program: str | None, data: bytes) -> tuple[int, str]:
+    """What `reroute` says of a day file: by the program, or by the model where there is none."""
+    if program is None:
+        return rerouted(data)
+    run = subprocess.run([program, "reroute"], input=data, capture_output=True)
+    return run.returncode, run.stdout.decode("latin-1")
+
+
+def wrong_reroute(program: str | None, name: str) -> Iterator[str]:
+    """Recalled permits are applied for again."""
+    for commands, text in REROUTED:
+        told = reroute_said(program, rerouting(commands))
+        if told != (5 if text.startswith("refused") else 0, text):
+            yield f"{name}: reroute after {commands}: {told} is not {text!r}"
+
+
+def wrong_crowded_desk(program: str | None, name: str) -> Iterator[str]:
+    """A day of as many entries as there may be is taken, and one of one more is refused."""
+    at_most, beyond = (reroute_said(program, crowded_desk(MOST_ENTRIES - 999991 + more)) for more in (0, 1))
+    if at_most[0] != 0 or at_most[1].count("\n") != 996000 or beyond != (10, "refused: entries\n"):
+        yield f"{name}: reroute at {MOST_ENTRIES} entries: {at_most[0]}, {at_most[1][:100]!r}, and then {beyond}"
+
+
+def compared_reroutes(program: str) -> tuple[int, list[str]]:
+    """How many days for `reroute` were compared, and what is wrong. The model takes too long for a crowded desk."""
+    wrong = [*wrong_reroute(program, "program"), *wrong_crowded_desk(program, "program"), *wrong_reroute(None, "model")]
+    return len(REROUTED) + 2, wrong
+
+
 def compared(program: str) -> tuple[int, list[str]]:
     """How many rows were compared, and what is wrong."""
     wrong = [*wrong_spacing(), *wrong_peaks(), *wrong_convoys()]
     for tried, name in ((program, "program"), (None, "model")):
         wrong += [*wrong_formula(tried, name), *wrong_aashto(tried, name), *wrong_governing(tried, name)]
-    return len(list(formula_rows())) + len(list(aashto_rows(AASHTO + LANE.lstrip()))), wrong
+        wrong += [*wrong_annual(tried, name), *wrong_audit(tried, name)]
+    printed = len(list(formula_rows())) + len(list(aashto_rows(AASHTO + LANE.lstrip())))
+    return printed + 1 + len(ANNUAL_REFUSED) + len(AUDITED), wrong

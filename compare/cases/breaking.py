@@ -1,12 +1,15 @@
 """Ways to break a file. What comes of one may still be good; that is for the model to say."""
-from collections.abc import Collection, Iterator, Sequence
+from collections.abc import Callable, Collection, Iterator, Sequence
 from dataclasses import dataclass
 from random import Random
 
 from model.files import CHECK_KINDS, DAY_KINDS
-from model.forms import LIMITS, POSTED
+from model.forms import LIMITS, MOST_ROUTES, POSTED
 
 from .texts import Record
+
+# what breaks some records
+Way = Callable[[Random, list[Record]], None]
 
 BAD_NUMBERS = (
     "", "-1", "+1", " 1", "1 ", "1.0", "1e3", "0x10", "1,000", "1234567890", "0000000001", "000000001", "\u0661", "one",
@@ -22,7 +25,20 @@ BAD_DAYS = (
     "2026-13-01", "2026-04-31", "2026-12-00", "2026-12-32", "10000-01-01", "2026-03-0\u0662",
 )
 BAD_WORDS = ("", "Height", "rating", "closed ", "weight", "height", "allowance", "axle")
-BAD_ROUTES = (" ", "a  b", "a ", " a", "a,b", "\u00e4", "x" * 17)
+BAD_ROUTES = (" ", "a  b", "a ", " a", "a,b", "\u00e4", "x" * 17, "|", "a|", "|a", "a||b", "a/b", "a|b ", "a|b|" * 4)
+# one route, and all of an application, with bars where none is to be or only spaces are, or just right
+BARS = (
+    "{0}|", "|{0}", "{1}|", "|{1}", "{0}||{0}", "{1}||{0}", "{0} |{0}", "{0}| {0}", "{0} | {0}", "|", "||", "{0}|{0}",
+    "{1}|{0}", "{0};{0}", "{0}/{0}", "{1}|\u00e4",
+)
+# days that are a year apart, or one day more
+YEARS = (
+    ("2026-03-02", "2027-03-02"), ("2026-03-02", "2027-03-03"), ("2027-03-01", "2028-02-29"),
+    ("2027-03-01", "2028-03-01"), ("2028-02-29", "2029-02-28"), ("2028-02-29", "2029-03-01"),
+    ("2028-03-01", "2029-03-01"), ("2028-03-01", "2029-03-02"), ("2099-03-01", "2100-03-01"),
+    ("2099-03-01", "2100-03-02"), ("0001-01-01", "0002-01-01"), ("0001-01-01", "0002-01-02"),
+    ("9998-12-31", "9999-12-31"), ("9998-12-30", "9999-12-31"), ("2026-03-02", "9999-12-31"),
+)
 BAD_KINDS = ("", "Node", "node ", "nodes", " day", "truck", "probe", "day", "end", "span", "#", "\ufeffday")
 TRAINS = (
     [(0, 8000)], [(i, 1) for i in range(33)], [(1, 8000), (2, 8000)], [(0, 1), (0, 1)], [(0, 1), (5, 1), (4, 1)],
@@ -176,14 +192,62 @@ def trip(rng: Random, records: list[Record]) -> None:
     elif how == 2 and nodes:
         record[rng.choice((3, 4))] = rng.choice(nodes)
     elif segments:
-        route = [*str(record[5]).split(), str(rng.choice(segments))]
+        routes = [route.split() for route in routes_of(record)]
+        route = rng.choice(routes)
+        route.append(str(rng.choice(segments)))
         if how == 3:
             rng.shuffle(route)
-        record[5] = " ".join(route)
+        record[5] = "|".join(" ".join(route) for route in routes)
 
 
+def routes_of(record: Record) -> list[str]:
+    """The routes of an application, as they are written."""
+    return str(record[5]).split("|")
+
+
+def bars(rng: Random, records: list[Record]) -> None:
+    """An application whose routes are written otherwise, or that has about as many as there may be."""
+    record = asking(rng, records)
+    if record:
+        routes = routes_of(record)
+        if rng.random() < 0.5:
+            record[5] = rng.choice(BARS).format(routes[0], "|".join(routes))
+        else:
+            count = rng.choice((MOST_ROUTES - 1, MOST_ROUTES, MOST_ROUTES, MOST_ROUTES + 1, 2 * MOST_ROUTES))
+            record[5] = "|".join(rng.choice(routes) for _ in range(count))
+
+
+def year(rng: Random, records: list[Record]) -> None:
+    """An application for one route or for two between days that are about a year apart."""
+    record = asking(rng, records)
+    if record:
+        record[6:] = rng.choice(YEARS)
+        if rng.random() < 0.8:
+            routes = routes_of(record)
+            record[5] = "|".join((*routes, routes[0]))
+
+
+def second(rng: Random, records: list[Record]) -> None:
+    """An application whose first route is good, and whose second one is not."""
+    record = asking(rng, records)
+    if record:
+        route = routes_of(record)[0]
+        segments = [str(it[1]) for it in records if len(it) == 8 and it[0] == "segment"] or ["nowhere"]
+        backwards = " ".join(reversed(route.split()))
+        other = rng.choice((f"{route} {rng.choice(segments)}", rng.choice(segments), backwards, f"{route} nowhere"))
+        record[5] = f"{route}|{other}"
+
+
+def asking(rng: Random, records: Sequence[Record]) -> Record | None:
+    """An application for a route or for several, if there is one."""
+    asking = [record for record in records if len(record) == 8 and record[0] == "apply" and record[5]]
+    return rng.choice(asking) if asking else None
+
+
+ROUTE_WAYS = (bars, year, year, second)
 WAYS = (
     fields, kind, order, extra, field, field, field, range_, range_, date, same, unknown, train, train, trip, trip,
+    *ROUTE_WAYS,
 )
 
 
@@ -215,11 +279,11 @@ def set_number(rng: Random, records: list[Record], end: End) -> None:
             record[end.column - 1] = end.what
 
 
-def broken(rng: Random, records: Sequence[Record]) -> list[Record]:
-    """A file that is broken in one to three places."""
+def broken(rng: Random, records: Sequence[Record], ways: Sequence[Way] = WAYS) -> list[Record]:
+    """A file that is broken in one to three places, in some of these ways."""
     copied = [list(record) for record in records]
     for _ in range(rng.choice((1, 1, 1, 2, 3))):
-        rng.choice(WAYS)(rng, copied)
+        rng.choice(ways)(rng, copied)
     return copied
 
 

@@ -6,8 +6,10 @@ from random import Random
 from model.records import MOST_BYTES
 from model.words import COMMANDS
 
-from .breaking import broken, ends, scratched, set_number
+from .annual import annual_file
+from .breaking import ROUTE_WAYS, broken, ends, scratched, set_number, trip
 from .files import check_file, day_file
+from .forging import broken_part, forged, legal
 from .texts import Field, Record, dressed, full, plain
 
 AXLES = "0:12000 180:17000 228:17000"
@@ -15,7 +17,7 @@ TRUCK: tuple[Field, ...] = ("truck", "t", "c", 168, 110, 720, AXLES)
 SMALL_TRUCK: tuple[Field, ...] = ("c", 150, 100, 500, "0:8000 168:32000")
 DAY = "2026-03-02"
 WORDS = (
-    "check", "day", "make", "trial", "design", "convoy", "--seed", "--size", "--trucks", "--gap", "--seed=5",
+    "check", "day", "make", "trial", "audit", "design", "convoy", "--seed", "--size", "--trucks", "--gap", "--seed=5",
     "--size=2", "--trucks=3", "--gap=48", "7", "+5", "007", "-1", "65535", "65536", "0", "40", "41", "--help", "-h",
     "--version", "--seeds", "--", "", "Check", "--seed=", "--size=1.5", "--seed=-0", "\u00e4", "\udcff",
 )
@@ -47,6 +49,37 @@ def good_day(rng: Random) -> Case:
 def crowded_day(rng: Random) -> Case:
     """Several actors, each on a thread."""
     return Case(["day"], plain(day_file(rng, rng.choice((2, 3, 5, 16)), rng.choice((10, 60, 150)))))
+
+
+def annual_day(rng: Random) -> Case:
+    """One actor with annual permits, on routes that are closed and opened."""
+    return Case(["day"], plain(annual_file(rng)))
+
+
+def annual_crowd(rng: Random) -> Case:
+    """Several actors who apply for annual permits, and one who posts on the routes meanwhile."""
+    return Case(["day"], plain(annual_file(rng, rng.choice((2, 4, 8, 16)), rng.choice((60, 200, 400)))))
+
+
+def broken_annual(rng: Random) -> Case:
+    """A day of annual permits that is broken where it speaks of routes."""
+    records = broken(rng, annual_file(rng, 1, rng.choice((3, 10))), (*ROUTE_WAYS, *ROUTE_WAYS, trip))
+    return Case(["day"], dressed(rng, records))
+
+
+def legal_journal(rng: Random) -> Case:
+    """The journal of a legal history, for its day file."""
+    return Case(["audit"], legal(rng))
+
+
+def forged_journal(rng: Random) -> Case:
+    """A journal that is forged in an entry or two."""
+    return Case(["audit"], forged(rng))
+
+
+def broken_audit(rng: Random) -> Case:
+    """What is no journal, or no day file, to audit."""
+    return Case(["audit"], broken_part(rng))
 
 
 def dressed_file(rng: Random) -> Case:
@@ -139,8 +172,8 @@ def many(rng: Random) -> Case:
         probes = [full(["probe", 240, 900])] * (64 + more)
         return Case(["check"], plain([full(["truck", "t", *SMALL_TRUCK]), *probes, full(["end"])]))
     if kind == "bytes":
-        data = day_of([["node", "a"]]).data
-        return Case(["day"], data + b"\n" * (MOST_BYTES + more - len(data)))
+        made = rng.choice((day_of([["node", "a"]]), Case(["audit"], legal(rng))))
+        return Case(made.words, made.data + b"\n" * (MOST_BYTES + more - len(made.data)))
     return day_of(MANY[kind](more))
 
 
@@ -215,7 +248,8 @@ def at_an_end(rng: Random, number: int = 0) -> Case:
 FAMILIES: tuple[Callable[[Random], Case], ...] = (
     good_check, good_day, broken_check, broken_day, scratched_file, crowded_day, good_check, good_day, broken_day,
     dressed_file, grid_day, scratched_file, good_day, made, tried, worded, broken_day, crowded_day, far_day, many,
-    at_an_end, at_an_end,
+    at_an_end, at_an_end, at_an_end, annual_day, annual_crowd, broken_annual, annual_day, annual_crowd, broken_annual,
+    forged_journal, legal_journal, forged_journal, broken_audit, at_an_end,
 )
 
 
@@ -239,6 +273,20 @@ def cases(seed: int) -> list[Case]:
     trucks, gap = rng.choice((2, 2, 2, 3, 16)), rng.choice((1, 48, 360, 3000, rng.randint(1, 3000)))
     convoy = ["convoy", "--trucks", str(trucks), "--gap", str(gap)]
     return [Case(words, made.data) for words in (made.words, ["design"], ["convoy"], convoy)]
+
+
+def reroute_cases(seed: int) -> list[Case]:
+    """A day file for `reroute`: mostly one on which permits are recalled, at times one that is broken."""
+    rng = Random(seed)
+    actors = rng.choice((1, 1, 2, 5))
+    ways: tuple[Callable[[], bytes], ...] = (
+        lambda: plain(annual_file(rng, actors, rng.choice((30, 60, 200)))),
+        lambda: plain(annual_file(rng, actors, rng.choice((30, 60, 200)))),
+        lambda: plain(day_file(rng, actors, rng.choice((10, 60, 150)))),
+        lambda: grid_day(rng).data,
+        lambda: rng.choice((broken_day, broken_annual))(rng).data,
+    )
+    return [Case(["reroute"], rng.choice(ways)())]
 
 
 def family(seed: int) -> str:

@@ -4,7 +4,8 @@ from collections.abc import Sequence
 from random import Random
 from typing import NamedTuple
 
-from model.forms import RANGES
+from model.files import MOST_ANNUAL_DAYS
+from model.forms import MOST_ROUTES, RANGES
 from model.trucks import Truck
 
 from . import trucks
@@ -87,7 +88,7 @@ class Day:
             self.add("limit", *self.limit(rng.choice(self.segments).name))
         self.spans = [self.span() for _ in range(rng.choice((0, 1, len(self.segments))))]
         self.actors = [self.define("actor") for _ in range(actors)]
-        # how many permits there may be, the days that have passed, and the route that was asked for last
+        # how many permits there may be, the days that have passed, and the segments that were asked for last
         self.issued, self.passed = 0, 0
         self.asked: list[str] = []
         for _ in range(commands):
@@ -125,7 +126,8 @@ class Day:
     def limit(self, segment: str) -> tuple[str, str, str]:
         """A limit of a segment, mostly about what some truck has."""
         rng, it = self.rng, self.rng.choice(self.trucks)
-        what = rng.choice(("closed", "closed", "height", "width", "length", "gross", "allowance", "allowance", "tridem"))
+        what = rng.choice(("closed", "closed", "height", "width", "length", "gross", "allowance", "allowance",
+                           "tridem"))
         least, most = RANGES[what]
         if what == "closed":
             value = rng.randrange(2)
@@ -156,6 +158,15 @@ class Day:
             at = segment.end
         return route, at
 
+    def walks(self, start: str) -> tuple[list[list[str]], str]:
+        """Asked routes from a node, one or several, and where they end."""
+        rng = self.rng
+        route, end = self.walk(start)
+        if rng.random() < 0.5:
+            return [route], end
+        others = [other for other, at in (self.walk(start) for _ in range(12)) if at == end]
+        return [route, *(rng.choice([route, *others]) for _ in range(rng.choice((1, 1, 2, MOST_ROUTES - 1))))], end
+
     def command(self) -> None:
         """One more command of some actor."""
         rng, actor = self.rng, self.rng.choice(self.actors)
@@ -185,20 +196,21 @@ class Day:
         self.add("post", actor, *self.limit(segment))
 
     def apply(self, actor: str) -> None:
-        """An application between two nodes, at times for a route."""
+        """An application between two nodes, at times for a route or for several."""
         rng = self.rng
         start, end = rng.choice(self.nodes), rng.choice(self.nodes)
-        route: list[str] = []
+        routes: list[list[str]] = []
         if rng.random() < 0.3:
-            route, end = self.walk(start)
-            self.asked = route
+            routes, end = self.walks(start)
+            self.asked = [segment for route in routes for segment in route]
         if start == end:
-            route, end = [], rng.choice([node for node in self.nodes if node != start])
+            routes, end = [], rng.choice([node for node in self.nodes if node != start])
         first = rng.choice((0, 0, 0, 0, 0, 0, 0, 0, -1, 1, 2))
         self.issued += 1
-        last = first + rng.choice((0, 1, 5))
+        last = first + rng.choice((0, 1, 5, MOST_ANNUAL_DAYS))
         it = rng.choice(self.trucks).name
-        self.add("apply", actor, it, start, end, " ".join(route), self.day(first), self.day(last))
+        asked = "|".join(" ".join(route) for route in routes)
+        self.add("apply", actor, it, start, end, asked, self.day(first), self.day(last))
 
     def file(self) -> list[Record]:
         """All records, mixed, yet each name defined before it is referred to."""
@@ -210,7 +222,7 @@ def needed(record: Record) -> set[tuple[Field, Field]]:
     """The names that a record refers to, each with its kind."""
     names: set[tuple[Field, Field]] = {(kind, record[at]) for at, kind in REFERS.get(str(record[0]), {}).items()}
     if record[0] == "apply":
-        names |= {("segment", made) for made in str(record[5]).split()}
+        names |= {("segment", made) for made in str(record[5]).replace("|", " ").split()}
     if record[0] == "post":
         names.add(("span" if record[3] == "rating" else "segment", record[2]))
     return names

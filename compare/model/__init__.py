@@ -13,6 +13,9 @@ standard library. Read it in this order:
 - `roads`    what is posted at each version, what a truck may pass, and the shortest route;
 - `office`   the office of one thread: a reply to each call;
 - `journal`  the journal of a day with one actor, and the judge of a journal with several;
+- `reading`  a journal of any of its formats, read back, or its first bad line;
+- `audit`    whether each entry of a journal is a step of the office of one thread;
+- `reroute`  what comes of an application once more for each permit that was recalled;
 - `making`   the made day, and what `trial` writes of it;
 - `words`    what the words of the command line ask for.
 """

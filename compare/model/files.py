@@ -4,7 +4,7 @@ A kind of record is a list of columns. A column knows the form of its field, whe
 and the range of its value. So the causes `field`, `same`, `unknown` and `range` are each one pass over the columns, in
 that order; what else may be wrong with a record follows them, and that there are too many of its kind comes last.
 """
-from collections.abc import Callable
+from collections.abc import Callable, Sequence
 from dataclasses import dataclass
 from typing import Any, NamedTuple
 
@@ -15,10 +15,14 @@ from .trucks import Truck, broken_rule
 
 # The values of a record, each as the form of its column gives it.
 Values = list[Any]
+# The numbers of the segments of a route, and one route or several.
+Route = tuple[int, ...]
+Routes = tuple[Route, ...]
 Bounds = tuple[int | None, int | None]
 
 MOST = {"nodes": 4096, "segments": 16384, "spans": 2048, "trucks": 64, "actors": 16, "commands": 4096, "probes": 64}
 MOST_SPANS_OF_SEGMENT = 16
+MOST_ANNUAL_DAYS = 365
 
 
 class Refused(Exception):
@@ -53,12 +57,15 @@ class Span(NamedTuple):
 
 
 class Trip(NamedTuple):
-    """An application: a truck, two nodes, the segments that are asked for (none: the shortest route), and two days."""
+    """An application: a truck, two nodes, the routes that are asked for (none: the shortest one), and two days.
+
+    It is annual where two or more are asked for.
+    """
 
     truck: int
     start: int
     end: int
-    asked: tuple[int, ...]
+    asked: Routes
     first: str
     last: str
 
@@ -97,8 +104,8 @@ class Column:
         return self.refers(record) if callable(self.refers) else self.refers
 
     def names(self, value: Any) -> list[str]:
-        """The names that the field holds."""
-        return value if isinstance(value, list) else [value]
+        """The names that the field holds: one, or those of all routes."""
+        return [name for route in value for name in route] if isinstance(value, list) else [value]
 
     def range(self, record: Values) -> Bounds:
         """The least and the greatest value of this field, in this record; None where there is no limit."""
@@ -134,7 +141,7 @@ def value(what: int) -> Column:
 
 DAY = Column(forms.day)
 ITEM = Column(forms.name, refers=lambda record: "spans" if record[2] == "rating" else "segments")
-ROUTE = Column(forms.route, refers="segments")
+ROUTES = Column(forms.routes, refers="segments")
 TRUCK = [Column(forms.name), number(1, 999), number(1, 999), number(1, 9999), Column(forms.axles)]
 
 CHECK_KINDS: dict[str, list[Column]] = {
@@ -150,7 +157,7 @@ DAY_KINDS: dict[str, list[Column]] = {
     "span": [defines("spans"), refers("segments"), number(1, 6000), number(0, 100000)],
     "truck": [defines("trucks"), *TRUCK],
     "actor": [defines("actors")],
-    "apply": [refers("actors"), refers("trucks"), refers("nodes"), refers("nodes"), ROUTE, DAY, DAY],
+    "apply": [refers("actors"), refers("trucks"), refers("nodes"), refers("nodes"), ROUTES, DAY, DAY],
     "post": [refers("actors"), ITEM, Column(forms.posted), value(2)],
     "setday": [refers("actors"), DAY],
     "surrender": [refers("actors"), number()],
@@ -315,16 +322,19 @@ class DayFile(File):
         self.room("commands", len(self.commands))
         self.commands.append(Command(self.names["actors"][actor], kind, what))
 
-    def add_apply(self, actor: str, truck: str, start: str, end: str, route: list[str], first: str, last: str) -> None:
-        nodes = self.names["nodes"]
+    def add_apply(self, actor: str, truck: str, start: str, end: str, routes: list[list[str]], first: str,
+                  last: str) -> None:
+        nodes, segments = self.names["nodes"], self.names["segments"]
         self.demand(start != end, "same-place")
-        asked = [self.names["segments"][name] for name in route]
-        self.demand(not asked or self.is_walk(asked, nodes[start], nodes[end]), "broken-route")
+        asked = tuple(tuple(segments[name] for name in route) for route in routes)
+        self.demand(all(self.is_walk(route, nodes[start], nodes[end]) for route in asked), "broken-route")
         self.demand(first <= last, "day-order")
-        trip = Trip(self.names["trucks"][truck], nodes[start], nodes[end], tuple(asked), first, last)
+        is_annual = len(asked) > 1
+        self.demand(not is_annual or forms.days_between(first, last) <= MOST_ANNUAL_DAYS, "annual-days")
+        trip = Trip(self.names["trucks"][truck], nodes[start], nodes[end], asked, first, last)
         self.command(actor, "apply", trip)
 
-    def is_walk(self, route: list[int], start: int, end: int) -> bool:
+    def is_walk(self, route: Sequence[int], start: int, end: int) -> bool:
         """Whether each segment of a route begins where the one before it ends."""
         for number in route:
             begins, ends, _ = self.segments[number]

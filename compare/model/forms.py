@@ -2,6 +2,7 @@
 import datetime
 import re
 
+MOST_ROUTES = 8
 LIMITS = ("closed", "height", "width", "length", "gross", "allowance", "tridem")
 POSTED = LIMITS + ("rating",)
 RANGES = {
@@ -34,6 +35,11 @@ def is_day(text: str) -> bool:
     return True
 
 
+def days_between(first: str, last: str) -> int:
+    """How many days the second day of the calendar comes after the first."""
+    return (datetime.date.fromisoformat(last) - datetime.date.fromisoformat(first)).days
+
+
 def axles(field: bytes) -> list[tuple[int, int]] | None:
     """Pairs PLACE:WEIGHT with one space between two."""
     pairs = []
@@ -49,12 +55,17 @@ def axles(field: bytes) -> list[tuple[int, int]] | None:
 
 
 def route(field: bytes) -> list[str] | None:
-    """The names of the segments that are asked for, none where the field is empty: an empty list."""
-    if not field:
-        return []
+    """The names of segments, one or more with one space between two."""
     parts = field.split(b" ")
     names = [made for made in map(name, parts) if made is not None]
     return names if len(names) == len(parts) else None
+
+
+def routes(field: bytes) -> list[list[str]] | None:
+    """The routes that are asked for, one to eight with one bar between two; none where the field is empty."""
+    parts = field.split(b"|") if field else []
+    made = [names for names in map(route, parts) if names is not None]
+    return made if len(made) == len(parts) <= MOST_ROUTES else None
 
 
 def limit(field: bytes) -> str | None:

@@ -11,6 +11,7 @@ from .files import Command, DayFile, Posting, Trip
 from .office import Office, trip_text
 
 ATTEMPTS = 8
+FIRST_LINE = "permit-journal 3"
 
 
 class Wrong(Exception):
@@ -86,14 +87,9 @@ class Actor:
         return reply
 
 
-def format_of(entries: Sequence[str]) -> int:
-    """The format in which these entries are written: the first has no words for tridem groups."""
-    return 2 if any(" tridem " in entry for entry in entries) else 1
-
-
 def text_of(entries: Sequence[str]) -> str:
     """A journal of these entries."""
-    lines = [f"permit-journal {format_of(entries)}", *entries, f"end {len(entries)}"]
+    lines = [FIRST_LINE, *entries, f"end {len(entries)}"]
     return "".join(f"{line}\n" for line in lines)
 
 
@@ -117,8 +113,7 @@ def alone(file: DayFile) -> tuple[str, str]:
 def entries_of(text: str) -> list[tuple[int, str]]:
     """The lines of a journal between its first and its last, with their row numbers."""
     lines = text.split("\n")
-    first = f"permit-journal {format_of(lines[1:-2])}"
-    if len(lines) < 3 or lines[0] != first or lines[-1] or lines[-2] != f"end {len(lines) - 3}":
+    if len(lines) < 3 or lines[0] != FIRST_LINE or lines[-1] or lines[-2] != f"end {len(lines) - 3}":
         raise Wrong("a journal has not this first and last line")
     return list(enumerate(lines[1:-2], 2))
 

@@ -4,25 +4,30 @@ All numbers begin at 0 here and are printed from 1 on, but for those of permits 
 """
 from collections.abc import Sequence
 from dataclasses import dataclass
+from itertools import chain
 from typing import NamedTuple
 
-from .files import DayFile, Posting, Trip
+from .files import DayFile, Posting, Routes, Trip
 from .roads import Roads
 
 
 class Found(NamedTuple):
-    """What is found for an application: its kind, and the segments or the nodes that are listed with it.
+    """What is found for an application: its kind, and the segments or the nodes that are listed with it, or routes.
 
-    `none` needs no permit, `fails` lists a segment that was asked for and fails the truck, `route` lists a route, and
-    `cut` the nodes that the truck reaches, where the end is not among them.
+    `none` needs no permit, `fails` lists a segment that was asked for and fails the truck, `route` has the routes that
+    were asked for or the shortest one, and `cut` lists the nodes that the truck reaches, where the end is not among
+    them.
     """
 
     kind: str
     listed: Sequence[int] = ()
+    routes: Routes = ()
 
     def __str__(self) -> str:
         """What was found, as a submit says it."""
-        return self.kind if self.kind == "none" else f"{self.kind} {numbers(self.listed)}"
+        if self.kind == "none":
+            return self.kind
+        return f"{self.kind} {routes_text(self.routes) if self.routes else numbers(self.listed)}"
 
 
 class Recall(NamedTuple):
@@ -38,7 +43,7 @@ class Permit:
 
     caller: int
     trip: Trip
-    route: Sequence[int]
+    routes: Routes
     version: int
     seen: int
     mark: str = ""
@@ -49,9 +54,14 @@ def numbers(values: Sequence[int], first: int = 1) -> str:
     return ",".join(str(value + first) for value in values) if values else "-"
 
 
+def routes_text(routes: Routes) -> str:
+    """Routes as the journal has them."""
+    return "/".join(map(numbers, routes))
+
+
 def trip_text(trip: Trip) -> str:
     """An application, as a submit says it."""
-    asked = numbers(trip.asked) if trip.asked else "none"
+    asked = routes_text(trip.asked) if trip.asked else "none"
     return (f"truck {trip.truck + 1} from {trip.start + 1} to {trip.end + 1} asked {asked} "
             f"days {trip.first} {trip.last}")
 
@@ -62,8 +72,10 @@ class Office:
     def __init__(self, file: DayFile) -> None:
         self.roads, self.trucks, self.today = Roads(file), file.trucks, file.day
         self.permits: list[Permit] = []
+        # of these the ones without a mark, by their numbers, rising
+        self.live: dict[int, Permit] = {}
         self.recalls: list[Recall] = []
-        self.found: dict[tuple[int, int, int, tuple[int, ...], int], Found] = {}
+        self.found: dict[tuple[int, int, int, Routes, int], Found] = {}
 
     def finding(self, trip: Trip, version: int) -> Found:
         """What is found for an application at a version."""
@@ -72,17 +84,19 @@ class Office:
             self.found[key] = self.find(*key)
         return self.found[key]
 
-    def find(self, truck: int, start: int, end: int, asked: tuple[int, ...], version: int) -> Found:
+    def find(self, truck: int, start: int, end: int, asked: Routes, version: int) -> Found:
         """The same, searched for."""
         roads = self.roads
         if self.trucks[truck].is_legal():
             return Found("none")
-        for segment in asked:
+        for segment in chain.from_iterable(asked):
             if not roads.meets(truck, segment, version):
                 return Found("fails", (segment,))
-        route = asked or roads.shortest(truck, start, end, version)
-        if route:
-            return Found("route", route)
+        if asked:
+            return Found("route", routes=asked)
+        shortest = roads.shortest(truck, start, end, version)
+        if shortest:
+            return Found("route", routes=(shortest,))
         anywhere = roads.reached(start, lambda segment: True)
         if end not in anywhere:
             return Found("cut", anywhere)
@@ -96,7 +110,7 @@ class Office:
         if self.trucks[truck].is_legal():
             return "notneeded"
         if found.kind == "route":
-            return self.answer_route(caller, trip, seen, found.listed)
+            return self.answer_routes(caller, trip, seen, found.routes)
         in_the_way = roads.leaving(found.listed) if found.kind == "cut" else found.listed
         if not in_the_way:
             return "noroad"
@@ -105,30 +119,40 @@ class Office:
                 return f"outdated {roads.version} meets segment {segment + 1}"
         return f"refused {roads.version} {roads.limit(truck, in_the_way[0], roads.version)}"
 
-    def answer_route(self, caller: int, trip: Trip, seen: int, route: Sequence[int]) -> str:
-        """The reply where a route was found."""
+    def answer_routes(self, caller: int, trip: Trip, seen: int, routes: Routes) -> str:
+        """The reply where all routes that were asked for were found to meet, or a route was found."""
         version = self.roads.version
-        for segment in route:
+        for segment in chain.from_iterable(routes):
             limit = self.roads.limit(trip.truck, segment, version)
             if limit:
                 return f"outdated {version} fails {limit}"
-        self.permits.append(Permit(caller, trip, route, version, seen))
-        return f"issued {len(self.permits)} at {version} route {numbers(route)}"
+        self.permits.append(Permit(caller, trip, routes, version, seen))
+        self.live[len(self.permits)] = self.permits[-1]
+        return f"issued {len(self.permits)} at {version} route {routes_text(routes)}"
+
+    def take_back(self, permits: int) -> None:
+        """Goes back to the first so many permits, where the others are still without a mark."""
+        while len(self.permits) > permits:
+            del self.live[len(self.permits)]
+            del self.permits[-1]
 
     def status(self, permit: Permit) -> str:
         """What has become of a permit by today."""
         return permit.mark or ("expired" if permit.trip.last < self.today else "inforce")
 
     def post(self, posting: Posting) -> str:
-        """A posting recalls the permits in force whose route then holds a segment that the truck may not pass."""
+        """A posting recalls the permits in force that then list a segment which the truck may not pass."""
         if not self.roads.post(posting):
             return "range"
         version, gone = self.roads.version, []
-        for number, permit in enumerate(self.permits, 1):
-            meets = all(self.roads.meets(permit.trip.truck, segment, version) for segment in permit.route)
+        for number, permit in self.live.items():
+            listed = chain.from_iterable(permit.routes)
+            meets = all(self.roads.meets(permit.trip.truck, segment, version) for segment in listed)
             if self.status(permit) == "inforce" and not meets:
                 permit.mark = f"recalled {version}"
                 gone.append(number)
+        for number in gone:
+            del self.live[number]
         self.recalls += [Recall(number, version) for number in gone]
         return f"posted {version} recalled {numbers(gone, 0)}"
 
@@ -153,6 +177,7 @@ class Office:
         if self.status(permit) != "inforce":
             return f"notinforce {self.status(permit)}"
         permit.mark = "surrendered"
+        del self.live[number]
         return "surrendered"
 
     def show(self, number: int) -> str:

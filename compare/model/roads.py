@@ -47,10 +47,15 @@ class Roads:
         # the first limit that fails a truck on a segment, by how many postings had changed that one
         self.limits: dict[tuple[int, int, int], str | None] = {}
 
+    def takes(self, posting: Posting) -> bool:
+        """Whether what is posted on is there, and the value is in its range."""
+        least, most = RANGES[posting.limit]
+        there = len(self.spans) if posting.limit == "rating" else len(self.segments)
+        return posting.item < there and least <= posting.value <= most
+
     def post(self, posting: Posting) -> bool:
         """Posts a value; whether the network takes it."""
-        least, most = RANGES[posting.limit]
-        if not least <= posting.value <= most:
+        if not self.takes(posting):
             return False
         is_rating = posting.limit == "rating"
         segment = self.spans[posting.item].segment if is_rating else posting.item

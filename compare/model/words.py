@@ -3,9 +3,9 @@ import re
 from collections.abc import Sequence
 from dataclasses import dataclass
 
-COMMANDS = ("check", "day", "make", "trial", "design", "convoy")
+COMMANDS = ("check", "day", "make", "trial", "audit", "design", "convoy")
 RANGES = {"--seed": (0, 65535), "--size": (1, 40), "--trucks": (2, 16), "--gap": (1, 3000)}
-USAGE = "usage: permit_cli check|day|make|trial|design|convoy [--seed N] [--size N] [--trucks N] [--gap N]\n"
+USAGE = "usage: permit_cli check|day|make|trial|audit|design|convoy [--seed N] [--size N] [--trucks N] [--gap N]\n"
 
 
 @dataclass(frozen=True)
