@@ -3,11 +3,11 @@
 
     bench/time_journal.py JOURNAL [MEGABYTES]
 
-JOURNAL is a file that `permit day` wrote. Its entries are repeated to a journal of so many megabytes (10). A program in
-a temporary folder, over a copy of the crates that it needs, reads that text and prints the history again, seven times;
-it is run five times. This prints the best of each in megabytes a second, once it has seen that what was printed is the
-text. The kit proves the program before it builds it, and first each crate below it that is not kept as proved. What it
-measures rests on how busy the machine is.
+JOURNAL is a file that `permit day` wrote, of the format that it writes now. Its entries are repeated to a journal of so
+many megabytes (10). A program in a temporary folder, over a copy of the crates that it needs, reads that text and
+prints the history again, seven times; it is run five times. This prints the best of each in megabytes a second, once it
+has seen that what was printed is the text. The kit proves the program before it builds it, and first each crate below
+it that is not kept as proved. What it measures rests on how busy the machine is.
 """
 import subprocess
 import sys
@@ -17,6 +17,7 @@ from pathlib import Path
 
 from programs import built, ended, parser
 
+FIRST_LINE = b"permit-journal 3"
 MAIN = """// Reads a journal and prints it again, seven times, and says how many nanoseconds each took.
 #![tactic(auto)]
 
@@ -61,8 +62,8 @@ class Times:
 def repeated(journal: bytes, size: int) -> bytes:
     """A journal of so many bytes, with the entries of this one over and over."""
     lines = journal.split(b"\n")
-    if len(lines) < 4 or not lines[-2].startswith(b"end ") or lines[-1]:
-        sys.exit("that is no journal with an entry")
+    if len(lines) < 4 or lines[0] != FIRST_LINE or not lines[-2].startswith(b"end ") or lines[-1]:
+        sys.exit("that is no journal of format 3 with an entry")
     entries = lines[1:-2]
     times = max(1, size // sum(len(line) + 1 for line in entries))
     return b"\n".join([lines[0], *(entries * times), b"end %d" % (times * len(entries)), b""])

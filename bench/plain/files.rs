@@ -9,6 +9,8 @@ pub const RATING: usize = 7;
 const RANGES: [(u32, u32); 8] =
     [(0, 1), (1, 999), (1, 999), (1, 9999), (1, 2_000_000), (0, 100_000), (1, 600_000), (0, 100_000)];
 const MOST_BYTES: usize = 4_194_304;
+const MOST_ROUTES: usize = 8;
+const MOST_ANNUAL_DAYS: u32 = 365;
 
 /// The status and what is said behind `refused: `.
 pub struct Refusal(pub u8, pub String);
@@ -55,6 +57,18 @@ fn axles(record: &[Field], at: usize) -> Or<Vec<(u64, u64)>> {
     read.map_or_else(|| bad(format!("field {at}")), Ok)
 }
 
+/// The routes that are asked for, none or one to eight, each the names of its segments.
+fn routes<'a>(record: &'a [Field], at: usize) -> Or<Vec<Vec<&'a [u8]>>> {
+    let text: &[u8] = &record[at - 1];
+    if text.is_empty() {
+        return Ok(Vec::new());
+    }
+    let split: Vec<Vec<&[u8]>> = text.split(|b| *b == b'|').map(|route| route.split(|b| *b == b' ').collect()).collect();
+    let has_form = split.len() <= MOST_ROUTES && split.iter().flatten().all(|name| is_name(name));
+    if has_form { Ok(split) } else { bad(format!("field {at}")) }
+}
+
+/// One of the limits of a segment or of a span: the first so many of all.
 fn what(record: &[Field], at: usize, most: usize) -> Or<usize> {
     let found = WHATS[..most].iter().position(|word| word.as_bytes() == &*record[at - 1]);
     found.map_or_else(|| bad(format!("field {at}")), Ok)
@@ -81,6 +95,15 @@ fn is_day(day: &Day) -> bool {
         _ => 0,
     };
     year >= 1 && (1..=last).contains(&date)
+}
+
+/// How many days of the calendar come before this one.
+fn day_number(day: &Day) -> u32 {
+    let read = |text: &[u8]| digits(text).unwrap_or(0);
+    let (year, month, date) = (read(&day[..4]), read(&day[5..7]), read(&day[8..]));
+    // a year that begins in March has its leap day at its end
+    let (years, months) = if month < 3 { (year - 1, month + 9) } else { (year, month - 3) };
+    365 * years + years / 4 - years / 100 + years / 400 + (153 * months + 2) / 5 + date
 }
 
 fn range(value: u32, (least, most): (u32, u32), at: usize) -> Or<()> {
@@ -198,7 +221,7 @@ pub struct Trip {
     pub truck: u32,
     pub from: u32,
     pub to: u32,
-    pub asked: Vec<u32>,
+    pub asked: Vec<Vec<u32>>,
     pub first: Day,
     pub last: Day,
 }
@@ -292,7 +315,7 @@ impl DayFile {
     }
 
     fn limit(&mut self, record: &[Field]) -> Or<()> {
-        let (on, what, value) = (name(record, 2)?, what(record, 3, 6)?, number(record, 4)?);
+        let (on, what, value) = (name(record, 2)?, what(record, 3, RATING)?, number(record, 4)?);
         let on = self.segment_names.known(on, 2)?;
         range(value, RANGES[what], 4)?;
         self.segments[on as usize].limits[what] = value;
@@ -320,7 +343,7 @@ impl DayFile {
             return self.apply(actor, record);
         }
         if kind == "post" {
-            let (item, what, value) = (name(record, 3)?, what(record, 4, 7)?, number(record, 5)?);
+            let (item, what, value) = (name(record, 3)?, what(record, 4, WHATS.len())?, number(record, 5)?);
             let actor = self.actors.known(actor, 2)?;
             let item = if what == RATING { &self.span_names } else { &self.segment_names }.known(item, 3)?;
             range(value, RANGES[what], 5)?;
@@ -339,24 +362,28 @@ impl DayFile {
 
     fn apply(&self, actor: &[u8], record: &[Field]) -> Or<(u32, Order)> {
         let (truck, from, to) = (name(record, 3)?, name(record, 4)?, name(record, 5)?);
-        let asked: Vec<&[u8]> =
-            if record[5].is_empty() { Vec::new() } else { record[5].split(|b| *b == b' ').collect() };
-        demand(asked.iter().all(|text| is_name(text)), "field 6")?;
+        let asked = routes(record, 6)?;
         let (first, last) = (day(record, 7)?, day(record, 8)?);
         let actor = self.actors.known(actor, 2)?;
         let truck = self.truck_names.known(truck, 3)?;
         let (from, to) = (self.nodes.known(from, 4)?, self.nodes.known(to, 5)?);
-        let asked = asked.iter().map(|name| self.segment_names.known(name, 6)).collect::<Or<Vec<u32>>>()?;
+        let known = |route: &Vec<&[u8]>| route.iter().map(|name| self.segment_names.known(name, 6)).collect();
+        let asked = asked.iter().map(known).collect::<Or<Vec<Vec<u32>>>>()?;
         demand(is_day(&first), "range 7")?;
         demand(is_day(&last), "range 8")?;
         demand(from != to, "same-place")?;
-        let mut at = from;
-        for segment in asked.iter().map(|number| &self.segments[*number as usize]) {
-            demand(segment.from == at, "broken-route")?;
-            at = segment.to;
-        }
-        demand(asked.is_empty() || at == to, "broken-route")?;
+        demand(asked.iter().all(|route| self.is_walk(route, from, to)), "broken-route")?;
         demand(first <= last, "day-order")?;
+        let is_annual = asked.len() > 1;
+        demand(!is_annual || day_number(&last) - day_number(&first) <= MOST_ANNUAL_DAYS, "annual-days")?;
         Ok((actor, Order::Apply(Trip { truck, from, to, asked, first, last })))
+    }
+
+    fn is_walk(&self, route: &[u32], from: u32, to: u32) -> bool {
+        let step = |at: u32, number: &u32| {
+            let segment = &self.segments[*number as usize];
+            (segment.from == at).then_some(segment.to)
+        };
+        route.iter().try_fold(from, step) == Some(to)
     }
 }

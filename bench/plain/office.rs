@@ -73,28 +73,24 @@ struct Search {
 pub struct Office {
     file: DayFile,
     permits: Vec<Permit>,
-    /// For each segment the live permits whose routes hold it.
+    /// For each segment the live permits one of whose routes holds it.
     using: Vec<Vec<u32>>,
     kept: Kept,
     search: Search,
     version: u32,
     journal: Text,
     entries: u64,
-    /// Whether the journal has words for tridem groups, and so is of the second format.
-    tells_tridem: bool,
     notices: Text,
 }
 
 enum What {
     Nothing,
-    Route(Vec<u32>),
+    Routes(Vec<Vec<u32>>),
     Fails(u32),
     Cut(Vec<u32>),
 }
 
 const MOST_INCHES: usize = 6000;
-/// Where the first line of the journal has the number of its format.
-const FORMAT_AT: usize = 15;
 
 impl Kept {
     fn effects(&mut self, file: &DayFile, truck: u32, inches: u32) -> (Effects, Effects) {
@@ -252,9 +248,9 @@ impl Office {
         };
         let (search, using) = (Search::new(&file), vec![Vec::new(); file.segments.len()]);
         let mut journal = Text::default();
-        journal.word("permit-journal 1\n");
+        journal.word("permit-journal 3\n");
         let (permits, notices) = (Vec::new(), Text::default());
-        Office { file, permits, using, kept, search, version: 0, journal, entries: 0, tells_tridem: false, notices }
+        Office { file, permits, using, kept, search, version: 0, journal, entries: 0, notices }
     }
 
     /// The journal, and what standard error is told.
@@ -270,9 +266,6 @@ impl Office {
             self.journal.word("\n");
         }
         self.journal.pair("end ", self.entries).word("\n");
-        if self.tells_tridem {
-            self.journal.0[FORMAT_AT] = b'2';
-        }
         (self.journal.0, self.notices.0)
     }
 
@@ -288,11 +281,11 @@ impl Office {
         }
         let mut meets = |segment| kept.meets(file, trip.truck, segment);
         if !trip.asked.is_empty() {
-            let failing = trip.asked.iter().copied().find(|segment| !meets(*segment));
-            return failing.map_or_else(|| What::Route(trip.asked.clone()), What::Fails);
+            let failing = trip.asked.iter().flatten().copied().find(|segment| !meets(*segment));
+            return failing.map_or_else(|| What::Routes(trip.asked.clone()), What::Fails);
         }
         if let Some(route) = search.route(trip.from, trip.to, &mut meets) {
-            return What::Route(route);
+            return What::Routes(vec![route]);
         }
         let anywhere = search.all(trip.from, |_| true);
         if anywhere.binary_search(&trip.to).is_err() {
@@ -307,11 +300,11 @@ impl Office {
         self.entry(caller).pair("snapshot = at ", version).word("\n");
         let text = self.entry(caller);
         text.pair("submit truck ", trip.truck + 1).pair(" from ", trip.from + 1).pair(" to ", trip.to + 1).word(" asked ");
-        if trip.asked.is_empty() { text.word("none") } else { text.list(&trip.asked, 1) };
+        if trip.asked.is_empty() { text.word("none") } else { text.routes(&trip.asked) };
         text.word(" days ").word(trip.first).word(" ").word(trip.last).pair(" seen ", version);
         match &what {
             What::Nothing => text.word(" none"),
-            What::Route(route) => text.word(" route ").list(route, 1),
+            What::Routes(routes) => text.word(" route ").routes(routes),
             What::Fails(segment) => text.pair(" fails ", segment + 1),
             What::Cut(nodes) => text.word(" cut ").list(nodes, 1),
         };
@@ -329,7 +322,7 @@ impl Office {
             What::Nothing => {
                 self.journal.word("notneeded");
             }
-            What::Route(route) => self.issue(caller, trip, route),
+            What::Routes(routes) => self.issue(caller, trip, &routes),
             What::Fails(segment) => self.refuse(trip.truck, segment),
             What::Cut(nodes) => {
                 let inside = |node: u32| nodes.binary_search(&node).is_ok();
@@ -349,10 +342,10 @@ impl Office {
         }
     }
 
-    fn issue(&mut self, caller: u32, trip: &Trip, route: Vec<u32>) {
+    fn issue(&mut self, caller: u32, trip: &Trip, routes: &[Vec<u32>]) {
         let number = self.permits.len() as u32;
-        self.journal.pair("issued ", number + 1).pair(" at ", self.version).word(" route ").list(&route, 1);
-        for &segment in &route {
+        self.journal.pair("issued ", number + 1).pair(" at ", self.version).word(" route ").routes(routes);
+        for &segment in routes.iter().flatten() {
             let using = &mut self.using[segment as usize];
             if using.last() != Some(&number) {
                 using.push(number);
@@ -386,7 +379,6 @@ impl Office {
                 text.pair(" limit ", it.limit).pair(" allowance ", here.limits[5]);
             }
             Limit::Tridem => {
-                self.tells_tridem = true;
                 let it = truck.tridem.as_ref().expect("a tridem group fails");
                 text.pair(" tridem ", it.first as u64 + 1).pair("-", it.last as u64 + 1).pair(" weight ", it.weight);
                 text.pair(" over ", here.limits[TRIDEM]);
@@ -406,7 +398,6 @@ impl Office {
     }
 
     fn post(&mut self, caller: u32, item: u32, what: usize, value: u32) {
-        self.tells_tridem |= what == TRIDEM;
         let kind = if what == RATING { "post span " } else { "post segment " };
         self.entry(caller).pair(kind, item + 1).word(" ").word(WHATS[what]).pair(" ", value);
         let segment = if what == RATING {

@@ -45,6 +45,17 @@ impl Text {
         self.number(frac.num).word("/").number(frac.den)
     }
 
+    /// Routes with a slash between two, each a list of segments.
+    pub fn routes(&mut self, routes: &[Vec<u32>]) -> &mut Text {
+        for (i, route) in routes.iter().enumerate() {
+            if i > 0 {
+                self.word("/");
+            }
+            self.list(route, 1);
+        }
+        self
+    }
+
     /// Numbers with commas between them, each so much greater.
     pub fn list(&mut self, numbers: &[u32], more: u32) -> &mut Text {
         if numbers.is_empty() {

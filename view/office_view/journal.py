@@ -14,7 +14,10 @@ from .command import BAD, Fault
 
 MOST_NUMBER, MOST_INDEX, MOST_PART = 2**32 - 1, 65536, 2**128 - 1
 N, I, D = r"(0|[1-9][0-9]*)", r"([1-9][0-9]*)", r"([0-9]{4}-[0-9]{2}-[0-9]{2})"
-INDEXES, NUMBERS = r"(-|[1-9][0-9]*(?:,[1-9][0-9]*)*)", r"(-|(?:0|[1-9][0-9]*)(?:,(?:0|[1-9][0-9]*))*)"
+LIST = r"(?:-|[1-9][0-9]*(?:,[1-9][0-9]*)*)"
+INDEXES, NUMBERS = rf"({LIST})", r"(-|(?:0|[1-9][0-9]*)(?:,(?:0|[1-9][0-9]*))*)"
+MOST_ROUTES = 8
+ROUTES = rf"{LIST}(?:/{LIST}){{0,{MOST_ROUTES - 1}}}"
 RATIO = r"((?:0|[1-9][0-9]*)/[1-9][0-9]*)"
 STATUS = rf"(?:inforce|recalled {N}|surrendered|expired)"
 LIMIT_FORMS = (
@@ -24,10 +27,10 @@ LIMIT_FORMS = (
     ("tridem", re.compile(rf"segment {I} tridem {I}-{I} weight {N} over {N}")),
     ("effect", re.compile(rf"segment {I} span {I} (moment|shear) {RATIO} hs20 {RATIO} rating {N}")),
 )
-APPLICATION = rf"truck {I} from {I} to {I} asked (none|{INDEXES[1:-1]}) days {D} {D}"
+APPLICATION = rf"truck {I} from {I} to {I} asked (none|{ROUTES}) days {D} {D}"
 CALLS = (
     ("snapshot", re.compile("snapshot")),
-    ("submit", re.compile(rf"submit {APPLICATION} seen {N} (?:(none)|(route|cut) {INDEXES}|(fails) {I})")),
+    ("submit", re.compile(rf"submit {APPLICATION} seen {N} (?:(none)|(route) ({ROUTES})|(cut) {INDEXES}|(fails) {I})")),
     ("held", re.compile(rf"held {APPLICATION}")),
     ("post", re.compile(rf"post segment {I} (closed) ([01])")),
     ("post", re.compile(rf"post segment {I} (height|width|length|gross|allowance|tridem) {N}")),
@@ -38,7 +41,7 @@ CALLS = (
 )
 REPLIES = (
     ("at", re.compile(rf"at {N}")),
-    ("issued", re.compile(rf"issued {N} at {N} route {INDEXES}")),
+    ("issued", re.compile(rf"issued {N} at {N} route ({ROUTES})")),
     ("refused", re.compile(rf"refused {N} (segment .*)")),
     ("outdated", re.compile(rf"outdated {N} fails (segment .*)")),
     ("meets", re.compile(rf"outdated {N} meets segment {I}")),
@@ -52,13 +55,18 @@ REPLIES = (
 )
 
 
+# the segments of a route, and one route or several
+Route = tuple[int, ...]
+Routes = tuple[Route, ...]
+
+
 class Trip(NamedTuple):
-    """An application: truck, from, to, the asked segments (none: the shortest route), and two days."""
+    """An application: truck, from, to, the asked routes (none: the shortest one), and two days."""
 
     truck: int
     start: int
     end: int
-    asked: tuple[int, ...]
+    asked: Routes
     first: str
     last: str
 
@@ -93,13 +101,14 @@ class Entry:
     seen: int = 0
     found: str = ""
     listed: tuple[int, ...] = ()
+    proposed: Routes = ()
     item: int = 0
     what: str = ""
     value: int = 0
     day: str = ""
     version: int = 0
     number: int = 0
-    route: tuple[int, ...] = ()
+    routes: Routes = ()
     recalled: tuple[int, ...] = ()
     limit: Limit | None = None
     segment: int = 0
@@ -126,6 +135,10 @@ def index(text: str) -> int:
 
 def indexes(text: str) -> tuple[int, ...]:
     return () if text == "-" else tuple(map(index, text.split(",")))
+
+
+def routes_of(text: str) -> Routes:
+    return tuple(map(indexes, text.split("/")))
 
 
 def numbers(text: str) -> tuple[int, ...]:
@@ -178,7 +191,7 @@ def limit_of(text: str) -> Limit:
 
 
 def trip_of(found: re.Match[str]) -> Trip:
-    asked = () if found[4] == "none" else indexes(found[4])
+    asked = () if found[4] == "none" else routes_of(found[4])
     first, last = calendar_day(found[5]), calendar_day(found[6])
     return Trip(index(found[1]), index(found[2]), index(found[3]), asked, first, last)
 
@@ -190,9 +203,11 @@ def call_of(text: str) -> dict[str, object]:
         if found is None:
             continue
         if kind == "submit":
-            listed = indexes(found[10]) if found[9] else (index(found[12]),) if found[11] else ()
-            what = found[8] or found[9] or found[11]
-            return {"call": kind, "trip": trip_of(found), "seen": number(found[7]), "found": what, "listed": listed}
+            set_here = {"call": kind, "trip": trip_of(found), "seen": number(found[7])}
+            if found[9]:
+                return set_here | {"found": "route", "proposed": routes_of(found[10])}
+            listed = indexes(found[12]) if found[11] else (index(found[14]),) if found[13] else ()
+            return set_here | {"found": found[8] or found[11] or found[13], "listed": listed}
         if kind == "held":
             return {"call": kind, "trip": trip_of(found)}
         if kind == "post":
@@ -221,7 +236,7 @@ def reply_of(text: str) -> dict[str, object]:
             return {"reply": kind, "shown": shown, "number": number(found[1]), "status": status_of(found[8])}
         set_here: dict[str, object] = {"reply": kind, "version": number(found[1])}
         if kind == "issued":
-            set_here |= {"number": number(found[1]), "version": number(found[2]), "route": indexes(found[3])}
+            set_here |= {"number": number(found[1]), "version": number(found[2]), "routes": routes_of(found[3])}
         elif kind in ("refused", "outdated"):
             set_here["limit"] = limit_of(found[2])
         elif kind == "meets":
@@ -243,7 +258,14 @@ def entry_of(text: str, line: int) -> Entry:
 
 def tells_tridem(entry: Entry) -> bool:
     """Whether an entry needs words for tridem groups, which the first format has not."""
-    return (entry.call == "post" and entry.what == "tridem") or (entry.limit is not None and entry.limit.what == "tridem")
+    of_limit = entry.limit is not None and entry.limit.what == "tridem"
+    return of_limit or (entry.call == "post" and entry.what == "tridem")
+
+
+def first_format(entry: Entry) -> int:
+    """The first format that has words for an entry: the two older ones have none for several routes."""
+    lists = (entry.trip.asked if entry.trip else (), entry.proposed, entry.routes)
+    return 3 if any(len(routes) > 1 for routes in lists) else 2 if tells_tridem(entry) else 1
 
 
 def read_journal(data: bytes, path: str) -> list[Entry]:
@@ -256,9 +278,9 @@ def read_journal(data: bytes, path: str) -> list[Entry]:
 
     if lines and lines[0].startswith("refused: "):
         raise Fault(BAD, f"{path} is no journal, but the line of a refusal: {lines[0]}")
-    formats = {f"permit-journal {number}": number for number in (1, 2)}
+    formats = {f"permit-journal {number}": number for number in (1, 2, 3)}
     if not lines or lines[0] not in formats:
-        raise bad(1, "is neither permit-journal 1 nor permit-journal 2")
+        raise bad(1, "is none of permit-journal 1, permit-journal 2 and permit-journal 3")
     entries: list[Entry] = []
     for line, text in enumerate(lines[1:], 2):
         if text == f"end {len(entries)}":
@@ -267,7 +289,7 @@ def read_journal(data: bytes, path: str) -> list[Entry]:
             return entries
         try:
             entry = entry_of(text, line)
-            if tells_tridem(entry) and formats[lines[0]] < 2:
+            if first_format(entry) > formats[lines[0]]:
                 raise Bad
             entries.append(entry)
         except Bad as fault:

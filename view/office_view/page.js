@@ -68,7 +68,9 @@
     return parts.join(", ") || "nothing posted";
   };
 
-  const routeOf = () => (chosen ? new Set(chosen.route) : new Set());
+  /* All segments of what is chosen, route by route. */
+  const segmentsOf = () => (chosen ? chosen.routes.flat() : []);
+  const routeOf = () => new Set(segmentsOf());
   const reachedOf = () => new Set(chosen && chosen.cut >= 0 ? data.cuts[chosen.cut] : []);
   const isCut = (reached, segment) => reached.has(data.segments[segment][1]) && !reached.has(data.segments[segment][2]);
 
@@ -124,24 +126,28 @@
     return svg;
   };
 
-  /* The route alone, some stretches a line. */
-  const drawRoute = (posted, route, reached) => {
-    const list = chosen.route, a_line = 5, step = 150, drop = 70;
-    const svg = make("svg", { viewBox: `-20 -40 ${a_line * step + 120} ${Math.ceil(list.length / a_line) * drop + 50}`, role: "img",
+  /* The routes alone, some stretches a line, each route on lines of its own. */
+  const drawRoutes = (posted, route, reached) => {
+    const a_line = 5, step = 150, drop = 70, lines = [], drawn = new Set();
+    for (const list of chosen.routes) for (let at = 0; at < list.length; at += a_line) lines.push(list.slice(at, at + a_line));
+    const svg = make("svg", { viewBox: `-20 -40 ${a_line * step + 120} ${lines.length * drop + 50}`, role: "img",
       "aria-labelledby": "drawing-title" });
     fit(svg, a_line * step + 120);
-    svg.append(make("title", { id: "drawing-title" }, "The route alone; the table beside it says the same"));
-    list.forEach((segment, at) => {
-      const x = (at % a_line) * step, y = Math.floor(at / a_line) * drop, [name, from, to] = data.segments[segment];
-      svg.append(make("path", { class: classesOf(posted, route, reached, segment), id: "road-" + (segment + 1),
-        d: `M${x} ${y}H${x + step - 8}` }));
+    const whole = chosen.routes.length > 1 ? "The routes" : "The route";
+    svg.append(make("title", { id: "drawing-title" }, `${whole} alone; the table beside it says the same`));
+    lines.forEach((line, row) => line.forEach((segment, at) => {
+      const x = at * step, y = row * drop, [name, from, to] = data.segments[segment];
+      /* A segment may stand on several routes, and only the first line of it has its name in the page. */
+      const id = drawn.has(segment) ? {} : { id: "road-" + (segment + 1) };
+      drawn.add(segment);
+      svg.append(make("path", { class: classesOf(posted, route, reached, segment), ...id, d: `M${x} ${y}H${x + step - 8}` }));
       svg.append(make("circle", { class: "node", cx: x, cy: y, r: 5 }), make("text", { x: x, y: y - 10 }, data.nodes[from]),
         make("text", { x: x + 30, y: y + 18 }, name + (isClosed(posted, segment) ? " ×" : "")));
-      if (at % a_line === a_line - 1 || at === list.length - 1) {
+      if (at === line.length - 1) {
         svg.append(make("circle", { class: "node", cx: x + step - 8, cy: y, r: 5 }),
           make("text", { x: x + step - 8, y: y - 10 }, data.nodes[to]));
       }
-    });
+    }));
     return svg;
   };
 
@@ -149,7 +155,7 @@
     const cut = reached.size ? [...data.segments.keys()].filter((segment) => isCut(reached, segment)) : [];
     const set = [...posted.keys()].filter((it) => postedText(posted, it) !== "nothing posted").sort((a, b) => a - b);
     const all = data.segments.length <= MOST_ROWS ? [...data.segments.keys()] : [];
-    const listed = [...new Set([...(chosen ? chosen.route : []), ...cut, ...set, ...all])];
+    const listed = [...new Set([...segmentsOf(), ...cut, ...set, ...all])];
     const body = document.createElement("tbody");
     body.setAttribute("role", "rowgroup");
     for (const segment of listed.slice(0, MOST_ROWS)) {
@@ -157,14 +163,14 @@
       row.setAttribute("role", "row");
       cell(row, "th", name);
       cell(row, "td", data.nodes[from] + " to " + data.nodes[to], "From and to");
-      cell(row, "td", (route.has(segment) ? "on the route; " : "") + (cut.includes(segment) ? "leads out of what can be reached; " : "")
+      cell(row, "td", (route.has(segment) ? (chosen.routes.length > 1 ? "on a route; " : "on the route; ") : "") + (cut.includes(segment) ? "leads out of what can be reached; " : "")
         + postedText(posted, segment), "Posted");
       body.append(row);
     }
     byId("listed").tBodies[0].replaceWith(body);
     byId("listed-caption").textContent = listed.length > MOST_ROWS
       ? `The first ${MOST_ROWS} of ${listed.length} roads of which something is said`
-      : `${listed.length} of ${data.segments.length} roads: the route in its order, and what is posted`;
+      : `${listed.length} of ${data.segments.length} roads: each route in its order, and what is posted`;
   };
 
   const draw = () => {
@@ -179,9 +185,10 @@
     else {
       const large = document.createElement("p");
       large.textContent = `${data.nodes.length.toLocaleString("en-US")} places and ${data.segments.length.toLocaleString("en-US")} `
-        + "roads are too many to be drawn" + (chosen && chosen.route.length ? ": this is the route alone." : ": choose a permit to see its route.");
+        + "roads are too many to be drawn" + (route.size ? ": this is " + (chosen.routes.length > 1 ? "each route" : "the route") + " alone."
+          : ": choose a permit to see its route.");
       frame.replaceChildren(large);
-      if (chosen && chosen.route.length) frame.append(drawRoute(posted, route, reached));
+      if (route.size) frame.append(drawRoutes(posted, route, reached));
     }
     listRoads(posted, route, reached);
   };

@@ -18,10 +18,10 @@ from typing import Any
 from model import forms
 
 from . import VERSION
-from .journal import Trip
+from .journal import Routes, Trip
 from .network import Places
 from .replay import EXPIRED, IN_FORCE, RECALLED, SURRENDERED, Answer, Permit, Posting, Replay
-from .wording import STATUS, UNITS, Words
+from .wording import STATUS, UNITS, Words, annual
 
 HERE = pathlib.Path(__file__).resolve().parent
 MANY_ROWS = 200
@@ -33,7 +33,7 @@ KEYS = (
     ("road", "open"),
     ("road restricted", "with a limit"),
     ("road closed", "closed ×"),
-    ("road route", "the chosen route"),
+    ("road route", "the chosen route, or one of the chosen routes"),
     ("road cut", "leads out of what the truck can reach"),
 )
 
@@ -141,7 +141,7 @@ class Page:
         return sorted({self.trucks[trip.truck].carrier for trip in trips})
 
     def permits(self) -> str:
-        heads = ("Permit", "How it stands", "Carrier", "Truck", "Days", "From, to and route", "Issued")
+        heads = ("Permit", "How it stands", "Carrier", "Truck", "Days", "From, to and routes", "Issued")
         return table(
             "permit-rows",
             "Each permit, as it stands at the end",
@@ -159,8 +159,8 @@ class Page:
             ("Truck", safe(truck.name)),
             ("Days", days(permit.trip)),
             (
-                "Route",
-                f"{safe(self.words.trip(permit.trip))}, by {self.route(permit.route)} "
+                "Routes",
+                f"{safe(self.words.trip(permit.trip))}, {self.routes(permit.routes)} "
                 f"{choose(name, f'permit {permit.number}')}",
             ),
             ("Issued", f"at version {permit.version}, by {safe(self.words.actors[permit.caller])}"),
@@ -170,11 +170,13 @@ class Page:
         )
         return f"{head}{cells(row)}</tr>\n"
 
-    def route(self, route: tuple[int, ...]) -> str:
-        """The names of a route; on a page of few permits none of them is broken at its end of a line."""
+    def routes(self, routes: Routes) -> str:
+        """The names of one route or of several; on a page of few permits none is broken at its end of a line."""
         if len(self.made.permits) > MANY_ROWS:
-            return safe(self.words.route(route))
-        return ", ".join(f'<span class="whole">{safe(self.words.segments[segment])}</span>' for segment in route)
+            return safe(self.words.routes(routes))
+        names = [[f'<span class="whole">{safe(self.words.segments[segment])}</span>' for segment in route]
+                 for route in routes]
+        return f"{annual(routes)}by " + "; or by ".join(", ".join(route) for route in names)
 
     def standing(self, permit: Permit) -> str:
         """How a permit stands; where it is recalled, by what and why."""
@@ -194,7 +196,7 @@ class Page:
 
     def answer_row(self, answer: Answer) -> str:
         truck, name = self.trucks[answer.trip.truck], f"answer-{answer.number}"
-        asked = f", by {self.words.route(answer.trip.asked)}" if answer.trip.asked else ""
+        asked = f", {self.words.routes(answer.trip.asked)}" if answer.trip.asked else ""
         version = f" (at version {answer.version})" if answer.reply == "refused" else ""
         shown = choose(name, f"answer {answer.number}") if answer.reply in ("refused", "noroad") else ""
         row = (
@@ -282,7 +284,7 @@ class Page:
             "id": f"permit-{permit.number}",
             "title": f"permit {permit.number}: {truck.carrier} {truck.name}",
             "cut": -1,
-            "route": permit.route,
+            "routes": permit.routes,
             "from": permit.trip.start,
             "to": permit.trip.end,
             "version": version,
@@ -301,7 +303,7 @@ class Page:
             "id": f"answer-{answer.number}",
             "title": f"answer {answer.number}: {truck.carrier} {truck.name}",
             "cut": cut,
-            "route": answer.trip.asked,
+            "routes": answer.trip.asked,
             "from": answer.trip.start,
             "to": answer.trip.end,
             "version": answer.version,

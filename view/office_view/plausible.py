@@ -144,6 +144,9 @@ class Warnings:
             yield self.at(record, 7) + f"the office's day is {today} by then, so that the answer will be late"
         if (datetime.date.fromisoformat(last) - datetime.date.fromisoformat(first)).days > LONGEST_PERMIT:
             yield self.at(record, 8) + "a permit of more than a year"
+        routes = record.values[4]
+        if any(route in routes[:at] for at, route in enumerate(routes)):
+            yield self.at(record, 6) + "a route stands here twice; is another one meant?"
 
     def of_post(self, record: Accepted) -> Iterator[str]:
         yield from self.limit_value(record, record.values[2], record.values[3], 5)

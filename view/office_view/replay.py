@@ -10,7 +10,7 @@ from typing import Any
 from model.files import DayFile
 
 from .command import BAD, Fault
-from .journal import Entry, Limit, Trip
+from .journal import Entry, Limit, Routes, Trip
 
 IN_FORCE, RECALLED, SURRENDERED, EXPIRED = "in force", "recalled", "surrendered", "expired"
 
@@ -22,7 +22,7 @@ class Permit:
     number: int
     caller: int
     trip: Trip
-    route: tuple[int, ...]
+    routes: Routes
     version: int
     seen: int
     status: str = IN_FORCE
@@ -199,10 +199,12 @@ def known(file: DayFile, limit: Limit) -> bool:
 def issue(made: Replay, entry: Entry, trip: Trip, seen: int) -> None:
     demand(entry.number == len(made.permits) + 1, f"the next permit is {len(made.permits) + 1}")
     demand(entry.version == made.version, f"the roads stand at version {made.version}")
-    demand(all(segment < len(made.file.segments) for segment in entry.route), "there is no such segment")
-    demand(bool(entry.route) and made.file.is_walk(list(entry.route), trip.start, trip.end), "the route is no walk")
-    demand(not trip.asked or entry.route == trip.asked, "the route is not the asked one")
-    made.permits.append(Permit(entry.number, entry.caller, trip, entry.route, entry.version, seen))
+    for route in entry.routes:
+        demand(all(segment < len(made.file.segments) for segment in route), "there is no such segment")
+        demand(bool(route) and made.file.is_walk(route, trip.start, trip.end), "the route is no walk")
+    demand(not trip.asked or entry.routes == trip.asked, "the routes are not those that are asked for")
+    demand(bool(trip.asked) or len(entry.routes) == 1, "no route is asked for, and the permit has several")
+    made.permits.append(Permit(entry.number, entry.caller, trip, entry.routes, entry.version, seen))
 
 
 def take_posting(made: Replay, entry: Entry, what: tuple[int, str, int]) -> None:
@@ -218,7 +220,7 @@ def take_posting(made: Replay, entry: Entry, what: tuple[int, str, int]) -> None
         demand(1 <= number <= len(made.permits), f"there is no permit {number}")
         permit = made.permits[number - 1]
         demand(status_now(made, permit) == IN_FORCE, f"permit {number} is not in force")
-        demand(segment in permit.route, f"permit {number} does not use what is posted on")
+        demand(any(segment in route for route in permit.routes), f"permit {number} does not use what is posted on")
         permit.status, permit.posting = RECALLED, entry.version
     if limit == "rating":
         made.ratings[item] = value

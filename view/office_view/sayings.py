@@ -2,7 +2,7 @@
 import re
 
 from model import forms
-from model.files import CHECK_KINDS, DAY_KINDS, MOST, MOST_SPANS_OF_SEGMENT, Column, Values
+from model.files import CHECK_KINDS, DAY_KINDS, MOST, MOST_ANNUAL_DAYS, MOST_SPANS_OF_SEGMENT, Column, Values
 from model.records import MOST_BYTES
 
 from .command import printable
@@ -38,7 +38,7 @@ COLUMNS = {
         "a truck",
         "the node where a trip begins",
         "the node where a trip ends",
-        "a route",
+        "the list of routes",
         "a first day",
         "a last day",
     ),
@@ -152,10 +152,26 @@ def form_text(refusal: Refusal) -> str:
     if column.form is forms.axles:
         more = ": here are two spaces side by side" if b"  " in text else ""
         return f"{what} is pairs PLACE:WEIGHT of digits with one space between two, as 0:12000 180:17000{more}"
-    if column.form is forms.route:
-        return f"{what} is empty, or the names of segments with one space between two"
+    if column.form is forms.routes:
+        return f"{what} {routes_hint(text)}"
     words = forms.LIMITS if column.form is forms.limit else forms.POSTED
     return f"{what} is one of {', '.join(words[:-1])} and {words[-1]}, in small letters"
+
+
+def routes_hint(text: bytes) -> str:
+    """What the routes of an application are, and what seems to be wrong with them."""
+    count = text.count(b"|") + 1
+    if count > forms.MOST_ROUTES:
+        return f"has at most {forms.MOST_ROUTES} routes, and here are {count}"
+    if any(not route for route in text.split(b"|")):
+        return "has one bar between two routes: here a bar stands at an end, or two stand side by side"
+    more = ": here is a space beside a bar" if b" |" in text or b"| " in text else ""
+    return f"is empty, or the names of segments with one space between two, and one bar | between two routes{more}"
+
+
+def the_route(refusal: Refusal) -> str:
+    """The route that is at fault, or that it is one of several."""
+    return "one of the routes" if b"|" in refusal.field_text else "the route"
 
 
 def unknown_text(refusal: Refusal, sheet: Lenient) -> str:
@@ -196,7 +212,9 @@ def fields_text(refusal: Refusal, first: bytes) -> str:
     if any(b"\0" in text for text in record):
         return "there are zero bytes: the text is in UTF-16 or is no text; save it as CSV in UTF-8"
     for separator, name in SEPARATORS:
-        if len(record) < 8 and sum(text.count(separator) for text in record) >= 3:
+        # the bars of an application stand between its routes
+        is_kind = separator == b"|" and refusal.kind in kinds_of_all()
+        if len(record) < 8 and not is_kind and sum(text.count(separator) for text in record) >= 3:
             return f"the columns are separated by {name}: save the sheet with the comma as separator"
     if any(b"\n" in text or b"\r" in text for text in record):
         return "a quote is opened in this row and not closed in it, so that it takes in what follows"
@@ -267,9 +285,10 @@ def text_of(refusal: Refusal, sheet: Lenient, data: bytes, check: bool) -> str:
         return f"there is a {SINGULAR[kind]} {name} already, in row {row}: give this one a name of its own"
     return {
         "same-place": "a trip leads to another node than that where it begins",
-        "broken-route": "the route is no walk from the one node to the other: segments have a direction, and each "
-        "begins where the one before it ends",
+        "broken-route": f"{the_route(refusal)} is no walk from the one node to the other: segments have a direction, "
+        "and each begins where the one before it ends",
         "day-order": "the last day is before the first day: exchange them",
+        "annual-days": f"a permit for several routes has its last day at most {MOST_ANNUAL_DAYS} days after its first",
         "end": "the last row is missing: write end into column A below all others"
         if sheet.places
         else "the file is empty: is it the right one?",

@@ -5,6 +5,7 @@ where a refused record counts as mended: the name that it was to define is there
 above it is bad. The first cause of each record is the one that the second program's reader gives, which is compared
 with the proved program's.
 """
+from collections.abc import Sequence
 from dataclasses import dataclass, field
 from typing import Any
 
@@ -39,7 +40,8 @@ class Refusal:
         if word == "extra":
             used = len(kinds_of_all()[self.kind]) + 1
             return next(at for at, text in enumerate(self.record, 1) if at > used and text)
-        return {"kind": 1, "same": 2, "train": 7, "same-place": 5, "broken-route": 6, "day-order": 8}.get(word)
+        columns = {"kind": 1, "same": 2, "train": 7, "same-place": 5, "broken-route": 6}
+        return {**columns, "day-order": 8, "annual-days": 8}.get(word)
 
     @property
     def field_text(self) -> bytes:
@@ -202,7 +204,7 @@ class CheckSheet(Lenient, CheckFile):
 class DaySheet(Lenient, DayFile):
     """A day file that is read on."""
 
-    def is_walk(self, route: list[int], start: int, end: int) -> bool:
+    def is_walk(self, route: Sequence[int], start: int, end: int) -> bool:
         """A route over a segment whose ends are not known may be a walk."""
         return any(number in self.astray for number in route) or super().is_walk(route, start, end)
 

@@ -4,13 +4,18 @@ from fractions import Fraction
 from model.bridges import design
 from model.files import DayFile
 
-from .journal import Limit, Trip
+from .journal import Limit, Routes, Trip
 from .replay import EXPIRED, IN_FORCE, RECALLED, SURRENDERED, Answer, Other, Permit, Posting
 
 STATUS = {IN_FORCE: "In force", RECALLED: "Recalled", SURRENDERED: "Surrendered", EXPIRED: "Expired"}
 UNITS = {"height": "in", "width": "in", "length": "in", "gross": "lb", "tridem": "lb"}
 EFFECTS = {"moment": "moment", "shear": "end shear"}
 EFFECT_UNITS = {"moment": "lb·in", "shear": "lb"}
+
+
+def annual(routes: Routes) -> str:
+    """What is said in front of several routes."""
+    return "annual, " if len(routes) > 1 else ""
 
 
 def rounded(value: Fraction, places: int = 0) -> str:
@@ -41,8 +46,10 @@ class Words:
     def trip(self, trip: Trip) -> str:
         return f"{self.nodes[trip.start]} to {self.nodes[trip.end]}"
 
-    def route(self, route: tuple[int, ...]) -> str:
-        return ", ".join(self.segments[segment] for segment in route)
+    def routes(self, routes: Routes) -> str:
+        """By which segments, or by which others."""
+        said = "; or by ".join(", ".join(self.segments[segment] for segment in route) for route in routes)
+        return f"{annual(routes)}by {said}"
 
     def item(self, what: str, item: int) -> str:
         """A segment, or a span with its segment."""

@@ -63,12 +63,12 @@ def said_by(journal: str) -> dict[str, Any]:
     }
     for line in journal.split("\n"):
         call, _, reply = line.partition(" = ")
-        if found := re.match(r"issued (\d+) at (\d+) route ([\d,]+)", reply):
+        if found := re.match(r"issued (\d+) at (\d+) route ([\d,/]+)", reply):
             trip = re.search(r"truck (\d+) from (\d+) to (\d+) .*days (\S+) (\S+)", call)
             assert trip is not None
             said["permits"][int(found[1])] = {
                 "version": int(found[2]),
-                "route": list(map(int, found[3].split(","))),
+                "routes": [list(map(int, route.split(","))) for route in found[3].split("/")],
                 "truck": int(trip[1]),
                 "days": (trip[4], trip[5]),
                 "actor": int(line.split()[0]),

@@ -16,6 +16,8 @@ from office_view.journal import read_journal  # noqa: E402
 DAY = (EXAMPLES / "template.csv").read_bytes()
 JOURNAL = (EXAMPLES / "template.journal").read_bytes()
 TRIDEM = (EXAMPLES / "tridem.journal").read_bytes()
+ANNUAL_DAY = (EXAMPLES / "annual.csv").read_bytes()
+ANNUAL = (EXAMPLES / "annual.journal").read_bytes()
 
 
 class Shown(html.parser.HTMLParser):
@@ -78,8 +80,8 @@ class Content(unittest.TestCase):
             self.assertEqual(row[0], f"Permit {number}")
             self.assertEqual(row[3], trucks[wanted["truck"] - 1])
             self.assertEqual(row[4], " to ".join(wanted["days"]))
-            route = ", ".join(segments[segment - 1] for segment in wanted["route"])
-            self.assertIn(f"by {route} Show", row[5])
+            routes = [", ".join(segments[segment - 1] for segment in route) for route in wanted["routes"]]
+            self.assertIn(f", {'annual, ' if len(routes) > 1 else ''}by {'; or by '.join(routes)} Show", row[5])
             self.assertTrue(row[6].startswith(f"at version {wanted['version']},"))
             if number in said["recalled"]:
                 self.assertTrue(row[1].startswith(f"Recalled by posting {said['recalled'][number]}: "), row[1])
@@ -124,6 +126,22 @@ class Content(unittest.TestCase):
         )
         self.assertEqual(shown.rows["permit-2"][1], "Recalled by posting 2: RING-E is closed")
         self.assertEqual(shown.rows["posting-1"][2], "1,300")
+
+    def test_an_annual_permit_shows_all_its_routes(self) -> None:
+        shown = self.compare(ANNUAL_DAY, ANNUAL)
+        self.assertIn("DEPOT to PLANT, annual, by US20, SR7; or by RING, SR9", shown.rows["permit-1"][5])
+        self.assertIn("DEPOT to PLANT, by US20, SR7 ", shown.rows["permit-2"][5])
+        self.assertIn("annual, by US20, SR7; or by RING, SR9; or by PARKWAY", shown.rows["answer-1"][5])
+        self.assertIn("Recalled by posting 1: SR9 allows a height of at most 166 in", shown.rows["permit-1"][1])
+        chosen = {it["id"]: it["routes"] for it in json.loads(shown.data)["chosen"]}
+        self.assertEqual(chosen["permit-1"], [[0, 1], [2, 3]])
+        self.assertEqual(chosen["answer-1"], [[0, 1], [2, 3], [4]])
+
+    def test_journals_of_all_three_formats(self) -> None:
+        recall = (EXAMPLES / "recall.csv").read_bytes(), (EXAMPLES / "recall.journal").read_bytes()
+        tridem = (EXAMPLES / "tridem.csv").read_bytes(), TRIDEM
+        for (day, journal), number in ((recall, 1), (recall, 2), (recall, 3), (tridem, 2), (tridem, 3)):
+            self.compare(day, journal.replace(b"journal 3", b"journal %d" % number, 1))
 
     def test_says_which_files_it_shows_and_that_it_is_not_proved(self) -> None:
         text = Shown(page(DAY, JOURNAL, "--program", "/bin/true").stdout).text
@@ -237,24 +255,62 @@ class BadInput(unittest.TestCase):
             5,
             "the route is no walk",
         )
+        self.refuses(
+            DAY,
+            changed(b"route 1,3 = issued 1 at 0 route 1,3", b"route 1,3 = issued 1 at 0 route 1,3/1,3"),
+            5,
+            "no route is asked for, and the permit has several",
+        )
+
+    def test_annual_permits_that_do_not_hang_together(self) -> None:
+        def changed(old: bytes, new: bytes) -> bytes:
+            self.assertIn(old, ANNUAL)
+            return ANNUAL.replace(old, new, 1)
+
+        issued = b"issued 1 at 0 route 1,2/3,4"
+        for routes in (b"1,2", b"3,4/1,2", b"1,2/3,4/3,4"):
+            self.refuses(
+                ANNUAL_DAY,
+                changed(issued, b"issued 1 at 0 route " + routes),
+                5,
+                "the routes are not those that are asked for",
+            )
+        self.refuses(ANNUAL_DAY, changed(issued, b"issued 1 at 0 route 1,2/3,1"), 5, "the route is no walk")
+        self.refuses(ANNUAL_DAY, changed(issued, b"issued 1 at 0 route 1,2/-"), 5, "the route is no walk")
+        self.refuses(ANNUAL_DAY, changed(issued, b"issued 1 at 0 route 1,2/9"), 5, "there is no such segment")
+        self.refuses(
+            ANNUAL_DAY,
+            changed(b"posted 1 recalled 1", b"posted 1 recalled 2"),
+            5,
+            "permit 2 does not use what is posted on",
+        )
 
     def test_what_is_no_journal(self) -> None:
         self.refuses(DAY, b"refused: record 2 kind\n", 5, "the line of a refusal: refused: record 2 kind")
-        self.refuses(DAY, DAY, 5, "is no journal: line 1 is neither permit-journal 1 nor permit-journal 2")
+        first = "line 1 is none of permit-journal 1, permit-journal 2 and permit-journal 3"
+        self.refuses(DAY, DAY, 5, f"is no journal: {first}")
         self.refuses(b"nothing", JOURNAL, 5, "is no day file (refused: record 1 fields)")
 
     def test_names_the_first_bad_line(self) -> None:
         lines = JOURNAL.split(b"\n")
         cases = [
             (b"", 1),
-            (b"permit-journal 1", 1),
-            (b"permit-journal 3\nend 0\n", 1),
-            (TRIDEM.replace(b"journal 2", b"journal 1", 1), 4),
+            (b"permit-journal 3", 1),
+            (b"permit-journal 4\nend 0\n", 1),
+            (b"permit-journal 03\nend 0\n", 1),
+            (TRIDEM.replace(b"journal 3", b"journal 1", 1), 4),
             (TRIDEM.replace(b"tridem 2-4", b"tridem 2", 1), 6),
-            (b"permit-journal 1\nend 1\n", 2),
-            (b"permit-journal 1\nend 0\nx", 3),
-            (b"permit-journal 1\nend 0\n\n", 3),
-            (b"permit-journal 1\nend 0", 2),
+            (ANNUAL.replace(b"journal 3", b"journal 2", 1), 3),
+            (ANNUAL.replace(b"asked 1,2/3,4 ", b"asked 1,2//3,4 ", 1), 3),
+            (ANNUAL.replace(b"asked 1,2/3,4 ", b"asked 1,2/3,4/ ", 1), 3),
+            (ANNUAL.replace(b"asked 1,2/3,4 ", b"asked 1,2/none ", 1), 3),
+            (ANNUAL.replace(b"asked 1,2/3,4 ", b"asked " + b"1/" * 8 + b"1 ", 1), 3),
+            (ANNUAL.replace(b"at 0 route 1,2/3,4", b"at 0 route 1,2|3,4", 1), 3),
+            (ANNUAL.replace(b"fails 5", b"fails 5/5", 1), 5),
+            (b"permit-journal 3\nend 1\n", 2),
+            (b"permit-journal 3\nend 0\nx", 3),
+            (b"permit-journal 3\nend 0\n\n", 3),
+            (b"permit-journal 3\nend 0", 2),
             (JOURNAL[:-1], 25),
             (b"\n".join(lines[:5]) + b"\n", 6),
             (JOURNAL.replace(b" = at 0", b"  = at 0", 1), 2),

@@ -121,7 +121,8 @@ class Pages(unittest.TestCase):
         for number, wanted in said["permits"].items():
             row = rows[f"permit-{number}"]
             self.assertEqual((row[3], row[4]), (trucks[wanted["truck"] - 1], " to ".join(wanted["days"])))
-            self.assertIn("by " + ", ".join(segments[it - 1] for it in wanted["route"]) + " ", row[5])
+            routes = [", ".join(segments[it - 1] for it in route) for route in wanted["routes"]]
+            self.assertIn("by " + "; or by ".join(routes) + " ", row[5])
             recalled = said["recalled"].get(number)
             self.assertEqual(row[1].startswith(f"Recalled by posting {recalled}:"), recalled is not None, row[1])
         recalls = [", ".join(f"permit {number}" for number in it) or "nothing" for it in said["postings"]]
@@ -167,9 +168,10 @@ class Pages(unittest.TestCase):
             got = self.browser.value(
                 "[...document.querySelectorAll('#frame path.route')].map((it) => Number(it.id.slice(5)))"
             )
-            self.assertEqual(sorted(got), sorted(wanted["route"]))
+            held = list(dict.fromkeys(it for route in wanted["routes"] for it in route))
+            self.assertEqual(sorted(got), sorted(held))
             listed = self.browser.value("[...listed.tBodies[0].rows].map((row) => row.cells[0].textContent)")
-            self.assertEqual(listed[: len(wanted["route"])], [segments[it - 1][1] for it in wanted["route"]])
+            self.assertEqual(listed[: len(held)], [segments[it - 1][1] for it in held])
 
     def test_each_example(self) -> None:
         for file in day_examples():
@@ -182,6 +184,27 @@ class Pages(unittest.TestCase):
             day = made_day(100 + number, SIZES[number // 2])
             with self.subTest(number):
                 self.compare(day, journal_of(day))
+
+    def test_a_large_network_shows_each_route_of_an_annual_permit(self) -> None:
+        asked = b"w0-0 s0-0|s0-1 w1-0|w0-0 s0-0"
+        apply = b"apply,a1,t1,n0-1,n1-0," + asked + b",2026-01-01,2026-12-31\n"
+        day = made_day(1, 20).replace(b"apply,", apply + b"apply,", 1)
+        journal = journal_of(day)
+        path = self.page(day, journal, "annual")
+        self.browser.open(path)
+        permits = said_by(journal.decode())["permits"]
+        number, wanted = next((number, it) for number, it in permits.items() if len(it["routes"]) == 3)
+        self.set("choice", f"permit-{number}", "change")
+        self.assertIn("this is each route alone", self.browser.value("frame.textContent"))
+        got = self.browser.value(
+            "[...document.querySelectorAll('#frame path.route')].map((it) => Number(it.id.slice(5)))"
+        )
+        first, second, _ = wanted["routes"]
+        # the third route is the first one again, whose segments have their names in the page already
+        self.assertEqual(got, [*first, *second, 0, 0])
+        listed = self.browser.value("[...listed.tBodies[0].rows].map((row) => row.cells[2].textContent)")
+        self.assertEqual([text.startswith("on a route; ") for text in listed], [at < 4 for at in range(len(listed))])
+        self.quiet(path)
 
     def test_a_link_to_a_permit(self) -> None:
         path = self.page((EXAMPLES / "template.csv").read_bytes(), (EXAMPLES / "template.journal").read_bytes())
@@ -345,12 +368,12 @@ class Pages(unittest.TestCase):
         self.assertLess(took, SECONDS)
         self.assertIn("are too many to be drawn", self.browser.value("frame.textContent"))
         said = said_by(journal.decode())
-        number, wanted = max(said["permits"].items(), key=lambda it: len(it[1]["route"]))
+        number, wanted = max(said["permits"].items(), key=lambda it: sum(map(len, it[1]["routes"])))
         self.set("choice", f"permit-{number}", "change")
         got = self.browser.value(
-            "[...document.querySelectorAll('#frame path.route')].map((it) => Number(it.id.slice(5)))"
+            "[...document.querySelectorAll('#frame path.route[id]')].map((it) => Number(it.id.slice(5)))"
         )
-        self.assertEqual(got, wanted["route"])
+        self.assertEqual(got, list(dict.fromkeys(it for route in wanted["routes"] for it in route)))
         self.quiet(path)
 
 

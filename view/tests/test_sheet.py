@@ -47,6 +47,33 @@ class Refusals(unittest.TestCase):
             ],
         )
 
+    def test_says_what_is_wrong_with_several_routes(self) -> None:
+        asked = b"US20-E SR7-N,2026-03-03,2026-03-06"
+        self.assertIn(asked, GOOD)
+        cases = {
+            "a bar stands at an end, or two stand side by side": (b"US20-E SR7-N|", 6, b"2026-03-06"),
+            "here is a space beside a bar": (b"US20-E SR7-N | RING-E", 6, b"2026-03-06"),
+            "has at most 8 routes, and here are 9": (b"|".join([b"RING-E"] * 9), 6, b"2026-03-06"),
+            "one bar | between two routes": (b"US20-E SR7-N/RING-E", 6, b"2026-03-06"),
+            "no segment above is called RING": (b"US20-E SR7-N|RING", 6, b"2026-03-06"),
+            "one of the routes is no walk": (b"US20-E SR7-N|US20-E", 6, b"2026-03-06"),
+            "its last day at most 365 days after its first": (b"US20-E SR7-N|RING-E", 8, b"2027-03-04"),
+        }
+        for words, (routes, column, last) in cases.items():
+            _, said = sheet(GOOD.replace(asked, routes + b",2026-03-03," + last), "--no-warnings")
+            self.assertEqual(len(said), 2, said)
+            self.assertTrue(said[0].startswith(f"row 20, column {'ABCDEFGH'[column - 1]} "), said[0])
+            self.assertIn(words, said[0])
+        _, said = sheet(GOOD.replace(asked, b"|".join([b"RING-E"] * 8) + b",2026-03-03,2027-03-03"), "--no-warnings")
+        self.assertEqual(said, ["the office takes this file"])
+
+    def test_bars_between_routes_are_no_separators_of_columns(self) -> None:
+        row = b"apply,ann,LOWBOY,DEPOT,PLANT,RING-E|RING-E|RING-E|RING-E,2026-03-03\n"
+        _, said = sheet(GOOD.replace(b"end,", row + b"end,"), "--no-warnings")
+        self.assertIn("commas are missing", said[0])
+        _, said = sheet(GOOD.replace(b",", b"|"), "--no-warnings")
+        self.assertIn("the columns are separated by bars", said[0])
+
     def test_names_every_row_and_every_column_that_is_bad(self) -> None:
         data = (
             GOOD.replace(b"26400", b'"26,400"')
@@ -141,6 +168,7 @@ class Warned(unittest.TestCase):
             "an allowance is in thousandths": GOOD.replace(b"gross,150000", b"allowance,150"),
             "does not go back": GOOD.replace(b"setday,ann,2026-03-04", b"setday,ann,2026-03-01"),
             "a permit of more than a year": GOOD.replace(b"2026-03-06", b"2028-03-06", 1),
+            "a route stands here twice": GOOD.replace(b"US20-E SR7-N,", b"US20-E SR7-N|RING-E|US20-E SR7-N,"),
             "the last axle stands 234 in behind the first": GOOD.replace(b"168,120,780", b"168,120,200"),
             "the segment leads from a node to itself": GOOD.replace(
                 b"RING-E,DEPOT,PLANT", b"LOOP,DEPOT,DEPOT"
