@@ -1,7 +1,7 @@
 """Reads the sources of the repository: definitions, what they rest on, and public calls with their clauses.
 
-What docs/reading_list and docs/make_pages have in common. It reads text that is laid out as the kit's formatter does, and is no
-compiler.
+What docs/reading_list and docs/make_pages have in common. It reads text that is laid out as the kit's formatter does,
+and is no compiler.
 """
 import re
 from collections import Counter, defaultdict
@@ -162,8 +162,10 @@ class Specs:
 
 
 def unindented(text: str) -> tuple[str, dict[str, str]]:
-    """The text of a file with what stands in a nameless module moved to the left, and the module's parameters of each of these."""
-    made, parameters, given = [], {}, ""
+    """The text of a file with what stands in nameless modules moved to the left, and the parameters of each of it."""
+    made: list[str] = []
+    parameters: dict[str, str] = {}
+    given = ""
     for line in text.splitlines():
         module = MODULE.match(line)
         if module:
@@ -193,7 +195,7 @@ def words_of(text: str) -> set[str]:
 
 
 def behind_points(text: str, aliases: dict[str, str]) -> Iterator[Named]:
-    """The names behind a point in a module that has another name here. Behind a point stands a field of a value else."""
+    """The names behind a point in a module that has another name here. Else a field of a value stands there."""
     for word in WORD.findall(re.sub(r'"[^"]*"', " ", text)):
         head, _, tail = word.partition(".")
         if head in aliases and tail:
@@ -317,10 +319,10 @@ class Clause:
 
 @dataclass
 class Item:
-    """A type, a constant, a trait, an `impl` or a call of a file: whose it is, its comment, its head, and what contracts see of it.
+    """A type, a constant, a trait, an `impl` or a call of a file: whose it is, its comment, its head and its clauses.
 
-    The head of a call is its signature, that of an `impl` its first line. `members` are what contracts see of a trait or of an
-    `impl`, by their names, and `parts` the variants and the fields of a type, each with its comment.
+    The head of a call is its signature, that of an `impl` its first line. `members` are what contracts see of a trait
+    or of an `impl`, by their names, and `parts` the variants and the fields of a type, each with its comment.
     """
 
     kind: str
@@ -353,9 +355,9 @@ class Program:
 
     def cites(self, text: str) -> list[Named]:
         """What a term names of the repository's definitions, each once, in the order of the text."""
-        found = {self.imports[word]: None for word in re.findall(r"[^\s(){}\[\];,.λ×→]+", text) if word in self.imports}
-        found.update((name, None) for name in behind_points(text, self.aliases))
-        return [it for it in found if ".specs." in it.module and path_of(it.module)]
+        words = re.findall(r"[^\s(){}\[\];,.λ×→]+", text)
+        found = [*(self.imports[word] for word in words if word in self.imports), *behind_points(text, self.aliases)]
+        return [it for it in dict.fromkeys(found) if ".specs." in it.module and path_of(it.module)]
 
 
 def items_of(lines: list[str]) -> Iterator[Item]:
@@ -449,7 +451,8 @@ def without_generics(text: str) -> str:
 
 def clauses_of(lines: list[str]) -> list[Clause]:
     """The clauses at the end of a head."""
-    made, comment = [], list[str]()
+    made: list[Clause] = []
+    comment: list[str] = []
     at = 0
     while at < len(lines):
         stripped = lines[at].strip()
