@@ -381,7 +381,7 @@ def items_of(lines: list[str]) -> Iterator[Item]:
             if found[1] in ("impl", "trait"):
                 block = item if not lines[end].endswith("}") else None
             elif lines[end].endswith("{"):
-                at = lines.index(" " * indent + "}", end)
+                at = next(place for place in range(end + 1, len(lines)) if lines[place].startswith(" " * indent + "}"))
                 item.parts = parts_of(lines[end + 1:at])
             yield item
         elif block and stripped.startswith("ghost ") and not stripped.startswith("ghost use"):
