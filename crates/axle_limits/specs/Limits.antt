@@ -35,10 +35,11 @@ IsGroupLimit axles i j limit TwoTandem =
     × (limit ≡ TWO_TANDEM_LIMIT)
 IsGroupLimit axles i j limit Gross = ⊥
 
--- the same as tests
+-- whether axles that are so far apart are a tandem axle
 abbrev pub is_tandem : ℕ → Bool
 is_tandem inches = nat_lt SINGLE_SPREAD inches && nat_le inches TANDEM_SPREAD
 
+-- whether the axles i to j are two tandem axles
 abbrev pub is_two_tandem : List Axle → ℕ → ℕ → Bool
 is_two_tandem axles i j =
     nat_eq (j - i) 3 && nat_le TWO_TANDEM_SPREAD (spread axles i j) && is_tandem (spread axles i (i + 1)) && is_tandem (spread axles (i + 2) j)
@@ -53,6 +54,7 @@ group_limit_of axles i j =
     else (if nat_lt formula TWO_TANDEM_LIMIT && is_two_tandem axles i j then record { limit = TWO_TANDEM_LIMIT; rule = TwoTandem }
     else record { limit = formula; rule = Formula }))
 
+-- the limit of the axles i to j alone, computed
 abbrev pub limit_of : List Axle → ℕ → ℕ → ℕ
 limit_of axles i j = (group_limit_of axles i j).limit
 

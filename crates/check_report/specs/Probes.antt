@@ -15,6 +15,7 @@ Grew old new more = string_bytes new ≡ string_bytes old ++ more
 abbrev pub span_line : Probe → List ℕ
 span_line probe = codes "span " ++ (decimal probe.inches ++ (10 ∷ []))
 
+-- the word for a judgement by a rating
 abbrev pub fit_name : Fit → List ℕ
 fit_name Fits = codes "fits"
 fit_name Moment = codes "moment"

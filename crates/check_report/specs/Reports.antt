@@ -31,6 +31,7 @@ abbrev pub truck_line : Truck → List ℕ
 truck_line truck =
     codes "truck " ++ (truck.name ++ (codes " axles " ++ (decimal (length truck.load.train) ++ (codes " gross " ++ (decimal (sum_by (λ a. a.weight) truck.load.train) ++ (10 ∷ []))))))
 
+-- the word for a rule by which a weight is limited
 abbrev pub rule_name : Rule → List ℕ
 rule_name Single = codes "single"
 rule_name Tandem = codes "tandem"
@@ -71,6 +72,7 @@ abbrev pub moment_line : MomentPeak → List ℕ
 moment_line m =
     codes "moment " ++ (ratio_text m.value ++ (codes " at " ++ (decimal m.place.q ++ (codes " " ++ (signed_decimal m.place.lead ++ (codes " " ++ (decimal m.place.section ++ (codes " axle " ++ (decimal (m.axle + 1) ++ (codes " run " ++ (decimal (m.first + 1) ++ (codes "-" ++ (decimal (m.last + 1) ++ (10 ∷ []))))))))))))))
 
+-- the word for an end of a span
 abbrev pub end_name : End → List ℕ
 end_name Left = codes "left"
 end_name Right = codes "right"

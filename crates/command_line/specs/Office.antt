@@ -24,15 +24,19 @@ number_rule option = record (new_rule option.name) {
   parser = Some (vp.Signed (pos option.least) (pos option.most));
 }
 
+-- `--seed`: 0 to 65,535, and 1 where it is not given
 abbrev pub seed_option : NumberOption
 seed_option = record { name = codes "seed"; default = codes "1"; least = 0; most = 65535 }
 
+-- `--size`: 1 to 40, and 1 where it is not given
 abbrev pub size_option : NumberOption
 size_option = record { name = codes "size"; default = codes "1"; least = 1; most = 40 }
 
+-- `--trucks`: 2 to 16, and 2 where it is not given
 abbrev pub trucks_option : NumberOption
 trucks_option = record { name = codes "trucks"; default = codes "2"; least = 2; most = 16 }
 
+-- `--gap`: 1 to 3,000, and 360 where it is not given
 abbrev pub gap_option : NumberOption
 gap_option = record { name = codes "gap"; default = codes "360"; least = 1; most = 3000 }
 

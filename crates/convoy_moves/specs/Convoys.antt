@@ -13,6 +13,7 @@ pub record EqualTrucks : Type 0 where
   pub trucks : ℕ
   pub gap : ℕ
 
+-- so many trucks with these axles, and this gap between two
 abbrev pub convoy_of : List Axle → ℕ → ℕ → EqualTrucks
 convoy_of axles trucks gap = record { axles = axles; trucks = trucks; gap = gap }
 

@@ -13,6 +13,7 @@ use Rattle.record_text.specs.declared.refusal.Cause.TheVariants as why
 use Rattle.record_text.specs.declared.refusal.RecordCause.TheVariants as bad
 use Rattle.record_text.specs.declared.refusal.Kind.TheVariants as kind
 
+-- whether a record is of a kind that a check file has
 abbrev pub is_check_kind : Row → Bool
 is_check_kind fields = has_kind (codes "truck") fields || has_kind (codes "probe") fields || has_kind (codes "end") fields
 

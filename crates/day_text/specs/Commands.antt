@@ -120,9 +120,11 @@ asked_permit_of d fields = do
   actor ← or_bad (bad.Unknown 2) (number_named name d.actors)
   Ok (actor, number)
 
+-- surrender,ACTOR,NUMBER: the actor gives the permit of that number back
 abbrev pub surrender_of : DaySoFar → Row → Result Order Cause
 surrender_of d fields = asked_permit_of d fields >>= (λ x. Ok (record { actor = x.0; command = command.Surrender x.1 }))
 
+-- show,ACTOR,NUMBER: the actor asks what the permit of that number is
 abbrev pub show_of : DaySoFar → Row → Result Order Cause
 show_of d fields = asked_permit_of d fields >>= (λ x. Ok (record { actor = x.0; command = command.Show x.1 }))
 

@@ -49,16 +49,19 @@ judge_opening Actor fields = Err (why.Bad bad.Order)
 judge_opening (Command kind) fields = Err (why.Bad bad.Order)
 judge_opening End fields = Err (why.Bad bad.Order)
 
--- what a record between the day and the end adds
+-- what a record of the road network adds, between the day and the end
 abbrev pub with_road : DaySoFar → RoadKind → Row → Result DaySoFar Cause
 with_road d kind fields = roads_of d.network kind fields >>= (λ roads. Ok (record d { network = roads }))
 
+-- what a record of a truck adds
 abbrev pub with_truck : DaySoFar → Row → Result DaySoFar Cause
 with_truck d fields = fleet_of d.fleet fields >>= (λ fleet. Ok (record d { fleet = fleet }))
 
+-- what a record of an actor adds
 abbrev pub with_actor : DaySoFar → Row → Result DaySoFar Cause
 with_actor d fields = actors_of d.actors fields >>= (λ actors. Ok (record d { actors = actors }))
 
+-- what a record of a command adds
 abbrev pub with_command : DaySoFar → CommandKind → Row → Result DaySoFar Cause
 with_command d kind fields =
     order_of d kind fields >>= (λ order. with_order d.orders order >>= (λ orders. Ok (record d { orders = orders })))

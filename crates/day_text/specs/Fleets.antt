@@ -9,6 +9,7 @@ use Rattle.record_text.specs.declared.refusal.Cause.{Cause}
 use Rattle.record_text.specs.declared.refusal.RecordCause.TheVariants as bad
 use Rattle.record_text.specs.declared.refusal.Kind.TheVariants as kind
 
+-- the names of some trucks
 abbrev pub truck_names : List Truck → List (List ℕ)
 truck_names trucks = map (λ t. t.name) trucks
 

@@ -8,6 +8,7 @@ use Rattle.day_text.specs.declared.kind.RecordKind.TheVariants.{Actor, Command, 
 use Rattle.day_text.specs.declared.kind.RoadKind.{RoadKind}
 use Rattle.day_text.specs.declared.kind.RoadKind.TheVariants.{Limit, Node, Segment, Span}
 
+-- the kind of the road network that a word names, if it names one
 abbrev pub road_kind_of : List ℕ → Option RoadKind
 road_kind_of text =
     if bytes_eq text (codes "node") then Some Node
@@ -15,6 +16,7 @@ road_kind_of text =
     else (if bytes_eq text (codes "limit") then Some Limit
     else (if bytes_eq text (codes "span") then Some Span else None)))
 
+-- the kind of command that a word names, if it names one
 abbrev pub command_kind_of : List ℕ → Option CommandKind
 command_kind_of text =
     if bytes_eq text (codes "apply") then Some Apply
@@ -28,6 +30,7 @@ abbrev pub road_or_command : List ℕ → Option RoadKind → Option RecordKind
 road_or_command text (Some kind) = Some (Road kind)
 road_or_command text None = option_map Command (command_kind_of text)
 
+-- the kind of record that a word names, if it names one
 abbrev pub kind_of : List ℕ → Option RecordKind
 kind_of text =
     if bytes_eq text (codes "day") then Some Day

@@ -8,5 +8,6 @@ pub record IsSpan (probe : Probe) : Type 0 where
   pub long : probe.inches ≤ 6000
   pub rating : probe.rating ≤ 100000
 
+-- each span has 1 to 6,000 in, and a rating of at most 100,000 per mille
 abbrev pub AreSpans : List Probe → Type 0
 AreSpans probes = All IsSpan probes

@@ -16,6 +16,7 @@ place_of Truck = 0
 place_of Lane = 1
 place_of Military = 2
 
+-- one design load comes before another in the order truck, lane load, military loading
 abbrev pub ComesBefore : By → By → Type 0
 ComesBefore one other = place_of one < place_of other
 

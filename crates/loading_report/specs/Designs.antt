@@ -14,6 +14,7 @@ use Rattle.day_text.specs.declared.check_file.CheckFile.{CheckFile}
 use Rattle.day_text.specs.declared.check_file.Probe.{Probe}
 use Rattle.check_report.specs.Probes.{AreTexts, rating_line, span_line}
 
+-- the word for a design load
 abbrev pub load_name : By → List ℕ
 load_name Truck = codes "truck"
 load_name Lane = codes "lane"

@@ -15,16 +15,19 @@ weight_in axles = sum_by (λ a. a.weight) axles
 abbrev pub moment_in : List Axle → ℕ
 moment_in axles = sum_by (λ a. a.weight * a.place) axles
 
--- weight times distance of the axles in front of a place, and of those behind it
+-- weight times distance of the axles in front of a place
 abbrev pub front_in : ℕ → List Axle → ℕ
 front_in place axles = sum_by (λ a. a.weight * (place - a.place)) axles
 
+-- weight times distance of the axles behind a place
 abbrev pub back_in : ℕ → List Axle → ℕ
 back_in place axles = sum_by (λ a. a.weight * (a.place - place)) axles
 
+-- the weight of the axles first to last
 abbrev pub run_weight : List Axle → ℕ → ℕ → ℕ
 run_weight axles first last = weight_in (run axles first last)
 
+-- the weight times place of the axles first to last
 abbrev pub run_moment : List Axle → ℕ → ℕ → ℕ
 run_moment axles first last = moment_in (run axles first last)
 

@@ -17,10 +17,11 @@ through recalls s = record s {
 abbrev pub Delivered : List Standing → List Recall → List Standing → Type 0
 Delivered before recalls after = after ≡ map (through recalls) before
 
--- Each subscriber was told all of the list that is its own, in order, once each, and is through with it.
+-- told all of the list that is its own, in order, once each, and through with it
 abbrev pub told_all : List Recall → Standing → Standing
 told_all recalls s = record s { passed = length recalls; told = told_more s.told (recalls_for s.whom recalls) }
 
+-- Each subscriber was told all of the list that is its own, in order, once each, and is through with it.
 abbrev pub EachToldAll : List Standing → List Recall → List Standing → Type 0
 EachToldAll before recalls after = after ≡ map (told_all recalls) before
 

@@ -28,6 +28,7 @@ pub record Machine : Type 0 where
   pub permits : List Permit
   pub day : List ℕ
 
+-- the machine with these postings, these permits and this day
 abbrev pub machine_at : List Change → List Permit → List ℕ → Machine
 machine_at postings permits day = record { postings = postings; permits = permits; day = day }
 
@@ -55,10 +56,11 @@ state_at base m seen = state_of base.roads (take seen m.postings)
 abbrev pub reply_in : BaseLists → Machine → Application → What → Reply
 reply_in base m a w = apply_reply base (state_in base m) (version_of m) m.day (length m.permits + 1) a w
 
--- what is in force once a change is posted, and the permits in force that then fail
+-- what is in force once a change is posted
 abbrev pub state_with : BaseLists → Machine → Change → InForce
 state_with base m change = state_of base.roads (m.postings ++ change ∷ [])
 
+-- the permits in force that fail once a change is posted, by their numbers
 abbrev pub recalled_with : BaseLists → Machine → Change → List ℕ
 recalled_with base m change = recalled_by base (state_with base m change) m.day m.permits
 
@@ -103,6 +105,7 @@ IsGiven base m caller (call.Day day) r = r ≡ day_reply m.day day
 IsGiven base m caller (call.Surrender number) r = r ≡ surrender_reply m.permits m.day caller number
 IsGiven base m caller (call.Show number) r = r ≡ show_reply m.permits m.day number
 
+-- the answer where memory suffices, or that it was wanting, where that may be
 abbrev pub IsAnswer : BaseLists → Machine → ℕ → Call → Reply → Type 0
 IsAnswer base m caller c r = IsGiven base m caller c r ⊎ ((r ≡ reply.NoMemory) × IsTrue (may_lack base m c))
 
@@ -121,6 +124,7 @@ with_issued permits caller a seen (reply.Issued number version routes) =
     permits ++ new_permit number (trip_for caller a routes) version seen ∷ []
 with_issued permits caller a seen _ = permits
 
+-- the machine after an application is answered
 abbrev pub with_permit : Machine → ℕ → Application → ℕ → Reply → Machine
 with_permit m caller a seen r = record m { permits = with_issued m.permits caller a seen r }
 
@@ -136,10 +140,12 @@ with_posting base m change (reply.Posted version recalled) = record m {
 }
 with_posting base m change _ = m
 
+-- the machine after a day is answered: a day that was set is the day, and else nothing changes
 abbrev pub with_day : Machine → Reply → Machine
 with_day m (reply.DayIs day) = record m { day = day }
 with_day m _ = m
 
+-- the machine after a surrender is answered: a permit that was given back is marked so, and else nothing changes
 abbrev pub with_surrender : Machine → ℕ → Reply → Machine
 with_surrender m number reply.Surrendered = record m { permits = marked m.permits number mark.Surrendered }
 with_surrender m number _ = m
@@ -160,9 +166,11 @@ pub record Step (base : BaseLists) (m : Machine) (e : Entry) (next : Machine) : 
   pub answer : IsAnswer base m e.caller e.call e.reply
   pub next_is : next ≡ after base m e.caller e.call e.reply
 
+-- the machine after an entry
 abbrev pub after_entry : BaseLists → Machine → Entry → Machine
 after_entry base m e = after base m e.caller e.call e.reply
 
+-- the machine after entries, one after another
 abbrev pub after_all : BaseLists → Machine → List Entry → Machine
 after_all base m [] = m
 after_all base m (e ∷ es) = after_all base (after_entry base m e) es

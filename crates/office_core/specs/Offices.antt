@@ -22,6 +22,7 @@ newly_opened base day most = record { base = base; opening = day; most = most; h
 abbrev pub seen_of : Inside → Opened
 seen_of o = record { base = o.register.base; opening = o.opening; most = o.most; history = o.history.items }
 
+-- an entry: its caller, its call and its reply
 abbrev pub entry : ℕ → Call → Reply → Entry
 entry caller call reply = record { caller = caller; call = call; reply = reply }
 
@@ -37,10 +38,11 @@ stored_in_office o = stored_of o.base (machine_in o)
 abbrev pub grown : Opened → Entry → Opened
 grown o e = record o { history = o.history ++ e ∷ [] }
 
--- the history holds the most entries that it may, or has a place left
+-- the history holds the most entries that it may
 abbrev pub IsFull : Opened → Type 0
 IsFull o = o.most ≤ length o.history
 
+-- the history has a place left for an entry
 abbrev pub HasPlace : Opened → Type 0
 HasPlace o = length o.history < o.most
 

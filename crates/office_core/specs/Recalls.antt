@@ -40,6 +40,7 @@ InForceMeetElsewhere base state segment day permits = All (MeetsElsewhereIfInFor
 abbrev pub recalled_by : BaseLists → InForce → List ℕ → List Permit → List ℕ
 recalled_by base state day permits = map (λ p. p.number) (filter (is_recalled base state day) permits)
 
+-- a permit that a state recalls has the mark of its recall, and every other stays
 abbrev pub recalled_if : BaseLists → InForce → List ℕ → ℕ → Permit → Permit
 recalled_if base state day version p = if is_recalled base state day p then record p { mark = mark.Recalled version } else p
 

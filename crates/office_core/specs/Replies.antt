@@ -26,6 +26,7 @@ abbrev pub fails_reply : ℕ → ℕ → Option Limit → Reply
 fails_reply v segment (Some limit) = reply.Refused v limit
 fails_reply v segment None = reply.Outdated v (cause.NowMeets segment)
 
+-- the answer where no walk is left: the limit that fails is named, or there is no road where none does
 abbrev pub refused_or : ℕ → Option Limit → Reply
 refused_or v (Some limit) = reply.Refused v limit
 refused_or v None = reply.NoRoad

@@ -16,6 +16,7 @@ use Rattle.office_turn.specs.Told.{Lock, Passing}
 abbrev pub Terms : Type 0
 Terms = BaseLists × List ℕ × ℕ
 
+-- the terms of an office
 abbrev pub terms_of : Opened → Terms
 terms_of o = (o.base, o.opening, o.most)
 

@@ -27,14 +27,15 @@ TookAtMost most old new = (taken : List ℕ) × Consumes old new taken × (lengt
 abbrev pub TookExactly : ℕ → Option (List ℕ) → Option (List ℕ) → Type 0
 TookExactly count old new = (taken : List ℕ) × Consumes old new taken × (length taken ≡ count)
 
--- What holds where a reader answers that the source failed, where it answers anything else, and where it answers that there
--- were too many bytes.
+-- What holds where a reader answers that the source failed.
 abbrev pub OnReadFault : {T : Type 0} → Result T ReadRefusal → Type 0 → Type 0
 OnReadFault result P = IsErrOf result ReadFault → P
 
+-- What holds where a reader answers anything but that the source failed.
 abbrev pub UnlessReadFault : {T : Type 0} → Result T ReadRefusal → Type 0 → Type 0
 UnlessReadFault result P = (IsErrOf result ReadFault → ⊥) → P
 
+-- What holds where a reader answers that there were too many bytes.
 abbrev pub OnTooLong : {T : Type 0} → Result T ReadRefusal → Type 0 → Type 0
 OnTooLong result P = IsErrOf result TooLong → P
 

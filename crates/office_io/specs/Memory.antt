@@ -18,10 +18,11 @@ pub record SinkState : Type 0 where
   pub calls : ℕ
   pub faults : ℕ
 
--- a source of these bytes, of which no call was made yet, and a sink with this room that holds nothing yet
+-- a source of these bytes, of which no call was made yet
 abbrev pub new_source : List ℕ → List ℕ → SourceState
 new_source bytes failing = record { left = bytes; failing = failing; calls = 0; faults = 0 }
 
+-- a sink with this room that holds nothing yet, of which no call was made yet
 abbrev pub new_sink : ℕ → List ℕ → SinkState
 new_sink room failing = record { held = []; room = room; failing = failing; calls = 0; faults = 0 }
 

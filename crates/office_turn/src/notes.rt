@@ -8,7 +8,7 @@ use crate::turn::{NoMemory, Turn, Worn};
 use std::alloc::Global;
 use std::sync::Wait;
 
-// Pairs of a caller and a number. The room for them is taken at the start.
+/// A value with a story, as an example: pairs of a caller and a number. The room for them is taken at the start.
 #[derive(Drop)]
 pub struct Notes {
     pub pairs: Vec<(u32, u32)>,
@@ -29,6 +29,7 @@ impl Storied for Notes {
 }
 
 impl Notes {
+    /// No pairs yet, and room for so many.
     pub fn new(alloc: Global, room: u32) -> Result<Notes, NoMemory>
         ensures { IfOk result (λ n. (n.pairs.items ≡ []) × (n.room ≡ room)) }
     {
@@ -45,7 +46,8 @@ impl Notes {
     }
 }
 
-// Takes one turn, and notes a number in it. The lock gives as many turns as the notes have room.
+/// Takes one turn, and notes a number in it: the pass's own entries grow by just that, or it is told that the lock is worn. The
+/// lock gives as many turns as the notes have room.
 pub fn note_once<R: Wait>(
     rt: &R,
     turn: &Turn<Notes>,

@@ -62,6 +62,7 @@ status_of p day = status_by p.mark p.trip.last day
 abbrev pub status_in : List Permit → ℕ → List ℕ → Option Status
 status_in permits number day = if is_issued permits number then Some (status_of (permit_of permits number) day) else None
 
+-- whether a status is that of a permit in force
 abbrev pub is_in_force : Status → Bool
 is_in_force status.InForce = true
 is_in_force (status.Recalled version) = false

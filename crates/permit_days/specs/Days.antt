@@ -22,13 +22,15 @@ digit_at text i = slice_index text i - 48
 abbrev pub pair_at : List ℕ → ℕ → ℕ
 pair_at text i = 10 * digit_at text i + digit_at text (i + 1)
 
--- the year, the month and the day of the month that a text of that shape writes
+-- the year that a text of that shape writes
 abbrev pub year_of : List ℕ → ℕ
 year_of text = 100 * pair_at text 0 + pair_at text 2
 
+-- the month that a text of that shape writes
 abbrev pub month_of : List ℕ → ℕ
 month_of text = pair_at text 5
 
+-- the day of the month that a text of that shape writes
 abbrev pub day_of : List ℕ → ℕ
 day_of text = pair_at text 8
 

@@ -31,6 +31,7 @@ IsAnswerToText refused NoMemory = Unit {0}
 abbrev pub answer_to_entry : ℕ → Answer
 answer_to_entry n = record { status = 9; line = codes "not legal: entry " ++ (decimal (n + 1) ++ (10 ∷ [])) }
 
+-- how a verdict is answered: a legal history is not refused, and another by its first bad entry
 abbrev pub answer_to_verdict : Verdict → Option Answer
 answer_to_verdict Legal = None
 answer_to_verdict (Bad n) = Some (answer_to_entry n)
@@ -72,6 +73,7 @@ pub record IsAudit (bytes text : List ℕ) : Type 0 where
   pub legal : IsLegal file.base file.day history
   pub line : text ≡ legal_line (length history)
 
+-- `audit`: it reads, leaves no choice of the text, and tells nobody of recalls
 abbrev pub audit : Command
 audit = record {
   reads = true;

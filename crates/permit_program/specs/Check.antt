@@ -11,6 +11,7 @@ pub record IsReportOn (bytes text : List ℕ) : Type 0 where
   pub read : check_of bytes ≡ Ok file
   pub report : IsReport file text
 
+-- `check`: it reads, leaves no choice of the text, and tells nobody of recalls
 abbrev pub check : Command
 check = record {
   reads = true;

@@ -14,6 +14,7 @@ pub record Answer : Type 0 where
   pub status : ℕ
   pub line : List ℕ
 
+-- a command: what it reads, how it judges bytes, what it promises of its text, and whom it tells
 pub record Command : Type 1 where
   -- whether it reads what the source has left; a command that does not has no bytes
   pub reads : Bool

@@ -11,7 +11,7 @@ use Rattle.permit_program.specs.Audit.{audit}
 use Rattle.permit_program.specs.Design.{design}
 use Rattle.permit_program.specs.Convoy.{convoy}
 
--- the options are read with each command, and used by three
+-- the command of a task; the options are read with each, and used by three
 abbrev pub command_by : Task → Options → Command
 command_by task.Check options = check
 command_by task.Day options = day
@@ -21,5 +21,6 @@ command_by task.Audit options = audit
 command_by task.Design options = design
 command_by task.Convoy options = convoy options.trucks options.gap
 
+-- the command that the words ask for
 abbrev pub command_of : Asked → Command
 command_of asked = command_by asked.task asked.options

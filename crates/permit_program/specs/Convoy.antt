@@ -24,6 +24,7 @@ pub record IsConvoyReportOn (trucks gap : ℕ) (bytes text : List ℕ) : Type 0 
   pub read : check_of bytes ≡ Ok file
   pub report : IsConvoyReport (convoy_of file.truck.load.train trucks gap) file.probes text
 
+-- `convoy`, with so many trucks and this gap: it reads, leaves no choice of the text, and tells nobody of recalls
 abbrev pub convoy : ℕ → ℕ → Command
 convoy trucks gap = record {
   reads = true;

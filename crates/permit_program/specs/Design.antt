@@ -11,6 +11,7 @@ pub record IsDesignReportOn (bytes text : List ℕ) : Type 0 where
   pub read : check_of bytes ≡ Ok file
   pub report : IsDesignReport file text
 
+-- `design`: it reads, leaves no choice of the text, and tells nobody of recalls
 abbrev pub design : Command
 design = record {
   reads = true;

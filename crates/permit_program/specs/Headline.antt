@@ -14,6 +14,7 @@ use Rattle.office_core.specs.Machine.{IsLegal, entries_by}
 use Rattle.office_core.specs.Promises.{KeepsPromises}
 use Rattle.analyst_pool.specs.Unfolds.{AreFinished}
 
+-- The headline: the bytes are a day file, and the text is the journal of a history that keeps all of these.
 pub record Headline (bytes text : List ℕ) : Type 0 where
   -- the bytes are a day file: its roads and trucks, its day, its actors and their commands
   pub file : DayParts

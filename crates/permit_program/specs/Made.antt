@@ -26,8 +26,10 @@ reading_none IsText = record {
   recalls = λ bytes text output. None;
 }
 
+-- `make`: its text is the day file that is made of the seed and the size
 abbrev pub make : ℕ → ℕ → Command
 make seed size = reading_none (λ text. text ≡ made_day seed size)
 
+-- `trial`: its text sums up the day that is made of the seed and the size
 abbrev pub trial : ℕ → ℕ → Command
 trial seed size = reading_none (IsTrial seed size)

@@ -54,12 +54,15 @@ pub record Outside (S K : Type 0) : Type 0 where
   pub sink : SinkAt K
   pub desk : DeskAt
 
+-- a source at some time, of which contracts see what it has left and how often it has failed
 abbrev pub source_at : {S : Type 0} → (S → Option (List ℕ)) → (S → ℕ) → S → SourceAt S
 source_at left faults source = record { itself = source; left = left source; faults = faults source }
 
+-- a sink at some time, of which contracts see what it holds and how often it has failed
 abbrev pub sink_at : {K : Type 0} → (K → Option (List ℕ)) → (K → ℕ) → K → SinkAt K
 sink_at held faults sink = record { itself = sink; held = held sink; faults = faults sink }
 
+-- what a run meets outside: this source, this sink and this desk
 abbrev pub outside_of : {S K : Type 0} → (S → Option (List ℕ)) → (S → ℕ)
     → (K → Option (List ℕ)) → (K → ℕ) → S → K → DeskAt → Outside S K
 outside_of left source_faults held sink_faults source sink desk = record {
@@ -77,13 +80,15 @@ desk_at told faults text subscribers = record {
   texts = texts text subscribers;
 }
 
--- the source failed meanwhile, the sink did, and the object of one who is told of recalls did
+-- the source failed meanwhile
 abbrev pub SourceFailed : {S K : Type 0} → Outside S K → Outside S K → Type 0
 SourceFailed before after = Rose before.source.faults after.source.faults
 
+-- the sink failed meanwhile
 abbrev pub SinkFailed : {K : Type 0} → SinkAt K → SinkAt K → Type 0
 SinkFailed before after = Rose before.faults after.faults
 
+-- the object of one who is told of recalls failed meanwhile
 abbrev pub NoticeFailed : DeskAt → DeskAt → Type 0
 NoticeFailed before after = (place : ℕ) × RoseAt place before.faults after.faults
 

@@ -9,8 +9,8 @@ use Rattle.record_text.specs.declared.refusal.RecordRefusal.TheVariants as refus
 use Rattle.record_text.specs.declared.refusal.FileRefusal.{FileRefusal}
 use Rattle.record_text.specs.declared.refusal.FileRefusal.TheVariants as file
 
--- the first refusal of two steps
 infixl 10 ◌>>=◌
+-- the first refusal of two steps
 abbrev pub ◌>>=◌ : {A B : Type 0} → Result A Cause → (A → Result B Cause) → Result B Cause
 (Ok x) >>= f = f x
 (Err e) >>= f = Err e

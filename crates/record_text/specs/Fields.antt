@@ -26,13 +26,14 @@ name_of text = if is_name text then Some text else None
 unfoldable pub number_of : List ℕ → Option ℕ
 number_of text = if nat_le 1 (length text) && nat_le (length text) 9 && list_all is_ascii_digit text then Some (digits_value 10 text) else None
 
--- an axle: PLACE:WEIGHT, so two numbers around the one colon
+-- an axle by the parts of its text around colons, which are two numbers
 abbrev pub axle_of_parts : List (List ℕ) → Option Axle
 axle_of_parts [] = None
 axle_of_parts (place ∷ []) = None
 axle_of_parts (place ∷ weight ∷ []) = option_and_then (λ p. option_map (λ w. record { place = p; weight = w }) (number_of weight)) (number_of place)
 axle_of_parts (place ∷ weight ∷ more ∷ parts) = None
 
+-- an axle: PLACE:WEIGHT, so two numbers around the one colon
 abbrev pub axle_of : List ℕ → Option Axle
 axle_of text = axle_of_parts (slice_split (λ b. b == 58) text)
 
@@ -49,12 +50,13 @@ axles_of text = of_each axle_of (slice_split (λ b. b == 32) text)
 abbrev pub posted_of : List ℕ → Option Posted
 posted_of text = if bytes_eq text (codes "rating") then Some posted.Rating else option_map posted.Limit (what_of text)
 
--- a text of the form of a day: the day, or none where the calendar lacks it
+-- the day that was read, or none where the calendar lacks it
 abbrev pub day_or_none : Result (List ℕ) DayRefusal → Option (Option (List ℕ))
 day_or_none (Ok day) = Some (Some day)
 day_or_none (Err NoSuchDay) = Some None
 day_or_none (Err Shape) = None
 
+-- a text of the form of a day: the day, or none where the calendar lacks it
 abbrev pub day_of : List ℕ → Option (Option (List ℕ))
 day_of text = day_or_none (reading_of text)
 

@@ -21,6 +21,7 @@ rows_of bytes = records default_config (strip_bom bytes)
 abbrev pub has_kind : List ℕ → Row → Bool
 has_kind name fields = bytes_eq (field_of fields 0) name
 
+-- whether a text is empty
 abbrev pub is_empty : List ℕ → Bool
 is_empty text = length text == 0
 
@@ -32,13 +33,15 @@ is_blank_from first fields = list_all is_empty (drop first fields)
 abbrev pub has_only : ℕ → Row → Result (Unit {0}) Cause
 has_only count fields = demand (is_blank_from count fields) bad.Extra
 
--- the name, the number or the day in a field, counted from 1; of a day that the calendar lacks, none
+-- the name in a field, counted from 1
 abbrev pub name_in : ℕ → Row → Result (List ℕ) Cause
 name_in number fields = or_bad (bad.Field number) (name_of (field_of fields (number - 1)))
 
+-- the number in a field, counted from 1
 abbrev pub number_in : ℕ → Row → Result ℕ Cause
 number_in number fields = or_bad (bad.Field number) (number_of (field_of fields (number - 1)))
 
+-- the day in a field, counted from 1; none where the calendar lacks it
 abbrev pub day_in : ℕ → Row → Result (Option (List ℕ)) Cause
 day_in number fields = or_bad (bad.Field number) (day_of (field_of fields (number - 1)))
 

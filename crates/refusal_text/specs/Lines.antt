@@ -13,6 +13,7 @@ abbrev pub status_of : Cause → ℕ
 status_of (Bad cause) = 5
 status_of (TooMany kind) = 6
 
+-- the word for why a record is bad
 abbrev pub bad_word : RecordCause → List ℕ
 bad_word bad.Fields = codes "fields"
 bad_word bad.Kind = codes "kind"
@@ -29,6 +30,7 @@ bad_word bad.DayOrder = codes "day-order"
 bad_word bad.AnnualDays = codes "annual-days"
 bad_word bad.End = codes "end"
 
+-- the word for what there is one too many of
 abbrev pub kind_word : Kind → List ℕ
 kind_word kind.Nodes = codes "nodes"
 kind_word kind.Segments = codes "segments"
@@ -44,7 +46,8 @@ abbrev pub word_of : Cause → List ℕ
 word_of (Bad cause) = bad_word cause
 word_of (TooMany kind) = kind_word kind
 
--- the number behind the word, if any: of a field, counted from 1 with the kind among them, or of the rule that a train breaks
+-- the number behind the word of a bad record, if any: of a field, counted from 1 with the kind among them, or of the rule that
+-- a train breaks
 abbrev pub bad_number : RecordCause → Option ℕ
 bad_number (bad.Field at) = Some at
 bad_number (bad.Unknown at) = Some at
@@ -52,6 +55,7 @@ bad_number (bad.Range at) = Some at
 bad_number (bad.Train rule) = Some rule
 bad_number other = None
 
+-- the number behind the word for a cause, if any: none where there is one too many
 abbrev pub number_of : Cause → Option ℕ
 number_of (Bad cause) = bad_number cause
 number_of (TooMany kind) = None

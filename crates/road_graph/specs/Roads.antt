@@ -25,9 +25,11 @@ has_name name names = list_any (bytes_eq name) names
 abbrev pub number_of : List ℕ → List (List ℕ) → Option ℕ
 number_of name names = position (bytes_eq name) names
 
+-- the names of some segments
 abbrev pub segment_names : List Segment → List (List ℕ)
 segment_names segments = map (λ s. s.name) segments
 
+-- the names of some spans
 abbrev pub span_names : List Span → List (List ℕ)
 span_names spans = map (λ t. t.name) spans
 

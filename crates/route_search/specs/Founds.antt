@@ -56,6 +56,7 @@ IsInRange roads (Route segments feet potential) = (k i : ℕ) → slice_get segm
 IsInRange roads (Cut reached) = (k v : ℕ) → slice_get reached k ≡ Some v → v < length roads.nodes
 IsInRange roads (NoRoad reached) = (k v : ℕ) → slice_get reached k ≡ Some v → v < length roads.nodes
 
+-- the same of what is found without the potentials
 abbrev pub IsShortestInRange : Roads → Shortest → Type 0
 IsShortestInRange roads (shortest.Route segments feet) = (k i : ℕ) → slice_get segments k ≡ Some i → i < length roads.segments
 IsShortestInRange roads (shortest.Cut reached) = (k v : ℕ) → slice_get reached k ≡ Some v → v < length roads.nodes

@@ -36,6 +36,7 @@ abbrev pub OneFinding : Type 0
 OneFinding =
     (roads : Roads) (passable : List Bool) (a b : ℕ) (f g : Found) → IsFound roads passable a b f → IsFound roads passable a b g → f ≡ g
 
+-- the same of what is found without the potentials
 abbrev pub OneShortest : Type 0
 OneShortest =
     (roads : Roads) (passable : List Bool) (a b : ℕ) (f g : Shortest) → IsShortest roads passable a b f → IsShortest roads passable a b g → f ≡ g
@@ -46,6 +47,7 @@ FindingsAreInRange =
     (roads : Roads) (passable : List Bool) (a b : ℕ) (found : Found) → IsRoads roads → a < length roads.nodes → IsFound roads passable a b found
     → IsInRange roads found
 
+-- what is found without the potentials is in range
 abbrev pub ShortestAreInRange : Type 0
 ShortestAreInRange =
     (roads : Roads) (passable : List Bool) (a b : ℕ) (found : Shortest) → IsRoads roads → a < length roads.nodes → IsShortest roads passable a b found

@@ -9,10 +9,11 @@ IsWalk segments may a b [] = a ≡ b
 IsWalk segments may a b (i ∷ path) =
     (s : Segment) × (slice_get segments i ≡ Some s) × (may i ≡ true) × (s.from ≡ a) × IsWalk segments may s.to b path
 
--- the segments that are flagged, and all segments
+-- the segments that are flagged
 abbrev pub flagged : List Bool → ℕ → Bool
 flagged passable i = get_or passable i false
 
+-- all segments
 abbrev pub every : ℕ → Bool
 every i = true
 

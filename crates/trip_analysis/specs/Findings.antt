@@ -28,6 +28,7 @@ limit_for base state truck s = limit_of base.roads state (truck_of base truck).l
 abbrev pub is_passable : BaseLists → InForce → ℕ → ℕ → Bool
 is_passable base state truck s = is_none (limit_for base state truck s)
 
+-- the segment with its failing limit, where it has one, or else what the rest has
 abbrev pub first_or : Option Limit → ℕ → Option Failing → Option Failing
 first_or (Some limit) s rest = Some (record { segment = s; limit = limit })
 first_or None s rest = rest
@@ -42,6 +43,7 @@ abbrev pub first_meeting : BaseLists → InForce → ℕ → List ℕ → Option
 first_meeting base state truck [] = None
 first_meeting base state truck (s ∷ rest) = if is_passable base state truck s then Some s else first_meeting base state truck rest
 
+-- whether a number is among these
 abbrev pub is_in : ℕ → List ℕ → Bool
 is_in n numbers = list_any (λ k. k == n) numbers
 
