@@ -41,11 +41,15 @@ struct Draft {
 
 /// Carries out a command by these calls. The gate is told before it and once it has its reply.
 ///
-/// The finder finds what applications need, keeps what is known of the trucks from one snapshot to the next, and counts what it
-/// tests.
+/// The command's entries are added to the caller's own. Of an application they are those of at most seven attempts that are
+/// out of date, and of one that ends otherwise; or of eight, and of a call by which the office itself finds. An attempt is a
+/// snapshot, and a submit of what was found at its version. Every other command is one call.
 ///
-/// The reply is that of its last call. It is `Full` only where the calls are then full with that number, and
-/// `NoMemory` also where, after a snapshot, no memory was left to find what an application needs.
+/// The finder finds what applications need, keeps what is known of the trucks from one snapshot to the next, and counts what
+/// it tests.
+///
+/// The reply is that of its last call. It is `Full` only where the calls are then full with that number, and `NoMemory` also
+/// where, after a snapshot, no memory was left to find what an application needs.
 pub fn carry_out<C: OfficeCalls, G: Gate, L: Ledger>(
     alloc: Global,
     calls: &mut C,

@@ -21,6 +21,7 @@ pub struct Finding {
 }
 
 /// All groups over their limits, by their first axle and then by their last, and then the gross weight if it is over its own.
+/// Each has its weight, its limit and its rule. The list is empty exactly where the truck is legal by weight.
 ///
 /// `NoMemory` is its only refusal: there is no memory for the list.
 pub fn findings(alloc: Global, train: &Train) -> Result<Vec<Finding>, NoMemory>

@@ -15,6 +15,9 @@ use std::alloc::Global;
 
 /// What the words after the program's name ask for: `Usage` exactly where they ask for nothing, but that want of memory may
 /// come in the place of either answer.
+///
+/// `Usage` never comes where `clap` takes the words and COMMAND names a task. What is asked for is in range: the seed 0 to
+/// 65,535, the size 1 to 40, the trucks 2 to 16 and the gap 1 to 3,000.
 #[tactic(auto, unfolding(crate::specs::Asking::asked_of, crate::specs::Asking::AreAccepted))]
 pub fn read_words(alloc: Global, words: &[String]) -> Result<Asked, WordsRefusal>
     ensures asked { IfOk result (λ asked. asked_of (map string_bytes words.now) ≡ Some asked) }

@@ -39,6 +39,10 @@ impl Model for Convoy {
 impl Convoy {
     /// A convoy of `trucks` trucks with these axles and at least `gap` inches between two of them, or the first limit
     /// that they pass together. Takes no memory.
+    ///
+    /// It is asked of 2 to 16 trucks and a gap of 1 to 3,000 in. The limits are tested in the order of [`ConvoyRefusal`]:
+    /// more than 32 axles; more than 3,000 in from the first axle to the last, with just the gap between two trucks; more
+    /// than 2,000,000 lb. Where none is passed it is a convoy.
     pub fn new(train: &Train, trucks: u32, gap: u32) -> Result<Convoy, ConvoyRefusal>
         requires several { 2 ≤ trucks }
         requires few { trucks ≤ 16 }
@@ -106,24 +110,28 @@ impl Convoy {
     }
 
     /// The peak moment of the convoy on a span of `span` inches, over all of its placements, in pounds times inches: the
-    /// one of the closest convoy. Takes no memory.
+    /// one of the closest convoy. None exceeds it, whatever the gaps are, as long as no gap is below the stated one.
+    /// Takes no memory.
     pub fn moment(&self, span: u32) -> Frac
         requires some { 1 ≤ span }
         requires long { span ≤ 6000 }
         ensures peak { IsPeakMoment (IsConvoyPlaced self.now) span result.num result.den }
         ensures closest { result ≡ peak_moment_of (closest_axles self.now) span }
+        // What lets two such peaks be compared.
         ensures small { IsSmall result }
     {
         moment_peak::value(&self.closest, span)
     }
 
     /// The peak end shear of the convoy on a span of `span` inches, over all of its placements, in pounds: the one of the
-    /// closest convoy. Takes no memory.
+    /// closest convoy. None exceeds it, whatever the gaps are, as long as no gap is below the stated one. Takes no
+    /// memory.
     pub fn shear(&self, span: u32) -> Frac
         requires some { 1 ≤ span }
         requires long { span ≤ 6000 }
         ensures peak { IsPeakShear (IsConvoyPlaced self.now) span result.num result.den }
         ensures closest { result ≡ peak_shear_of (closest_axles self.now) span }
+        // What lets two such peaks be compared.
         ensures small { IsSmall result }
     {
         shear_peak::peak(&self.closest, span).value

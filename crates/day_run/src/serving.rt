@@ -20,8 +20,11 @@ use std::sync::{Arc, Wait};
 use std::thread::Threads;
 
 /// The office of a day file's roads and trucks, after its actors carried out their commands, each actor on a thread of its
-/// own, and the counter of what was tested in its turns. `NoMemory` where no memory was left, also where a reply says so; a full
-/// history is never found. The gate is told how far each actor is.
+/// own, and the counter of what was tested in its turns. `NoMemory` where no memory was left, also where a reply says so; a
+/// full history is never found. The gate is told how far each actor is.
+///
+/// The history is legal and keeps every promise. The entries of each actor are those of its finished commands, in the order of
+/// the file, and nobody else has one.
 ///
 /// It waits until all actors are done.
 pub fn serve<R: Threads + Wait + AllocGlobal + Sync, G: Gate + Sync, L: Ledger + Send + Sync>(
@@ -36,6 +39,8 @@ pub fn serve<R: Threads + Wait + AllocGlobal + Sync, G: Gate + Sync, L: Ledger +
     requires file { IsDayFile file }
     ensures served { IfOk result (λ done. IsServed file done.0.history) }
     ensures base { IfOk result (λ done. done.0.base ≡ file.base) }
+    // The counter stood at 0 when the office opened. It rose in the turn of each entry by what its call may cost, and by
+    // nothing else.
     ensures counted { IfOk result (λ done. Counts file.base file.day done.0.history done.1) }
     ensures roads { OnOk result (IsRoads file.base.roads) }
 {

@@ -86,8 +86,11 @@ impl DayFile {
     }
 }
 
-/// The day file that the bytes are. `Refused` comes exactly where they are none, with the first record that is refused and the
-/// first cause that holds for it.
+/// The day file that the bytes are. `Refused` comes exactly where they are none, with the row of the first record that is
+/// refused and the first cause that holds for it.
+///
+/// The file has at most 16 actors and 4,096 commands. Each command is of an actor of the file, and each application is sound
+/// for its roads and trucks.
 pub fn read_day(alloc: Global, bytes: &[u8]) -> Result<DayFile, FileRefusal>
     ensures ok { IfOk result (λ file. day_of bytes.now ≡ Ok file) }
     ensures keeps { IfOk result (λ file. IsDayFile file) }

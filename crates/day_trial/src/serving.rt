@@ -23,6 +23,8 @@ use trip_analysis::Base;
 
 /// The office of a day file's roads and trucks after each command was carried out by its actor, one after another in the order
 /// of the file. `NoMemory` where no memory was left, also where a reply says so.
+///
+/// Its history is legal and keeps every promise. All its entries are those of these commands.
 pub fn serve_in_order(alloc: Global, file: DayFile) -> Result<Office, NoMemory>
     requires { IsDayFile file }
     ensures served { IfOk result (λ office. IsSerial file office.history) }

@@ -30,7 +30,7 @@ pub fn military() -> Train
 }
 
 /// The peak moment and the peak end shear of the lane load on a span of `span` inches, over all of its
-/// placements. Takes no memory.
+/// placements: every place of the concentrated load, and any intervals that are loaded. Takes no memory.
 pub fn lane(span: u32) -> Effects
     requires some { 1 ≤ span }
     requires long { span ≤ 6000 }

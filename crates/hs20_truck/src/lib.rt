@@ -49,7 +49,7 @@ pub fn truck() -> Train
     }
 }
 
-/// The peak moment and the peak end shear of a train on a span of `span` inches.
+/// The peak moment and the peak end shear of a train on a span of `span` inches, over all of its placements.
 pub fn effects_of(train: &Train, span: u32) -> Effects
     requires some { 1 ≤ span }
     requires long { span ≤ 6000 }
@@ -62,8 +62,9 @@ pub fn effects_of(train: &Train, span: u32) -> Effects
     }
 }
 
-/// The peak moment and the peak end shear of the design truck on a span of `span` inches, over every
-/// second spacing.
+/// The peak moment and the peak end shear of the design truck on a span of `span` inches, over all of its
+/// placements and every second spacing. They are those of [`truck`] too, since the smallest spacing is the
+/// worst.
 pub fn effects(span: u32) -> Effects
     requires some { 1 ≤ span }
     requires long { span ≤ 6000 }

@@ -15,8 +15,8 @@ use influence_line::Frac;
 use names::NoMemory;
 use std::alloc::{AllocError, Global};
 
-/// The report of `design` on a check file: its truck on each of its probes, beside the greatest of the three design loads.
-/// There is no other.
+/// The report of `design` on a check file: its truck on each of its probes, beside the greatest moment and the greatest
+/// end shear of the three design loads, each with the first load that reaches it. There is no other.
 pub fn design_report(alloc: Global, file: &CheckFile) -> Result<String, NoMemory>
     ensures report { IfOk result (λ text. IsDesignReport file.now (string_bytes text)) }
     ensures only { IfOk result (λ text. IsOnlyDesignReport file.now (string_bytes text)) }

@@ -7,12 +7,14 @@ pub fn new_are_told_all()
     ensures { NewAreToldAll }
 {}
 
-/// A delivery of a longer list tells only what an earlier one did not.
+/// After a delivery that was done, one of the same list or of a longer one tells only what the earlier one
+/// did not: both leave what the later one alone would have left.
 pub fn deliveries_go_on()
     ensures { DeliveriesGoOn }
 {}
 
-/// After a delivery that a fault stopped, the next one tells each recall that was left, once.
+/// After a delivery that a fault stopped, the next one, of the same list or of a longer one, tells each
+/// recall that was left, once.
 pub fn deliveries_resume()
     ensures { DeliveriesResume }
 {}

@@ -48,8 +48,9 @@ pub trait Notice: Drop {
     /// What it has written for those who read it, where the object tells that.
     ghost text: { Self → Option (List ℕ) };
 
-    /// Tells it one recall, of which it writes the line. After `Failed` the list told is as it was, and a front of the line may
-    /// have been written.
+    /// Tells it one recall. `Ok` has appended the recall to the list told, and just its line to what the object wrote, where
+    /// the object tells these. After `Failed` the count of faults rose, the list told is as it was, and a front of the line
+    /// may have been written.
     fn tell(&mut self, recall: &Recall) -> Result<(), Failed>
         ensures ok { OnOk result (list self.new ≡ told_more (list self.old) (recall.now ∷ [])) }
         ensures err { OnErr result (list self.new ≡ list self.old) }

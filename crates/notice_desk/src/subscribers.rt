@@ -60,7 +60,8 @@ impl Subscribers {
         self.list.len()
     }
 
-    /// Adds a subscriber, who is through with nothing. For want of memory its object is handed back.
+    /// Adds a subscriber, last, who is through with nothing. For want of memory its object is handed back, and all is as it
+    /// was.
     pub fn add(&mut self, whom: Whom, notice: Box<dyn Notice>) -> Result<(), Returned>
         ensures added { OnOk result
             (standings list self.new ≡ standings list self.old ++ new_standing whom (list notice) ∷ []) }
@@ -108,6 +109,13 @@ impl Subscribers {
 
     /// Tells each subscriber in turn the recalls of the list that are its own, in order, from the first that it is not through
     /// with. A fault stops the delivery; a later one goes on there. Takes no memory.
+    ///
+    /// After `Ok` each was told just these, once each, and is through with the list, and no count of faults changed. After a
+    /// fault the count of the object at the place named rose, and no other. Those before it are through with the list, and
+    /// those after it are as they were. The one there is through with what came before a recall of its own.
+    ///
+    /// Where an object tells what it wrote, this grew by the lines of just the recalls that it was told, in order. Of the
+    /// object that failed it grew by a front of the next line too.
     pub fn deliver(&mut self, recalls: &[Recall]) -> Result<(), NoticeFault>
         requires { AreWithin recalls.now (standings list self.old) }
         ensures done { OnOk result (Delivered (standings list self.old) recalls.now (standings list self.new)) }

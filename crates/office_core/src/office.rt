@@ -73,7 +73,10 @@ impl Office {
     }
 
     /// Answers a call, and adds its entry to the history. The answer is `Full` exactly where the history holds the most
-    /// entries that it may, and then nothing changes.
+    /// entries that it may, and then nothing changes and nothing is tested.
+    ///
+    /// Else the history has one entry more, of this caller, this call and this reply, and all else stands. The entry is a
+    /// step of the machine from what the history left, and the history is legal.
     pub fn step<L: Ledger>(&mut self, caller: u32, call: Call, steps: &mut Steps<L>) -> Reply
         requires caller { caller < 65536 }
         requires asked { MayAsk self.old.base (machine_in self.old) call }
@@ -83,6 +86,9 @@ impl Office {
         ensures grown { HasPlace self.old → self.new ≡ grown self.old (entry caller call result) }
         ensures step { HasPlace self.old → IsStep self.old (entry caller call result) self.new }
         ensures legal { IsLegal self.new.base self.new.opening self.new.history }
+        // For a proposal at most so many segments are tested: the places of its routes, or the segments out of its cut,
+        // that changed after the version that it names, and one more. For a posting it is at most one for each permit that
+        // uses its segment, and for what the office finds itself at most what finding takes. Other calls test none.
         ensures cost { IsCost self.old.base (machine_in self.old) call steps.old steps.new }
         ensures untested { IsFull self.old → steps.new ≡ steps.old }
     {
@@ -100,7 +106,8 @@ impl Office {
         told
     }
 
-    /// The entries so far, which keep all that every legal history promises. Takes no memory.
+    /// The entries so far, which keep all that every legal history promises, each of a caller below 65,536. Each number
+    /// that a posting recalls was issued by just one entry before it, for a truck that is there. Takes no memory.
     pub fn history(&self) -> &[Entry]
         ensures entries { result.now ≡ self.now.history }
         ensures legal { IsLegal self.now.base self.now.opening self.now.history }

@@ -98,7 +98,11 @@ impl<L: Ledger> Desk<L> {
         self.turn.join(root, pass);
     }
 
-    /// Ends the desk, and gives its office back, with the counter of what was tested in its turns. It takes no memory.
+    /// Ends the desk, and gives its office back, with the counter of what was tested in its turns. It is asked once each pass
+    /// was taken in. It takes no memory.
+    ///
+    /// The office has the roads and trucks, the opening day and the most entries that the desk was started with. Its history
+    /// goes on from what the root has seen, is legal, and keeps every promise.
     pub fn close(self, root: Root<L>) -> (Office, Steps<L>)
         requires lock { root.lock ≡ self }
         requires joined { length root.receipts ≡ root.admitted }
@@ -127,7 +131,8 @@ impl<L: Ledger> Desk<L> {
         (office, steps)
     }
 
-    /// The current version and its state. The entry is there also where no memory was left for it. It may wait.
+    /// The current version and its state, which are those that its entry finds. The pass is left as by `ask`. The entry is
+    /// there also where no memory was left for them. It may wait.
     pub fn snapshot<R: Wait>(&self, rt: &R, pass: &mut Pass<L>) -> Looked
         requires ready { IsReady self.now pass.old }
         ensures answered { Looks (calls_of pass.old) result (calls_of pass.new) }
@@ -143,8 +148,12 @@ impl<L: Ledger> Desk<L> {
         }
     }
 
-    /// Asks a call, in a turn with one step of the office. What is found for an application was found at a version that the pass
-    /// has seen. It may wait.
+    /// Asks a call, in a turn with one step of the office. What is found for an application was found at a version that the
+    /// pass has seen. It may wait.
+    ///
+    /// The pass has then seen a legal history that goes on from what it had seen and ends with the entry of this call and its
+    /// reply. Its own entries are those before and this one, and are all of its number. After `Full` nothing was added, and
+    /// the pass is marked.
     pub fn ask<R: Wait>(&self, rt: &R, pass: &mut Pass<L>, call: Call) -> Reply
         requires ready { IsReady self.now pass.old }
         requires asked { MayAskWith pass.old call }

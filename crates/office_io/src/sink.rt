@@ -31,7 +31,8 @@ pub struct WriteFault {
     pub written: usize,
 }
 
-/// Appends all the bytes. Takes no memory.
+/// Appends all the bytes. After a fault as many of them were appended as it says, no more, and the sink's count of
+/// faults rose. Takes no memory.
 pub fn write_all<K: Sink>(sink: &mut K, bytes: &[u8]) -> Result<(), WriteFault>
     ensures all { OnOk result (Appends (K.held sink.old) (K.held sink.new) bytes.now) }
     ensures within { IfErr result (λ fault. fault.written ≤ length bytes.now) }

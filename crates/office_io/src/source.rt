@@ -38,7 +38,8 @@ pub enum ReadRefusal {
 // How many bytes one read asks for at the most.
 const PIECE: usize = 16384;
 
-/// All bytes that are left, where they are no more than `limit`. At most `limit + 1` bytes are taken.
+/// All bytes that are left, where they are no more than `limit`; then nothing is left. At most `limit + 1` bytes
+/// are taken, and just so many before `TooLong`. The source's count of faults rises with `ReadFault` alone.
 pub fn read_all<S: Source>(
     alloc: Global,
     source: &mut S,

@@ -52,7 +52,8 @@ impl From<AllocError> for NoMemory {
 }
 
 impl<V: Storied + Drop> Turn<V> {
-    /// A lock over the value that gives at most `most` turns, and its root. On `NoMemory` the value was dropped.
+    /// A lock over the value that gives at most `most` turns, and its root, which has admitted nobody. The story of
+    /// the value has to be empty. On `NoMemory` the value was dropped.
     pub fn start(alloc: Global, value: V, most: u32) -> Result<(Turn<V>, Root<V>), NoMemory>
         requires story { V.story value ≡ [] }
         requires most { (1 ≤ most) × (most ≤ 1000000) }
@@ -81,7 +82,8 @@ impl<V: Storied + Drop> Turn<V> {
 }
 
 impl<V: Storied> Turn<V> {
-    /// A new pass. It never refuses and takes no memory.
+    /// A new pass, whose number is how many were admitted before it. It has seen what the root has seen, and has no
+    /// entries of its own. It never refuses and takes no memory.
     pub fn admit(&self, root: &mut Root<V>) -> Pass<V>
         requires lock { root.old.lock ≡ self.now }
         requires room { root.old.admitted < 65536 }
@@ -96,6 +98,10 @@ impl<V: Storied> Turn<V> {
 
     /// Waits for a turn, and gives the value. `Worn` comes where the next ticket was found to be `most`, which is
     /// where `most` tickets have been drawn; no turn is taken then. It takes no memory.
+    ///
+    /// The story found goes on from what the pass has seen, and has fewer than `most` entries. In it those of the
+    /// pass's number are just its own. The terms are those of the start. A pass that was ever answered `Worn` gets no
+    /// turn.
     pub fn hold<R: Wait>(&self, rt: &R, pass: &mut Pass<V>) -> Result<Held<V>, Worn>
         requires lock { pass.old.lock ≡ self.now }
         requires idle { pass.old.holds ≡ false }
@@ -126,6 +132,10 @@ impl<V: Storied> Turn<V> {
 
     /// Passes the turn on, with one entry more in the story. The held is the one that this pass got last. It takes no
     /// memory.
+    ///
+    /// The story is the one that `hold` found with one entry more, of the pass's number, and the terms stand: this the
+    /// caller has to show. The pass has then seen the whole story, in which the entries of its number are just its
+    /// own, with the new one among them.
     pub fn pass_on(&self, pass: &mut Pass<V>, held: Held<V>)
         requires lock { pass.old.lock ≡ self.now }
         requires held { (held.by ≡ pass.old) × (pass.old.holds ≡ true) }
@@ -140,7 +150,8 @@ impl<V: Storied> Turn<V> {
         steps::put_back(&self.table.shared, &mut pass.seat, value);
     }
 
-    /// Takes a pass in. The root tells one receipt more. It takes no memory.
+    /// Takes a pass in. The root tells one receipt more: its number, its own entries, and whether it was ever answered
+    /// `Worn`. What the root has seen goes on from what it had seen and from what the pass had. It takes no memory.
     pub fn join(&self, root: &mut Root<V>, pass: Pass<V>)
         requires lock { (root.old.lock ≡ self.now) × (pass.lock ≡ self.now) }
         requires idle { pass.holds ≡ false }
@@ -152,7 +163,11 @@ impl<V: Storied> Turn<V> {
         root.joined += 1;
     }
 
-    /// Ends the lock, and gives the value back. It takes no memory.
+    /// Ends the lock, and gives the value back. It is asked once each pass was joined. It takes no memory.
+    ///
+    /// The value has the terms of the start. Its story goes on from what the root has seen, and has at most `most`
+    /// entries, each of a caller who was admitted and has a receipt. The own entries of a receipt are all of its
+    /// number. Where one is marked `Worn`, the story has just `most` entries.
     pub fn close(self, root: Root<V>) -> V
         requires lock { root.lock ≡ self }
         requires joined { length root.receipts ≡ root.admitted }

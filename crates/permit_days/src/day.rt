@@ -31,7 +31,8 @@ impl Model for Day {
 }
 
 impl Day {
-    /// The day that the text writes, or why it is none. Takes no memory.
+    /// The day that the text writes, or why it is none: `Shape` where it has another shape, and else
+    /// `NoSuchDay` where there is no such day. Takes no memory.
     pub fn read(text: &[u8]) -> Result<Day, DayRefusal>
         ensures { result ≡ reading_of text.now }
     {

@@ -17,7 +17,12 @@ use office_words::Entry;
 use std::alloc::Global;
 use std::sync::Arc;
 
-/// The line that says that the journal at the head of the bytes is legal, for the day file behind it.
+/// The line that says that the journal at the head of the bytes is legal, for the day file behind it, with
+/// the number of its entries: its history is one of an office about the roads and trucks of that file that
+/// opened on its day. Whether the history holds the commands of the file is not promised.
+///
+/// `Refused` has, in this order, status 5 and the first line with which no journal goes on; the status and
+/// the line of the first refused record of the day file; or status 9 and the first bad entry.
 pub(crate) fn make_audit(alloc: Global, bytes: &[u8]) -> Result<Vec<u8>, Refusal>
     requires { length bytes.now ≤ most_bytes }
     ensures made { IfOk result (λ text. Makes audit bytes.now text.items) }

@@ -13,6 +13,10 @@ use loading_report::convoy_report;
 use std::alloc::Global;
 
 /// The report of `convoy` on the check file that the bytes are, with as many trucks and as small a gap as the options say.
+/// There is no other.
+///
+/// `Refused` has the status and the line of the first refused record, by its row and its cause; or, where no record is
+/// refused, status 5 and the line of the first limit that the trucks pass.
 pub(crate) fn make_convoy_report(
     alloc: Global,
     options: Options,

@@ -30,6 +30,10 @@ pub(crate) struct DayOutput<L: Ledger> {
 /// The journal of the day file that the bytes are, and its recalls: of an office whose actors carried out their commands, each
 /// on a thread of its own. The gate is told how far each actor is.
 ///
+/// The journal is as the headline says, and the headline holds with what the counter counted. Of a day of at most one actor
+/// there is no other journal. The recalls are all those of its history, in order. `Refused` has the status and the line of the
+/// first refused record, by its row and its cause.
+///
 /// It waits until all actors are done.
 pub(crate) fn make_journal<
     R: Threads + Wait + AllocGlobal + Sync,

@@ -13,7 +13,7 @@ use day_trial::{serial_histories_are_one, serve_in_order, summary};
 use names::NoMemory;
 use std::alloc::Global;
 
-/// The day file that is made from a number, of this size.
+/// The day file that is made from a number, of this size. There is no other.
 pub(crate) fn make_day_file(alloc: Global, seed: u32, size: u32) -> Result<Vec<u8>, NoMemory>
     requires seed { seed ≤ 65535 }
     requires size { (1 ≤ size) × (size ≤ 40) }
@@ -22,7 +22,8 @@ pub(crate) fn make_day_file(alloc: Global, seed: u32, size: u32) -> Result<Vec<u
     make_day(alloc, seed, size)
 }
 
-/// The summary of the day that is made from a number: of its commands, carried out one after another on one thread.
+/// The summary of the day that is made from a number: of its commands, carried out one after another on one thread,
+/// each by its own actor. There is no other.
 pub(crate) fn make_summary(alloc: Global, seed: u32, size: u32) -> Result<Vec<u8>, NoMemory>
     requires seed { seed ≤ 65535 }
     requires size { (1 ≤ size) × (size ≤ 40) }

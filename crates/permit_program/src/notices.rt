@@ -63,7 +63,8 @@ impl<K: Sink + Drop> Notice for LineNotice<K> {
     }
 }
 
-/// Adds an object that is told of all recalls to those who are through with none: whether there was memory for it.
+/// Adds an object that is told of all recalls, last, to those who are through with none. `false` says that there was no memory
+/// for it, and then all is as it was.
 #[tactic(auto, using(notice_desk::proofs::Ready::added_new))]
 pub fn add_listener(notices: &mut Subscribers, notice: Box<dyn Notice>) -> bool
     requires { AreNew (standings list notices.old) }

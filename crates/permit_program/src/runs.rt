@@ -65,16 +65,27 @@ impl<L: Ledger> Ended<L> {
 // How many bytes are read at the most.
 const MOST_BYTES: u32 = 4_194_304;
 
-/// Answers the words of a command line: reads what the command reads from the source, writes what it makes of that to the sink,
-/// tells the subscribers of a day's recalls, and ends with its status.
+/// Answers the words of a command line: reads what the command reads from the source, writes what it makes of that to the
+/// sink, tells the subscribers of a day's recalls, and ends with its status. It is asked of subscribers who are through with
+/// no recall.
 ///
-/// 0 is done; 2 words that ask for nothing; 3 a fault of the source; 4 a fault of the sink while the output was written;
-/// 5 a record that is bad, trucks that are no convoy, or a text that is no journal; 6 a record that is one too many of its kind,
+/// 0 is done; 2 words that ask for nothing; 3 a fault of the source; 4 a fault of the sink while the output was written; 5 a
+/// record that is bad, trucks that are no convoy, or a text that is no journal; 6 a record that is one too many of its kind,
 /// or more than 4,194,304 bytes; 7 no memory; 8 a fault of an object that is told of recalls, after the whole journal was
 /// written; 9 a journal that is not legal for its day file.
 ///
-/// A day's actors work on threads of their own, and the gate is told how far each is. The call waits until all are done.
-/// What the office tests in their turns is counted by a counter that is made of the blank, and handed out.
+/// With 0 the whole text that the command promises was written, with 4 a front of it, and with 8 the whole journal. With 2 it
+/// is the usage line, and with 5, 6 and 9 the line of the refusal: whole, unless the sink failed. With 3 and 7 nothing was
+/// written. A command that reads makes its text of all bytes that the source had left, where it tells them.
+///
+/// After a day that ends with 0 each subscriber was told its own recalls, in order and once each, and with 8 they were told as
+/// far as the object that failed. With any other status, and by any other command, nobody was told anything.
+///
+/// Where the source tells its bytes and does not fail, the words and the bytes decide: the status is the one that they call
+/// for, or 7, or 4 or 8 in the place of 0. At most 4,194,305 bytes are taken, and none with 2.
+///
+/// A day's actors work on threads of their own, and the gate is told how far each is. The call waits until all are done. What
+/// the office tests in their turns is counted by a counter that is made of the blank, and handed out.
 pub fn run<
     R: Threads + Wait + AllocGlobal + Sync,
     S: Source,
@@ -100,6 +111,7 @@ pub fn run<
         (λ n. (⟦<dyn Notice as Notice>⟧ n.vtable).text n.value) in
         let asked = asked_of (map string_bytes words.now) in
         IsRun asked (outside source.old sink.old (desk notices.old)) (outside source.new sink.new (desk notices.new)) result.status }
+    // After a day that ends with 0 the counter is handed out, and the headline holds with what it counted.
     ensures counted { let outside = outside_of S.left S.faults K.held K.faults in
         let desk = desk_at (λ n. (⟦<dyn Notice as Notice>⟧ n.vtable).list n.value)
         (λ n. (⟦<dyn Notice as Notice>⟧ n.vtable).faults n.value)

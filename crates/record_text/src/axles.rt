@@ -33,7 +33,7 @@ impl Axles {
     }
 }
 
-/// The axles of a field, with one space between them.
+/// The axles of a field, with one space between them, or `None` where it has another form.
 pub fn parse_axles(alloc: Global, text: &str) -> Result<Option<Axles>, AllocError>
     ensures { IfOk result (λ axles. axles ≡ axles_of text.now) }
 {

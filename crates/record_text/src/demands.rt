@@ -12,7 +12,7 @@ use csv::StringRecord;
 use names::Name;
 use permit_days::Day;
 
-/// Where a test fails, the record is bad.
+/// Where a test fails, the record is bad for this cause.
 pub fn demand(holds: bool, cause: RecordCause) -> Result<(), Cause>
     ensures { result ≡ demand holds cause }
 {
@@ -34,7 +34,7 @@ pub fn limit(holds: bool, kind: Kind) -> Result<(), Cause>
     }
 }
 
-/// A value, or the record is bad.
+/// The value that there is, or else the record is bad for this cause.
 pub fn or_bad<T>(found: Option<T>, cause: RecordCause) -> Result<T, Cause>
     ensures value { result ≡ or_bad cause found }
     ensures found { IfOk result (λ value. found ≡ Some value) }
@@ -45,14 +45,14 @@ pub fn or_bad<T>(found: Option<T>, cause: RecordCause) -> Result<T, Cause>
     }
 }
 
-/// A record of so many fields, the kind among them: those behind are empty.
+/// A record of so many fields, the kind among them: those behind are empty, or else it has extra ones.
 pub fn has_only(row: &StringRecord, count: usize) -> Result<(), Cause>
     ensures { result ≡ has_only count (fields_of row.now) }
 {
     demand(is_blank_from(row, count), RecordCause::Extra)
 }
 
-/// The name in a field, counted from 1.
+/// The name in a field, counted from 1, or else that field is bad.
 pub fn name_in(row: &StringRecord, number: u32) -> Result<Name, Cause>
     requires { 1 ≤ number }
     ensures { result ≡ name_in number (fields_of row.now) }
@@ -63,7 +63,7 @@ pub fn name_in(row: &StringRecord, number: u32) -> Result<Name, Cause>
     )
 }
 
-/// The number in a field, counted from 1.
+/// The number in a field, counted from 1, or else that field is bad.
 pub fn number_in(row: &StringRecord, number: u32) -> Result<u32, Cause>
     requires { 1 ≤ number }
     ensures { result ≡ number_in number (fields_of row.now) }
@@ -74,7 +74,8 @@ pub fn number_in(row: &StringRecord, number: u32) -> Result<u32, Cause>
     )
 }
 
-/// The day in a field, counted from 1; none where the calendar lacks it.
+/// The day in a field, counted from 1; none where the calendar lacks it. A text of another form makes that
+/// field bad.
 pub fn day_in(row: &StringRecord, number: u32) -> Result<Option<Day>, Cause>
     requires { 1 ≤ number }
     ensures { result ≡ day_in number (fields_of row.now) }

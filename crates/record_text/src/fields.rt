@@ -17,14 +17,14 @@ pub fn field(row: &StringRecord, i: usize) -> &str
     row.get(i).unwrap_or("")
 }
 
-/// The name that a text is.
+/// The name that a text is, or `None` where it is none.
 pub fn parse_name(text: &str) -> Option<Name>
     ensures { result ≡ name_of text.now }
 {
     Name::new(text.as_bytes()).ok()
 }
 
-/// The number of one to nine digits.
+/// The number of one to nine digits that a text is, or `None` where it is none.
 #[tactic(auto, unfolding(crate::specs::Fields::number_of))]
 pub fn parse_number(text: &str) -> Option<u32>
     ensures { result ≡ number_of text.now }

@@ -12,7 +12,7 @@ pub enum Posted {
     Rating,
 }
 
-/// What a posting of this word replaces.
+/// What a posting of this word replaces, or `None` where it is no such word.
 pub fn parse_posted(text: &str) -> Option<Posted>
     ensures { result ≡ posted_of text.now }
 {

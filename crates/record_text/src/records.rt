@@ -18,12 +18,13 @@ pub trait Progress: Drop {
     /// Where a record of eight fields leads, or why it is refused.
     ghost judge: { Self → Row → Result Self Cause };
 
-    /// Takes a record of eight fields.
+    /// Takes a record of eight fields: it leads where `judge` says, or is refused for the cause that `judge` gives.
     fn take(self, alloc: Global, row: &StringRecord) -> Result<Self, RecordRefusal>
         ensures { Judges result (judge self (fields_of row.now)) };
 }
 
-/// Where the records of the bytes lead, with the number of the row after the last, or the first record that is refused.
+/// Where the records of the bytes lead by the judge of the file, with the number of the row after the last; or the row
+/// of the first record that is refused, and its cause.
 pub fn read_records<P: Progress>(
     alloc: Global,
     start: P,

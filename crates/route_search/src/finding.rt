@@ -21,6 +21,10 @@ use std::alloc::{AllocError, Global};
 /// The shortest passable walk from one node to another, ties going to the list of segment numbers that comes first in
 /// dictionary order; or, where there is none, the nodes that are reached. `passable` has a flag for each segment.
 ///
+/// `Route` has the segments of the walk, its feet, and for each node the least length of a passable walk to `to`, if there
+/// is one. `Cut` comes where walks lead there and none is passable, with the nodes that passable walks reach. `NoRoad`
+/// comes where no walk leads there, with the nodes that any walks reach. Both lists rise.
+///
 /// A walk from a node to itself has no segment. `NoMemory` where no memory was left.
 pub fn search(
     alloc: Global,

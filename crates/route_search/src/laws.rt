@@ -2,13 +2,15 @@
 
 ghost use Rattle.route_search.specs.Laws.{ClosedSetsKeepWalksIn, FindingsAreInRange, GoalIsZero, OneFinding, OneReached, OneRoute, OneShortest, PotentialsCertify, ReachedAreClosed, ShortestAreInRange, StartIsReached};
 
-/// Potentials certify that no walk is shorter: the goal has 0, and no segment that may be passed leads to less.
+/// Potentials certify that no walk is shorter: the goal has 0, and where a segment may be passed and its end has a
+/// potential, its start has one, at most the segment's feet more.
 pub fn potentials_certify()
     ensures certify { PotentialsCertify }
     ensures goal { GoalIsZero }
 {}
 
-/// What is found follows from the network, the flags and the two nodes, and is in range.
+/// One walk is the first of the shortest, and one list is that of the nodes that are reached. What is found, with
+/// the potentials or without them, follows from the network, the flags and the two nodes, and is in range.
 pub fn findings_are_one()
     ensures route { OneRoute }
     ensures reached { OneReached }

@@ -14,7 +14,8 @@ pub trait SpanStudy {
     /// The truck's axles.
     ghost axles: { Self → List Axle };
 
-    /// The effects on a span of `inches`.
+    /// The effects of the study's own truck on a span of `inches`, and those of the design truck, over all of
+    /// its second spacings.
     fn of(&self, inches: u32) -> Study
         requires some { 1 ≤ inches }
         requires long { inches ≤ 6000 }

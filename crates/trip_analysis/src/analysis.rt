@@ -22,11 +22,15 @@ use std::alloc::Global;
 use std::sync::ledger::Ledger;
 use trip_routes::SharedRoutes;
 
-/// What is found for the application in a state of the base's roads.
+/// What is found for the application in a state of the base's roads. `NoMemory` where no memory was left.
 ///
 /// A legal truck needs no permit. Asked routes are the finding where each segment of each of them meets, and else the first
-/// segment that fails, in the order of the routes and on each in its order. Without an asked route the finding is the first of the shortest walks over the segments that meet, or the
-/// cut where there is none. `NoMemory` where no memory was left. What is tested is counted.
+/// segment that fails, in the order of the routes and on each in its order. Without an asked route the finding is the first,
+/// in dictionary order, of the shortest walks over the segments that meet. Where there is none it is the cut: the nodes that
+/// walks over such segments reach or, where no walk at all leads there, those that any walks reach.
+///
+/// What is tested is counted: of asked routes at most their segments, else at most those of the roads, and nothing for a legal
+/// truck.
 pub fn find<L: Ledger>(
     alloc: Global,
     base: &Base,

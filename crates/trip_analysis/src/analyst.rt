@@ -63,7 +63,8 @@ impl Analyst {
         })
     }
 
-    /// What is found for the application in the state of the base's roads, as `find` says it, by what is known.
+    /// What is found for the application in the state of the base's roads, as `find` says it, by what is known. This is
+    /// known in that state afterwards too, also where no memory was left.
     pub fn find<L: Ledger>(
         &mut self,
         alloc: Global,

@@ -60,7 +60,7 @@ impl NodeSet {
         self.marks[here.from as usize] && !self.marks[here.to as usize]
     }
 
-    /// The least segment from a number on that leaves the nodes. Takes no memory.
+    /// The least segment from a number on that leaves the nodes, or none where none does. Takes no memory.
     #[tactic(auto, using(crate::proofs::Crossing::lemmas))]
     pub fn next_leaving(&self, network: &Network, start: u32) -> Option<u32>
         ensures { MatchOption result

@@ -51,7 +51,8 @@ pub fn is_passable<L: Ledger>(
     meets(base.network(), state, load, study, segment, steps)
 }
 
-/// The first of these segments that fails the truck. Takes no memory.
+/// The first of these segments that fails the truck, with its first failing limit, or none where each meets it. At most as
+/// many are counted as there are. Takes no memory.
 pub fn first_on<L: Ledger>(
     base: &Base,
     state: &State,
