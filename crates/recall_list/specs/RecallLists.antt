@@ -1,22 +1,21 @@
 -- The recalls of a history: which permits its postings recall, and the carriers of their trucks.
-use Rattle.std.specs.Prelude.{ℕ, ◌<◌, ◌==◌, if◌then◌else◌, List, [], length, map, fold, Option, Some, None, option_map, All}
+use Rattle.std.specs.Prelude.{ℕ, ◌<◌, List, [], length, map, Option, Some, None, All}
 use Rattle.std.specs.List.{flat_map}
-use Rattle.std.specs.Option.{option_or}
 use Rattle.notice_desk.specs.declared.notice.Recall.{Recall}
 use Rattle.trip_analysis.specs.Bases.{BaseLists, truck_of}
 use Rattle.office_words.specs.declared.entry.Call.{Call}
 use Rattle.office_words.specs.declared.entry.Reply.{Reply}
 use Rattle.office_words.specs.declared.entry.Reply.TheVariants as reply
-use Rattle.office_core.specs.Happened.{History, Numbers, application_in}
+use Rattle.office_core.specs.Happened.{History}
+use Rattle.recall_list.specs.Issues.{issued_by, issued_in, recalled_numbers}
 
 -- the truck for which a call and its answer issue the permit of a number, where they do
 abbrev pub truck_by : ℕ → Call → Reply → Option ℕ
-truck_by n c (reply.Issued k v routes) = if k == n then option_map (λ a. a.truck) (application_in c) else None
-truck_by n c _ = None
+truck_by n c r = issued_by (λ a. a.truck) n c r
 
--- the truck of a permit: that for which the last entry that issued it did so; in the history of an office there is just one
+-- the truck of a permit
 abbrev pub truck_in : History → ℕ → Option ℕ
-truck_in es n = fold (λ found e. option_or (truck_by n e.call e.reply) found) None es
+truck_in es n = issued_in (λ a. a.truck) es n
 
 -- the carrier of a truck
 abbrev pub carrier_of : BaseLists → Option ℕ → List ℕ
@@ -39,11 +38,6 @@ recalls_in base es = flat_map (λ e. recalls_by base (truck_in es) e.reply) es
 abbrev pub HasTruck : BaseLists → Option ℕ → Type 0
 HasTruck base (Some truck) = truck < length base.fleet
 HasTruck base None = ⊥
-
--- the numbers that an answer recalls
-abbrev pub recalled_numbers : Reply → Numbers
-recalled_numbers (reply.Posted v ns) = ns
-recalled_numbers _ = []
 
 -- the truck of each permit that an answer recalls is known and there
 abbrev pub HasTrucks : BaseLists → (ℕ → Option ℕ) → Reply → Type 0
