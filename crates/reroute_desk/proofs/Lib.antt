@@ -1,0 +1,9 @@
+pub mod Recalls
+pub mod Placing
+pub mod Keeping
+pub mod Renewing
+pub mod Noting
+pub mod Going
+pub mod Asking
+pub mod Handling
+pub mod Left
