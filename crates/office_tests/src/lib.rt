@@ -21,4 +21,6 @@ mod many;
 #[cfg(test)]
 mod notices;
 #[cfg(test)]
+mod reroutes;
+#[cfg(test)]
 mod turns;
