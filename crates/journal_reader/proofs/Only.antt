@@ -1,6 +1,6 @@
 -- A word that is read is the text of what was read.
 use Rattle.std.proofs.Common.{◌≡◌, ◌∙◌, ◌<◌, ◌≤◌, ◌+◌, ◌^◌, ◌∷◌, ◌++◌, [], ℕ, List, Option, Some, None, Bool, true, false, cond, eqb, ltb, leb, refl, ap, sym, subst, arith, length, map}
-use Rattle.std.specs.Prelude.{codes, option_map, option_and_then, ◌&&◌, not, IfSome, Ok, Err}
+use Rattle.std.specs.Prelude.{codes, option_map, option_and_then, ◌&&◌, not, IfOk, IfSome, Result, Ok, Err}
 use Rattle.std.specs.Result.{result_ok}
 use Rattle.std.specs.Fmt.{decimal}
 use Rattle.std.specs.List.{AllByRecursion, join_with_byte}
@@ -13,7 +13,7 @@ use Rattle.permit_days.specs.Days.{day_of as day_in_month, has_shape, is_day, is
 use Rattle.permit_days.specs.declared.refusal.DayRefusal.{DayRefusal}
 use Rattle.permit_days.specs.declared.refusal.DayRefusal.TheVariants.{Shape, NoSuchDay}
 use Rattle.journal_text.specs.Words.{Words, group, index, joined, list_text, routes_text}
-use Rattle.journal_reader.specs.Words.{all_of, day_of, fraction_of, group_of, if_few, is_empty, list_of, number32, number_of, pair_of, parts, place_of, routes_of, wide_of, word_at}
+use Rattle.journal_reader.specs.Words.{IsTextOf, all_of, day_of, fraction_of, group_of, if_few, is_empty, list_of, number32, number_of, pair_of, parts, place_of, routes_of, wide_of, word_at}
 use Rattle.journal_reader.specs.Fits.{FitsDay, FitsIndex, FitsIndices, FitsNumbers, FitsRatio, FitsRoutes}
 use Rattle.journal_reader.proofs.Pieces.{split_some}
 use Rattle.journal_reader.proofs.Lowest.{lowest_from}
@@ -169,14 +169,17 @@ found_so : {A : Type 0} (P : A → Type 0) (found read : Option A) → ((x : A) 
 found_so P None read h e = tt
 found_so P (Some x) read h e = h x (sym e)
 
-pub numbers_found : (word : List ℕ) (found : Option (List ℕ)) → found ≡ list_of number32 word → IfSome found (λ xs. (word ≡ list_text decimal xs) × FitsNumbers xs)
-numbers_found word found e = found_so _ found _ (numbers_only word) e
+pub numbers_found : {E : Type 0} (word : List ℕ) (found : Result (Option (List ℕ)) E) → IfOk found (λ xs. xs ≡ list_of number32 word) → IfOk found (IsTextOf (list_text decimal) FitsNumbers word)
+numbers_found word (Ok found) e = found_so _ found _ (numbers_only word) e
+numbers_found word (Err why) e = tt
 
-pub indices_found : (word : List ℕ) (found : Option (List ℕ)) → found ≡ list_of place_of word → IfSome found (λ xs. (word ≡ list_text index xs) × FitsIndices xs)
-indices_found word found e = found_so _ found _ (indices_only word) e
+pub indices_found : {E : Type 0} (word : List ℕ) (found : Result (Option (List ℕ)) E) → IfOk found (λ xs. xs ≡ list_of place_of word) → IfOk found (IsTextOf (list_text index) FitsIndices word)
+indices_found word (Ok found) e = found_so _ found _ (indices_only word) e
+indices_found word (Err why) e = tt
 
-pub routes_found : (word : List ℕ) (found : Option (List (List ℕ))) → found ≡ routes_of word → IfSome found (λ routes. (word ≡ routes_text routes) × FitsRoutes routes)
-routes_found word found e = found_so _ found _ (routes_only word) e
+pub routes_found : {E : Type 0} (word : List ℕ) (found : Result (Option (List (List ℕ))) E) → IfOk found (λ routes. routes ≡ routes_of word) → IfOk found (IsTextOf routes_text FitsRoutes word)
+routes_found word (Ok found) e = found_so _ found _ (routes_only word) e
+routes_found word (Err why) e = tt
 
 pub fraction_found : (word : List ℕ) (found : Option Ratio) → found ≡ fraction_of word → IfSome found (λ f. (word ≡ ratio_text f) × FitsRatio f)
 fraction_found word found e = found_so _ found _ (fraction_only word) e

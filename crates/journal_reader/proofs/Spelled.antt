@@ -40,7 +40,7 @@ use Rattle.journal_text.specs.Entries.{application_words, asked_words, call_word
 use Rattle.journal_text.specs.Journals.{line_of}
 use Rattle.journal_reader.specs.Words.{day_at, day_of, fraction_of, group_of, list_of, number32, number_at, number_of, pair_of, parts, place_at, place_of, routes_of, wide_of}
 use Rattle.journal_reader.specs.Fits.{FitsApplication, FitsAsked, FitsCall, FitsCause, FitsChange, FitsDay, FitsEntry, FitsIndex, FitsIndices, FitsLimit, FitsNumber, FitsNumbers, FitsRatio, FitsReply, FitsRoutes, FitsStatus, FitsWhat}
-use Rattle.journal_reader.specs.Readers.{application_at, asked_at, bare_reply, call_at, cause_at, change_at, days_at, effect_at, entry_of, entry_words, fraction_at, group_limit, held_at, issued_at, limit_at, list_at, named_number, named_place, named_routes, numbers_at, outdated_at, over_limit, plain_call, plain_reply, posted_at, refused_at, reply_at, routes_at, segment_change, shown_at, span_change, span_limit, standing_at, status_at, submit_at, tridem_limit, trip_at, what_at, whose_at}
+use Rattle.journal_reader.specs.Readers.{application_at, asked_at, bare_reply, call_at, cause_at, change_at, days_at, effect_at, entry_of, entry_words, fraction_at, group_limit, held_at, issued_at, last_reply, limit_at, list_at, named_number, named_place, named_routes, numbers_at, outdated_at, over_limit, plain_call, plain_reply, posted_at, refused_at, reply_at, routes_at, segment_change, shown_at, span_change, span_limit, standing_at, status_at, submit_at, tridem_limit, trip_at, what_at, whose_at}
 use Rattle.journal_reader.proofs.Lowest.{lowest_test}
 use Rattle.journal_reader.proofs.Clean.{all_again, all_append, all_words, is_dark, is_no, is_word, joined_all, keeps, left_spaced, list_again, no_digit, parts_joined, word_day, word_index, word_indices, word_number, word_numbers, word_routes}
 
@@ -337,5 +337,5 @@ line_parts e h = left_spaced (entry_words e) (line_words e h)
 
 -- the line of an entry is read as that entry
 pub entry_again : (e : Entry) → FitsEntry e → entry_of (line_of e) ≡ Some e
-unfolding entry_of
+unfolding entry_of last_reply
 entry_again e (h, c, r) = rw (line_parts e (h, c, r), place_again e.caller h, call_again e.call (codes "=" ∷ reply_words e.reply []) c, reply_again e.reply [] r) refl

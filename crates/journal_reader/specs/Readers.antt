@@ -29,7 +29,7 @@ use Rattle.journal_text.specs.Words.{Words, index, list_text, routes_text}
 use Rattle.journal_text.specs.Entries.{call_words, days_words, limit_words, reply_words, shown_words, standing_words}
 use Rattle.journal_text.specs.declared.format.Format.{Format}
 use Rattle.journal_reader.specs.Formats.{if_said}
-use Rattle.journal_reader.specs.Fits.{FitsDay, FitsEntry, FitsIndex, FitsLimit, FitsNumber, FitsRatio, FitsStatus}
+use Rattle.journal_reader.specs.Fits.{FitsDay, FitsEntry, FitsIndex, FitsLimit, FitsNumber, FitsRatio, FitsReply, FitsStatus}
 use Rattle.journal_reader.specs.Words.{Spells, after_word, day_at, fraction_of, group_of, is_empty, list_of, number32, number_at, parts, place_at, place_of, routes_of, word_at, ◌>>=◌}
 
 -- words that are read in one go
@@ -72,6 +72,10 @@ lists_words routes ws = routes_text routes ∷ ws
 -- the words of an entry's line
 abbrev pub entry_words : Entry → Words
 entry_words e = index e.caller ∷ call_words e.call (codes "=" ∷ reply_words e.reply [])
+
+-- a reply behind `=`, and nothing behind it
+abbrev pub IsLastReply : Words → Option Reply → Type 0
+IsLastReply ws found = IfSome found (λ r. (ws ≡ codes "=" ∷ reply_words r []) × FitsReply r)
 
 abbrev pub IsWordsOf : Words → Option Entry → Type 0
 IsWordsOf ws found = IfSome found (λ e. (ws ≡ entry_words e) × FitsEntry e)
@@ -371,15 +375,21 @@ reply_at ws = do
       else if bytes_eq kind.0 (codes "posted") then posted_at kind.1
       else plain_reply kind.0 kind.1
 
+-- the reply with which a line ends
+unfoldable pub last_reply : Words → Option Reply
+last_reply ws = do
+  rest ← after_word (codes "=") ws
+  r ← reply_at rest
+  if is_empty r.1 then Some r.0 else None
+
 -- the entry of a line
 unfoldable pub entry_of : List ℕ → Option Entry
 entry_of line = do
   w ← word_at (parts 32 line)
   caller ← place_of w.0
   c ← call_at w.1
-  rest ← after_word (codes "=") c.1
-  r ← reply_at rest
-  if is_empty r.1 then Some (record { caller = caller; call = c.0; reply = r.0 }) else None
+  reply ← last_reply c.1
+  Some (record { caller = caller; call = c.0; reply = reply })
 
 -- the entry of a line in a journal of this format
 abbrev pub entry_in : Format → List ℕ → Option Entry

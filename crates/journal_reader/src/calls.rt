@@ -42,14 +42,14 @@ pub fn days(rest: &[u8]) -> Option<((Day, Day), &[u8])>
     ensures exact { seen result ≡ days_at (left rest.now) }
     ensures sound { Spells term_words FitsTerm (left rest.now) result }
 {
-    let rest = after(rest, "days")?;
-    let Some((first, rest)) = day(rest) else {
-        return None;
-    };
-    let Some((last, rest)) = day(rest) else {
-        return None;
-    };
-    Some(((first, last), rest))
+    if let Some(rest) = after(rest, "days")
+        && let Some((first, rest)) = day(rest)
+        && let Some((last, rest)) = day(rest)
+    {
+        Some(((first, last), rest))
+    } else {
+        None
+    }
 }
 
 // A call that holds no list.
@@ -61,7 +61,9 @@ fn plain_call<'a>(kind: &[u8], rest: &'a [u8]) -> Option<(Call, &'a [u8])>
     if is(kind, "snapshot") {
         Some((Call::Snapshot, rest))
     } else if is(kind, "post") {
-        let (change, rest) = change(rest)?;
+        let Some((change, rest)) = change(rest) else {
+            return None;
+        };
         Some((Call::Post { change }, rest))
     } else if is(kind, "day") {
         let Some((day, rest)) = day(rest) else {
@@ -69,10 +71,14 @@ fn plain_call<'a>(kind: &[u8], rest: &'a [u8]) -> Option<(Call, &'a [u8])>
         };
         Some((Call::Day { day }, rest))
     } else if is(kind, "surrender") {
-        let (number, rest) = number(rest)?;
+        let Some((number, rest)) = number(rest) else {
+            return None;
+        };
         Some((Call::Surrender { number }, rest))
     } else if is(kind, "show") {
-        let (number, rest) = number(rest)?;
+        let Some((number, rest)) = number(rest) else {
+            return None;
+        };
         Some((Call::Show { number }, rest))
     } else {
         None
@@ -85,23 +91,18 @@ fn submit(alloc: Global, rest: &[u8]) -> Result<Option<(Call, &[u8])>, AllocErro
     ensures exact { IfOk result (λ found. seen found ≡ submit_at (left rest.now)) }
     ensures sound { IfOk result (Spells call_words FitsCall (codes "submit" ∷ left rest.now)) }
 {
-    let Some((application, rest)) = application(alloc, rest)? else {
-        return Ok(None);
-    };
-    let Some((seen, rest)) = named_number(rest, "seen") else {
-        return Ok(None);
-    };
-    let Some((what, rest)) = what(alloc, rest)? else {
-        return Ok(None);
-    };
-    let proposal = Proposal { seen, what };
-    Ok(Some((
-        Call::Submit {
+    if let Some((application, rest)) = application(alloc, rest)?
+        && let Some((seen, rest)) = named_number(rest, "seen")
+        && let Some((what, rest)) = what(alloc, rest)?
+    {
+        let call = Call::Submit {
             application,
-            proposal,
-        },
-        rest,
-    )))
+            proposal: Proposal { seen, what },
+        };
+        Ok(Some((call, rest)))
+    } else {
+        Ok(None)
+    }
 }
 
 // An application for which the office looks itself.
@@ -122,19 +123,15 @@ fn application(alloc: Global, rest: &[u8]) -> Result<Option<(Application, &[u8])
     ensures exact { IfOk result (λ found. seen found ≡ application_at (left rest.now)) }
     ensures sound { IfOk result (Spells application_words FitsApplication (left rest.now)) }
 {
-    let Some(((truck, from, to), rest)) = trip(rest) else {
-        return Ok(None);
-    };
-    let Some((asked, rest)) = asked(alloc, rest)? else {
-        return Ok(None);
-    };
-    let Some(((first, last), rest)) = days(rest) else {
-        return Ok(None);
-    };
-    Ok(Some((
-        Application::of_fields(truck, from, to, asked, first, last),
-        rest,
-    )))
+    if let Some(((truck, from, to), rest)) = trip(rest)
+        && let Some((asked, rest)) = asked(alloc, rest)?
+        && let Some(((first, last), rest)) = days(rest)
+    {
+        let application = Application::of_fields(truck, from, to, asked, first, last);
+        Ok(Some((application, rest)))
+    } else {
+        Ok(None)
+    }
 }
 
 // The truck, and the nodes where the trip begins and ends.
@@ -143,10 +140,14 @@ fn trip(rest: &[u8]) -> Option<((u32, u32, u32), &[u8])>
     ensures exact { seen result ≡ trip_at (left rest.now) }
     ensures sound { Spells trip_words FitsTrip (left rest.now) result }
 {
-    let (truck, rest) = named_place(rest, "truck")?;
-    let (from, rest) = named_place(rest, "from")?;
-    let (to, rest) = named_place(rest, "to")?;
-    Some(((truck, from, to), rest))
+    if let Some((truck, rest)) = named_place(rest, "truck")
+        && let Some((from, rest)) = named_place(rest, "from")
+        && let Some((to, rest)) = named_place(rest, "to")
+    {
+        Some(((truck, from, to), rest))
+    } else {
+        None
+    }
 }
 
 // The asked routes, if any are asked for.

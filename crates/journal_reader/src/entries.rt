@@ -8,7 +8,7 @@ ghost use Rattle.journal_text.specs.Journals.{end_line, line_of};
 ghost use Rattle.journal_reader.specs.Words.{IsTextOf, left, parts, seen};
 ghost use Rattle.journal_reader.specs.Fits.{FitsEntry};
 ghost use Rattle.journal_reader.specs.Formats.{FitsIn};
-ghost use Rattle.journal_reader.specs.Readers.{IsWordsOf, call_at, entry_in, entry_of, reply_at};
+ghost use Rattle.journal_reader.specs.Readers.{IsLastReply, IsWordsOf, call_at, entry_in, entry_of, last_reply, reply_at};
 
 use crate::calls::call;
 use crate::numbers::first_place;
@@ -17,7 +17,7 @@ use crate::replies::reply;
 use crate::words::after;
 use journal_text::Format;
 use numerals::spells;
-use office_words::Entry;
+use office_words::{Entry, Reply};
 use std::alloc::{AllocError, Global};
 
 /// The entry of a line in a journal of this format.
@@ -25,10 +25,9 @@ pub fn entry(alloc: Global, format: Format, line: &[u8]) -> Result<Option<Entry>
     ensures exact { IfOk result (λ found. found ≡ entry_in format line.now) }
     ensures sound { IfOk result (IsTextOf line_of (FitsIn format) line.now) }
 {
-    let Some(entry) = any_entry(alloc, line)? else {
-        return Ok(None);
-    };
-    if format.has_words_for(&entry) {
+    if let Some(entry) = any_entry(alloc, line)?
+        && format.has_words_for(&entry)
+    {
         Ok(Some(entry))
     } else {
         Ok(None)
@@ -36,13 +35,11 @@ pub fn entry(alloc: Global, format: Format, line: &[u8]) -> Result<Option<Entry>
 }
 
 // The entry of a line, whatever the format is.
-#[tactic(auto, using(crate::proofs::Whole::line_found))]
 fn any_entry(alloc: Global, line: &[u8]) -> Result<Option<Entry>, AllocError>
     ensures exact { IfOk result (λ found. found ≡ entry_of line.now) }
     ensures sound { IfOk result (IsTextOf line_of FitsEntry line.now) }
 {
-    let found = entry_in_words(alloc, line)?;
-    Ok(found)
+    entry_in_words(alloc, line)
 }
 
 // The entry that the words of a line spell.
@@ -51,25 +48,31 @@ fn entry_in_words(alloc: Global, line: &[u8]) -> Result<Option<Entry>, AllocErro
     ensures exact { IfOk result (λ found. found ≡ entry_of line.now) }
     ensures sound { IfOk result (IsWordsOf (parts 32 line.now)) }
 {
-    let (_, caller, rest) = first_place(line, b' ');
-    let Some(caller) = caller else {
-        return Ok(None);
-    };
-    let Some((call, rest)) = call(alloc, rest)? else {
-        return Ok(None);
-    };
-    let Some(rest) = after(rest, "=") else {
-        return Ok(None);
-    };
-    let Some((reply, rest)) = reply(alloc, rest)? else {
-        return Ok(None);
-    };
-    if is_done(rest, b' ') {
+    if let (_, Some(caller), rest) = first_place(line, b' ')
+        && let Some((call, rest)) = call(alloc, rest)?
+        && let Some(reply) = last_reply(alloc, rest)?
+    {
         Ok(Some(Entry {
             caller,
             call,
             reply,
         }))
+    } else {
+        Ok(None)
+    }
+}
+
+// The reply behind `=`, with which a line ends.
+#[tactic(auto, unfolding(crate::specs::Readers::last_reply))]
+fn last_reply(alloc: Global, rest: &[u8]) -> Result<Option<Reply>, AllocError>
+    ensures exact { IfOk result (λ found. found ≡ last_reply (left rest.now)) }
+    ensures sound { IfOk result (IsLastReply (left rest.now)) }
+{
+    if let Some(rest) = after(rest, "=")
+        && let Some((reply, rest)) = reply(alloc, rest)?
+        && is_done(rest, b' ')
+    {
+        Ok(Some(reply))
     } else {
         Ok(None)
     }

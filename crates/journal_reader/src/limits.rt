@@ -24,7 +24,9 @@ pub fn change(rest: &[u8]) -> Option<(Change, &[u8])>
     ensures exact { seen result ≡ change_at (left rest.now) }
     ensures sound { Spells change_words FitsChange (left rest.now) result }
 {
-    let (kind, rest) = word(rest)?;
+    let Some((kind, rest)) = word(rest) else {
+        return None;
+    };
     if is(kind, "segment") {
         segment_change(rest)
     } else if is(kind, "span") {
@@ -40,14 +42,18 @@ pub fn cause(rest: &[u8]) -> Option<(Cause, &[u8])>
     ensures exact { seen result ≡ cause_at (left rest.now) }
     ensures sound { Spells cause_words FitsCause (left rest.now) result }
 {
-    let (kind, rest) = word(rest)?;
+    let Some((kind, rest)) = word(rest) else {
+        return None;
+    };
     if is(kind, "fails") {
         let Some((limit, rest)) = limit(rest) else {
             return None;
         };
         Some((Cause::NowFails { limit }, rest))
     } else if is(kind, "meets") {
-        let (segment, rest) = named_place(rest, "segment")?;
+        let Some((segment, rest)) = named_place(rest, "segment") else {
+            return None;
+        };
         Some((Cause::NowMeets { segment }, rest))
     } else {
         None
@@ -60,8 +66,12 @@ pub fn limit(rest: &[u8]) -> Option<(Limit, &[u8])>
     ensures exact { seen result ≡ limit_at (left rest.now) }
     ensures sound { Spells limit_words FitsLimit (left rest.now) result }
 {
-    let (segment, rest) = named_place(rest, "segment")?;
-    let (named, rest) = word(rest)?;
+    let Some((segment, rest)) = named_place(rest, "segment") else {
+        return None;
+    };
+    let Some((named, rest)) = word(rest) else {
+        return None;
+    };
     if is(named, "closed") {
         Some((Limit::Closed { segment }, rest))
     } else if is(named, "group") {
@@ -81,14 +91,16 @@ fn segment_change(rest: &[u8]) -> Option<(Change, &[u8])>
     ensures exact { seen result ≡ segment_change (left rest.now) }
     ensures sound { Spells change_words FitsChange (codes "segment" ∷ left rest.now) result }
 {
-    let (segment, rest) = place(rest)?;
-    let (named, rest) = word(rest)?;
-    let what = What::of_word(named)?;
-    let (value, rest) = number(rest)?;
-    if !may_stand(what, value) {
-        return None;
+    if let Some((segment, rest)) = place(rest)
+        && let Some((named, rest)) = word(rest)
+        && let Some(what) = What::of_word(named)
+        && let Some((value, rest)) = number(rest)
+        && may_stand(what, value)
+    {
+        Some((Change::of(segment, what, value), rest))
+    } else {
+        None
     }
-    Some((Change::of(segment, what, value), rest))
 }
 
 // Whether a value of this limit may stand in a journal: a segment is closed by 1 and open by 0.
@@ -107,9 +119,13 @@ fn span_change(rest: &[u8]) -> Option<(Change, &[u8])>
     ensures exact { seen result ≡ span_change (left rest.now) }
     ensures sound { Spells change_words FitsChange (codes "span" ∷ left rest.now) result }
 {
-    let (span, rest) = place(rest)?;
-    let (permille, rest) = named_number(rest, "rating")?;
-    Some((Change::Rating { span, permille }, rest))
+    if let Some((span, rest)) = place(rest)
+        && let Some((permille, rest)) = named_number(rest, "rating")
+    {
+        Some((Change::Rating { span, permille }, rest))
+    } else {
+        None
+    }
 }
 
 // What the load has, over what is posted.
@@ -118,8 +134,12 @@ fn over_limit<'a>(segment: u32, named: &[u8], rest: &'a [u8]) -> Option<(Limit, 
     ensures exact { seen result ≡ over_limit segment named.now (left rest.now) }
     ensures sound { SpellsLimitOf segment named.now (left rest.now) result }
 {
-    let (has, rest) = number(rest)?;
-    let (allowed, rest) = named_number(rest, "over")?;
+    let Some((has, rest)) = number(rest) else {
+        return None;
+    };
+    let Some((allowed, rest)) = named_number(rest, "over") else {
+        return None;
+    };
     if is(named, "height") {
         Some((
             Limit::Height {
@@ -167,22 +187,24 @@ fn group_limit(segment: u32, rest: &[u8]) -> Option<(Limit, &[u8])>
     ensures exact { seen result ≡ group_limit segment (left rest.now) }
     ensures sound { SpellsLimitOf segment (codes "group") (left rest.now) result }
 {
-    let (axles, rest) = word(rest)?;
-    let (i, j) = group_in(axles)?;
-    let (weight, rest) = named_number(rest, "weight")?;
-    let (limit, rest) = named_number(rest, "limit")?;
-    let (allowance, rest) = named_number(rest, "allowance")?;
-    Some((
-        Limit::Group {
+    if let Some((axles, rest)) = word(rest)
+        && let Some((i, j)) = group_in(axles)
+        && let Some((weight, rest)) = named_number(rest, "weight")
+        && let Some((limit, rest)) = named_number(rest, "limit")
+        && let Some((allowance, rest)) = named_number(rest, "allowance")
+    {
+        let limit = Limit::Group {
             segment,
             i,
             j,
             weight,
             limit,
             allowance,
-        },
-        rest,
-    ))
+        };
+        Some((limit, rest))
+    } else {
+        None
+    }
 }
 
 // A tridem group over its posted weight.
@@ -191,20 +213,22 @@ fn tridem_limit(segment: u32, rest: &[u8]) -> Option<(Limit, &[u8])>
     ensures exact { seen result ≡ tridem_limit segment (left rest.now) }
     ensures sound { SpellsLimitOf segment (codes "tridem") (left rest.now) result }
 {
-    let (axles, rest) = word(rest)?;
-    let (i, j) = group_in(axles)?;
-    let (weight, rest) = named_number(rest, "weight")?;
-    let (pounds, rest) = named_number(rest, "over")?;
-    Some((
-        Limit::Tridem {
+    if let Some((axles, rest)) = word(rest)
+        && let Some((i, j)) = group_in(axles)
+        && let Some((weight, rest)) = named_number(rest, "weight")
+        && let Some((pounds, rest)) = named_number(rest, "over")
+    {
+        let limit = Limit::Tridem {
             segment,
             i,
             j,
             weight,
             allowed: pounds,
-        },
-        rest,
-    ))
+        };
+        Some((limit, rest))
+    } else {
+        None
+    }
 }
 
 // An effect over the rating of a span.
@@ -213,8 +237,12 @@ fn span_limit(segment: u32, rest: &[u8]) -> Option<(Limit, &[u8])>
     ensures exact { seen result ≡ span_limit segment (left rest.now) }
     ensures sound { SpellsLimitOf segment (codes "span") (left rest.now) result }
 {
-    let (span, rest) = place(rest)?;
-    let (named, rest) = word(rest)?;
+    let Some((span, rest)) = place(rest) else {
+        return None;
+    };
+    let Some((named, rest)) = word(rest) else {
+        return None;
+    };
     let Some(((has, design, rating), rest)) = effect(rest) else {
         return None;
     };
@@ -251,13 +279,13 @@ fn effect(rest: &[u8]) -> Option<((Frac, Frac, u32), &[u8])>
     ensures exact { seen result ≡ effect_at (left rest.now) }
     ensures sound { Spells rated_words FitsRated (left rest.now) result }
 {
-    let Some((has, rest)) = fraction(rest) else {
-        return None;
-    };
-    let rest = after(rest, "hs20")?;
-    let Some((design, rest)) = fraction(rest) else {
-        return None;
-    };
-    let (rating, rest) = named_number(rest, "rating")?;
-    Some(((has, design, rating), rest))
+    if let Some((has, rest)) = fraction(rest)
+        && let Some(rest) = after(rest, "hs20")
+        && let Some((design, rest)) = fraction(rest)
+        && let Some((rating, rest)) = named_number(rest, "rating")
+    {
+        Some(((has, design, rating), rest))
+    } else {
+        None
+    }
 }

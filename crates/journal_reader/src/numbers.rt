@@ -96,8 +96,10 @@ pub fn place_in(word: &[u8]) -> Option<u32>
     ensures exact { result ≡ place_of word.now }
     ensures sound { IsTextOf index FitsIndex word.now result }
 {
-    let n = number_in(word)?;
-    if 1 <= n && n <= 65536 {
+    if let Some(n) = number_in(word)
+        && 1 <= n
+        && n <= 65536
+    {
         Some(n - 1)
     } else {
         None
@@ -132,7 +134,9 @@ pub fn fraction_in(word: &[u8]) -> Option<Frac>
 fn fraction_in_exact(word: &[u8]) -> Option<Frac>
     ensures { result ≡ fraction_of word.now }
 {
-    let (num, den) = pair_in(word)?;
+    let Some((num, den)) = pair_in(word) else {
+        return None;
+    };
     Frac::of(num, den)
 }
 
@@ -142,10 +146,11 @@ fn pair_in(word: &[u8]) -> Option<(u128, u128)>
     ensures { result ≡ pair_of 47 wide_of wide_of word.now }
 {
     let (num, rest) = first_part(word, b'/');
-    let (den, rest) = part(rest, b'/')?;
-    let num = wide_in(num)?;
-    let den = wide_in(den)?;
-    if is_done(rest, b'/') {
+    if let Some((den, rest)) = part(rest, b'/')
+        && let Some(num) = wide_in(num)
+        && let Some(den) = wide_in(den)
+        && is_done(rest, b'/')
+    {
         Some((num, den))
     } else {
         None
@@ -165,10 +170,11 @@ fn group_in_exact(word: &[u8]) -> Option<(u32, u32)>
     ensures { result ≡ group_of word.now }
 {
     let (i, rest) = first_part(word, b'-');
-    let (j, rest) = part(rest, b'-')?;
-    let i = place_in(i)?;
-    let j = place_in(j)?;
-    if is_done(rest, b'-') {
+    if let Some((j, rest)) = part(rest, b'-')
+        && let Some(i) = place_in(i)
+        && let Some(j) = place_in(j)
+        && is_done(rest, b'-')
+    {
         Some((i, j))
     } else {
         None
@@ -176,13 +182,11 @@ fn group_in_exact(word: &[u8]) -> Option<(u32, u32)>
 }
 
 /// The numbers that a list spells.
-#[tactic(auto, using(crate::proofs::Only::numbers_found))]
 pub fn numbers_in(alloc: Global, word: &[u8]) -> Result<Option<Numbers>, AllocError>
     ensures exact { IfOk result (λ found. found ≡ list_of number32 word.now) }
     ensures sound { IfOk result (IsTextOf (list_text decimal) FitsNumbers word.now) }
 {
-    let found = numbers_in_exact(alloc, word)?;
-    Ok(found)
+    numbers_in_exact(alloc, word)
 }
 
 #[tactic(auto, unfolding(crate::specs::Words::list_of))]
@@ -216,13 +220,11 @@ fn all_numbers(alloc: Global, word: &[u8]) -> Result<Option<Numbers>, AllocError
 }
 
 /// The indices that a list spells.
-#[tactic(auto, using(crate::proofs::Only::indices_found))]
 pub fn indices_in(alloc: Global, word: &[u8]) -> Result<Option<Numbers>, AllocError>
     ensures exact { IfOk result (λ found. found ≡ list_of place_of word.now) }
     ensures sound { IfOk result (IsTextOf (list_text index) FitsIndices word.now) }
 {
-    let found = indices_in_exact(alloc, word)?;
-    Ok(found)
+    indices_in_exact(alloc, word)
 }
 
 #[tactic(auto, unfolding(crate::specs::Words::list_of))]

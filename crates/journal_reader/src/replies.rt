@@ -40,23 +40,19 @@ fn issued(alloc: Global, rest: &[u8]) -> Result<Option<(Reply, &[u8])>, AllocErr
     ensures exact { IfOk result (λ found. seen found ≡ issued_at (left rest.now)) }
     ensures sound { IfOk result (Spells reply_words FitsReply (codes "issued" ∷ left rest.now)) }
 {
-    let Some((number, rest)) = number(rest) else {
-        return Ok(None);
-    };
-    let Some((version, rest)) = named_number(rest, "at") else {
-        return Ok(None);
-    };
-    let Some((routes, rest)) = named_routes(alloc, rest, "route")? else {
-        return Ok(None);
-    };
-    Ok(Some((
-        Reply::Issued {
+    if let Some((number, rest)) = number(rest)
+        && let Some((version, rest)) = named_number(rest, "at")
+        && let Some((routes, rest)) = named_routes(alloc, rest, "route")?
+    {
+        let reply = Reply::Issued {
             number,
             version,
             routes,
-        },
-        rest,
-    )))
+        };
+        Ok(Some((reply, rest)))
+    } else {
+        Ok(None)
+    }
 }
 
 // That a change is posted.
@@ -65,13 +61,13 @@ fn posted(alloc: Global, rest: &[u8]) -> Result<Option<(Reply, &[u8])>, AllocErr
     ensures exact { IfOk result (λ found. seen found ≡ posted_at (left rest.now)) }
     ensures sound { IfOk result (Spells reply_words FitsReply (codes "posted" ∷ left rest.now)) }
 {
-    let Some((version, rest)) = number(rest) else {
-        return Ok(None);
-    };
-    let Some((recalled, rest)) = named_numbers(alloc, rest, "recalled")? else {
-        return Ok(None);
-    };
-    Ok(Some((Reply::Posted { version, recalled }, rest)))
+    if let Some((version, rest)) = number(rest)
+        && let Some((recalled, rest)) = named_numbers(alloc, rest, "recalled")?
+    {
+        Ok(Some((Reply::Posted { version, recalled }, rest)))
+    } else {
+        Ok(None)
+    }
 }
 
 // A reply that holds no list.
@@ -81,7 +77,9 @@ fn plain_reply<'a>(kind: &[u8], rest: &'a [u8]) -> Option<(Reply, &'a [u8])>
     ensures sound { Spells reply_words FitsReply (kind.now ∷ left rest.now) result }
 {
     if is(kind, "at") {
-        let (version, rest) = number(rest)?;
+        let Some((version, rest)) = number(rest) else {
+            return None;
+        };
         Some((Reply::SnapshotAt { version }, rest))
     } else if is(kind, "refused") {
         refused(rest)
@@ -103,12 +101,16 @@ fn plain_reply<'a>(kind: &[u8], rest: &'a [u8]) -> Option<(Reply, &'a [u8])>
         };
         Some((Reply::DayBack { day }, rest))
     } else if is(kind, "notinforce") {
-        let (status, rest) = status(rest)?;
+        let Some((status, rest)) = status(rest) else {
+            return None;
+        };
         Some((Reply::NotInForce { status }, rest))
     } else if is(kind, "shown") {
         shown(rest)
     } else {
-        let reply = bare_reply(kind)?;
+        let Some(reply) = bare_reply(kind) else {
+            return None;
+        };
         Some((reply, rest))
     }
 }
@@ -144,11 +146,13 @@ fn refused(rest: &[u8]) -> Option<(Reply, &[u8])>
     ensures exact { seen result ≡ refused_at (left rest.now) }
     ensures sound { Spells reply_words FitsReply (codes "refused" ∷ left rest.now) result }
 {
-    let (version, rest) = number(rest)?;
-    let Some((limit, rest)) = limit(rest) else {
-        return None;
-    };
-    Some((Reply::Refused { version, limit }, rest))
+    if let Some((version, rest)) = number(rest)
+        && let Some((limit, rest)) = limit(rest)
+    {
+        Some((Reply::Refused { version, limit }, rest))
+    } else {
+        None
+    }
 }
 
 // That a proposal is outdated.
@@ -157,11 +161,13 @@ fn outdated(rest: &[u8]) -> Option<(Reply, &[u8])>
     ensures exact { seen result ≡ outdated_at (left rest.now) }
     ensures sound { Spells reply_words FitsReply (codes "outdated" ∷ left rest.now) result }
 {
-    let (version, rest) = number(rest)?;
-    let Some((cause, rest)) = cause(rest) else {
-        return None;
-    };
-    Some((Reply::Outdated { version, cause }, rest))
+    if let Some((version, rest)) = number(rest)
+        && let Some((cause, rest)) = cause(rest)
+    {
+        Some((Reply::Outdated { version, cause }, rest))
+    } else {
+        None
+    }
 }
 
 // What a permit says.
@@ -170,13 +176,11 @@ fn shown(rest: &[u8]) -> Option<(Reply, &[u8])>
     ensures exact { seen result ≡ shown_at (left rest.now) }
     ensures sound { Spells reply_words FitsReply (codes "shown" ∷ left rest.now) result }
 {
-    let ((number, caller, truck), rest) = whose(rest)?;
-    let Some(((first, last), rest)) = days(rest) else {
-        return None;
-    };
-    let ((version, seen, status), rest) = standing(rest)?;
-    Some((
-        Reply::Shown {
+    if let Some(((number, caller, truck), rest)) = whose(rest)
+        && let Some(((first, last), rest)) = days(rest)
+        && let Some(((version, seen, status), rest)) = standing(rest)
+    {
+        let reply = Reply::Shown {
             number,
             caller,
             truck,
@@ -185,9 +189,11 @@ fn shown(rest: &[u8]) -> Option<(Reply, &[u8])>
             version,
             seen,
             status,
-        },
-        rest,
-    ))
+        };
+        Some((reply, rest))
+    } else {
+        None
+    }
 }
 
 // Whose permit is shown.
@@ -196,10 +202,14 @@ fn whose(rest: &[u8]) -> Option<((u32, u32, u32), &[u8])>
     ensures exact { seen result ≡ whose_at (left rest.now) }
     ensures sound { Spells whose_words FitsWhose (codes "shown" ∷ left rest.now) result }
 {
-    let (number, rest) = number(rest)?;
-    let (caller, rest) = named_place(rest, "caller")?;
-    let (truck, rest) = named_place(rest, "truck")?;
-    Some(((number, caller, truck), rest))
+    if let Some((number, rest)) = number(rest)
+        && let Some((caller, rest)) = named_place(rest, "caller")
+        && let Some((truck, rest)) = named_place(rest, "truck")
+    {
+        Some(((number, caller, truck), rest))
+    } else {
+        None
+    }
 }
 
 // The versions that a permit was issued at and found at, and how it stands.
@@ -208,10 +218,14 @@ fn standing(rest: &[u8]) -> Option<((u32, u32, Status), &[u8])>
     ensures exact { seen result ≡ standing_at (left rest.now) }
     ensures sound { Spells stands_words FitsStanding (left rest.now) result }
 {
-    let (version, rest) = named_number(rest, "at")?;
-    let (seen, rest) = named_number(rest, "seen")?;
-    let (status, rest) = status(rest)?;
-    Some(((version, seen, status), rest))
+    if let Some((version, rest)) = named_number(rest, "at")
+        && let Some((seen, rest)) = named_number(rest, "seen")
+        && let Some((status, rest)) = status(rest)
+    {
+        Some(((version, seen, status), rest))
+    } else {
+        None
+    }
 }
 
 // How a permit stands.
@@ -220,11 +234,15 @@ fn status(rest: &[u8]) -> Option<(Status, &[u8])>
     ensures exact { seen result ≡ status_at (left rest.now) }
     ensures sound { Spells status_words FitsStatus (left rest.now) result }
 {
-    let (kind, rest) = word(rest)?;
+    let Some((kind, rest)) = word(rest) else {
+        return None;
+    };
     if is(kind, "inforce") {
         Some((Status::InForce, rest))
     } else if is(kind, "recalled") {
-        let (version, rest) = number(rest)?;
+        let Some((version, rest)) = number(rest) else {
+            return None;
+        };
         Some((Status::Recalled { version }, rest))
     } else if is(kind, "surrendered") {
         Some((Status::Surrendered, rest))

@@ -12,13 +12,11 @@ use std::alloc::{AllocError, Global};
 use trip_routes::{Routes, RoutesRefusal, SharedRoutes};
 
 /// The routes that a word spells.
-#[tactic(auto, using(crate::proofs::Only::routes_found))]
 pub fn routes_in(alloc: Global, word: &[u8]) -> Result<Option<SharedRoutes>, AllocError>
     ensures exact { IfOk result (λ found. found ≡ routes_of word.now) }
     ensures sound { IfOk result (IsTextOf routes_text FitsRoutes word.now) }
 {
-    let found = routes_in_exact(alloc, word)?;
-    Ok(found)
+    routes_in_exact(alloc, word)
 }
 
 fn routes_in_exact(alloc: Global, word: &[u8]) -> Result<Option<SharedRoutes>, AllocError>

@@ -44,8 +44,11 @@ pub fn number(rest: &[u8]) -> Option<(u32, &[u8])>
     ensures exact { seen result ≡ number_at (left rest.now) }
     ensures sound { Spells (λ n ws. decimal n ∷ ws) FitsNumber (left rest.now) result }
 {
-    let (_, n, rest) = next_number(rest, b' ')?;
-    Some((n?, rest))
+    if let Some((_, Some(n), rest)) = next_number(rest, b' ') {
+        Some((n, rest))
+    } else {
+        None
+    }
 }
 
 /// An index.
@@ -54,8 +57,11 @@ pub fn place(rest: &[u8]) -> Option<(u32, &[u8])>
     ensures exact { seen result ≡ place_at (left rest.now) }
     ensures sound { Spells (λ i ws. index i ∷ ws) FitsIndex (left rest.now) result }
 {
-    let (_, i, rest) = next_place(rest, b' ')?;
-    Some((i?, rest))
+    if let Some((_, Some(i), rest)) = next_place(rest, b' ') {
+        Some((i, rest))
+    } else {
+        None
+    }
 }
 
 /// A day.
@@ -64,9 +70,13 @@ pub fn day(rest: &[u8]) -> Option<(Day, &[u8])>
     ensures exact { seen result ≡ day_at (left rest.now) }
     ensures sound { Spells (λ day ws. day ∷ ws) FitsDay (left rest.now) result }
 {
-    let (word, rest) = word(rest)?;
-    let day = day_in(word)?;
-    Some((day, rest))
+    if let Some((word, rest)) = word(rest)
+        && let Some(day) = day_in(word)
+    {
+        Some((day, rest))
+    } else {
+        None
+    }
 }
 
 /// A fraction in lowest terms.
@@ -75,9 +85,13 @@ pub fn fraction(rest: &[u8]) -> Option<(Frac, &[u8])>
     ensures exact { seen result ≡ fraction_at (left rest.now) }
     ensures sound { Spells (λ f ws. ratio_text f ∷ ws) FitsRatio (left rest.now) result }
 {
-    let (word, rest) = word(rest)?;
-    let f = fraction_in(word)?;
-    Some((f, rest))
+    if let Some((word, rest)) = word(rest)
+        && let Some(f) = fraction_in(word)
+    {
+        Some((f, rest))
+    } else {
+        None
+    }
 }
 
 /// A word and a number.
@@ -86,8 +100,11 @@ pub fn named_number<'a>(rest: &'a [u8], text: &str) -> Option<(u32, &'a [u8])>
     ensures exact { seen result ≡ named_number text.now (left rest.now) }
     ensures sound { Spells (λ n ws. text.now ∷ decimal n ∷ ws) FitsNumber (left rest.now) result }
 {
-    let rest = after(rest, text)?;
-    number(rest)
+    if let Some(rest) = after(rest, text) {
+        number(rest)
+    } else {
+        None
+    }
 }
 
 /// A word and an index.
@@ -96,8 +113,11 @@ pub fn named_place<'a>(rest: &'a [u8], text: &str) -> Option<(u32, &'a [u8])>
     ensures exact { seen result ≡ named_place text.now (left rest.now) }
     ensures sound { Spells (λ i ws. text.now ∷ index i ∷ ws) FitsIndex (left rest.now) result }
 {
-    let rest = after(rest, text)?;
-    place(rest)
+    if let Some(rest) = after(rest, text) {
+        place(rest)
+    } else {
+        None
+    }
 }
 
 /// A list of indices.
@@ -106,13 +126,13 @@ pub fn places(alloc: Global, rest: &[u8]) -> Result<Option<(Numbers, &[u8])>, Al
     ensures exact { IfOk result (λ found. seen found ≡ list_at (left rest.now)) }
     ensures sound { IfOk result (Spells list_words FitsIndices (left rest.now)) }
 {
-    let Some((text, rest)) = word(rest) else {
-        return Ok(None);
-    };
-    let Some(list) = indices_in(alloc, text)? else {
-        return Ok(None);
-    };
-    Ok(Some((list, rest)))
+    if let Some((text, rest)) = word(rest)
+        && let Some(list) = indices_in(alloc, text)?
+    {
+        Ok(Some((list, rest)))
+    } else {
+        Ok(None)
+    }
 }
 
 /// Routes.
@@ -121,13 +141,13 @@ pub fn routes(alloc: Global, rest: &[u8]) -> Result<Option<(SharedRoutes, &[u8])
     ensures exact { IfOk result (λ found. seen found ≡ routes_at (left rest.now)) }
     ensures sound { IfOk result (Spells lists_words FitsRoutes (left rest.now)) }
 {
-    let Some((text, rest)) = word(rest) else {
-        return Ok(None);
-    };
-    let Some(routes) = routes_in(alloc, text)? else {
-        return Ok(None);
-    };
-    Ok(Some((routes, rest)))
+    if let Some((text, rest)) = word(rest)
+        && let Some(routes) = routes_in(alloc, text)?
+    {
+        Ok(Some((routes, rest)))
+    } else {
+        Ok(None)
+    }
 }
 
 /// A word and routes.
@@ -156,16 +176,14 @@ pub fn named_numbers<'a>(
     ensures exact { IfOk result (λ found. seen found ≡ numbers_at text.now (left rest.now)) }
     ensures sound { IfOk result (Spells (numbers_words text.now) FitsNumbers (left rest.now)) }
 {
-    let Some(rest) = after(rest, text) else {
-        return Ok(None);
-    };
-    let Some((text, rest)) = word(rest) else {
-        return Ok(None);
-    };
-    let Some(list) = numbers_in(alloc, text)? else {
-        return Ok(None);
-    };
-    Ok(Some((list, rest)))
+    if let Some(rest) = after(rest, text)
+        && let Some((text, rest)) = word(rest)
+        && let Some(list) = numbers_in(alloc, text)?
+    {
+        Ok(Some((list, rest)))
+    } else {
+        Ok(None)
+    }
 }
 
 // What is left behind this word, where its end is seen at once.
@@ -174,9 +192,11 @@ pub fn named_numbers<'a>(
 fn behind<'a>(rest: &'a [u8], text: &str) -> Option<&'a [u8]>
     ensures { IfSome result (λ x. left rest.now ≡ text.now ∷ left x.now) }
 {
-    let (_, words) = rest.split_first()?;
-    let more = words.strip_prefix(text.as_bytes())?;
-    if is_word(text) && (more.is_empty() || more[0] == b' ') {
+    if let Some((_, words)) = rest.split_first()
+        && let Some(more) = words.strip_prefix(text.as_bytes())
+        && is_word(text)
+        && (more.is_empty() || more[0] == b' ')
+    {
         Some(more)
     } else {
         None
@@ -203,6 +223,11 @@ fn after_any<'a>(rest: &'a [u8], text: &str) -> Option<&'a [u8]>
     ensures exact { option_map (λ x. left x.now) result ≡ after_word text.now (left rest.now) }
     ensures sound { IfSome result (λ x. left rest.now ≡ text.now ∷ left x.now) }
 {
-    let (word, rest) = word(rest)?;
-    if is(word, text) { Some(rest) } else { None }
+    if let Some((word, rest)) = word(rest)
+        && is(word, text)
+    {
+        Some(rest)
+    } else {
+        None
+    }
 }
