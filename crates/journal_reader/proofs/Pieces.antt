@@ -1,5 +1,6 @@
 -- The parts of a text around a separator.
-use Rattle.std.proofs.Common.{◌≡◌, ◌≢◌, ◌∙◌, ◌<◌, ◌≤◌, ◌+◌, ◌-◌, ◌∷◌, ◌++◌, [], ℕ, zero, suc, List, Bool, true, false, cond, eqb, refl, ap, sym, arith, length, get_or, take, drop, inl, inr, ◌⊎◌, Some}
+use Rattle.std.proofs.Common.{◌≡◌, ◌≢◌, ◌∙◌, ◌<◌, ◌≤◌, ◌+◌, ◌-◌, ◌∷◌, ◌++◌, [], ℕ, zero, suc, List, Bool, true, false, cond, eqb, refl, ap, sym, arith, length, get_or, take, drop, inl, inr, ◌⊎◌, Option, Some, None, append_assoc, leb, ltb, length-append}
+use Rattle.std.specs.Prelude.{option_map}
 use Rattle.std.specs.List.{slice_split, onto_first}
 use Rattle.std.proofs.lemmas.Bool.{cases_lt, eqb-true}
 use Rattle.std.proofs.lemmas.List.Splits.{slice_split-cons_yes, slice_split-cons_no}
@@ -9,7 +10,7 @@ use Rattle.std.proofs.lemmas.List.{get_or-drop, get_or-take}
 use Rattle.std.proofs.lemmas.Slice.Eq.{bytes_eq-Decides}
 use Rattle.journal_text.specs.Words.{Words}
 use Rattle.journal_text.specs.Journals.{ended}
-use Rattle.journal_reader.specs.Words.{after_word, is_empty, left, parts_left}
+use Rattle.journal_reader.specs.Words.{after_word, all_of, is_empty, left, list_of, parts, parts_left, place_of, routes_of, word_at}
 use Rattle.journal_reader.specs.Journals.{IsLine}
 
 eqb_no : (a b : ℕ) → a ≢ b → eqb a b ≡ false
@@ -93,3 +94,34 @@ word_behind rest words text more b is same behind long none ends =
 -- what follows a word that stands first
 pub after_same : (text : List ℕ) (words ws : Words) → words ≡ text ∷ ws → Some ws ≡ after_word text words
 after_same text words ws is = rw (is, (bytes_eq-Decides text text).1 refl) refl
+
+-- one part more is read
+pub read_more : {A : Type 0} (read : List ℕ → Option A) (done new : List A) (words ws : Words) (w : List ℕ) (x : A) (whole : Option (List A)) → words ≡ w ∷ ws → Some x ≡ read w → new ≡ done ++ (x ∷ []) → option_map (λ more. done ++ more) (all_of read words) ≡ whole → option_map (λ more. new ++ more) (all_of read ws) ≡ whole
+read_more read done new words ws w x whole next is grown before = rw grown (by (all_of read ws) (rw (next, sym is) at before))
+  where
+    by : (o : Option (List _)) → option_map (λ more. done ++ more) (option_map (λ xs. x ∷ xs) o) ≡ whole → option_map (λ more. (done ++ (x ∷ [])) ++ more) o ≡ whole
+    by None e = e
+    by (Some xs) e = ap Some (append_assoc done (x ∷ []) xs) ∙ e
+
+-- all routes are read, and are few
+pub routes_read : (word : List ℕ) (routes : List (List ℕ)) (words : Words) → word_at words ≡ None → option_map (λ more. routes ++ more) (all_of (list_of place_of) words) ≡ all_of (list_of place_of) (parts 47 word) → length routes ≤ 8 → Some routes ≡ routes_of word
+unfolding routes_of
+routes_read word routes [] none all few = rw (sym all, nil routes, low (length routes) few) refl
+  where
+    nil : (xs : List (List ℕ)) → xs ++ [] ≡ xs
+    nil [] = refl
+    nil (x ∷ xs) = ap (λ t. x ∷ t) (nil xs)
+
+    low : (a : ℕ) → a ≤ 8 → leb a 8 ≡ true
+    low a h = grind (arith, nat_tests)
+routes_read word routes (w ∷ ws) none all few = absurd (cc none)
+
+-- there was room for one route more
+pub still_few : (old new : List (List ℕ)) (route : List ℕ) → ltb (length old) 8 ≡ true → new ≡ old ++ (route ∷ []) → length new ≤ 8
+still_few old new route room grown =
+    let long = length-append old (route ∷ []) in
+    let below = low (length old) room in
+    rw grown (omega (arith, long, below))
+  where
+    low : (a : ℕ) → ltb a 8 ≡ true → a < 8
+    low a h = grind (arith, nat_tests)
