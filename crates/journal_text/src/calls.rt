@@ -17,10 +17,7 @@ pub fn call(out: &mut Vec<u8>, call: &Call) -> Result<(), AllocError>
     ensures { OnOk result (Adds out.old.items out.new.items (call_words call.now)) }
 {
     match call {
-        Call::Snapshot => {
-            word(out, "snapshot")?;
-            Ok(())
-        }
+        Call::Snapshot => word(out, "snapshot"),
         Call::Submit {
             application: asked,
             proposal,
@@ -28,32 +25,22 @@ pub fn call(out: &mut Vec<u8>, call: &Call) -> Result<(), AllocError>
             word(out, "submit")?;
             application(out, asked)?;
             named(out, "seen", proposal.seen)?;
-            what(out, &proposal.what)?;
-            Ok(())
+            what(out, &proposal.what)
         }
         Call::Held { application: asked } => {
             word(out, "held")?;
-            application(out, asked)?;
-            Ok(())
+            application(out, asked)
         }
         Call::Post { change: posted } => {
             word(out, "post")?;
-            change(out, posted)?;
-            Ok(())
+            change(out, posted)
         }
         Call::Day { day: new } => {
             word(out, "day")?;
-            day(out, *new)?;
-            Ok(())
+            day(out, *new)
         }
-        Call::Surrender { number } => {
-            named(out, "surrender", *number)?;
-            Ok(())
-        }
-        Call::Show { number } => {
-            named(out, "show", *number)?;
-            Ok(())
-        }
+        Call::Surrender { number } => named(out, "surrender", *number),
+        Call::Show { number } => named(out, "show", *number),
     }
 }
 
@@ -63,8 +50,7 @@ pub fn days(out: &mut Vec<u8>, first: Day, last: Day) -> Result<(), AllocError>
 {
     word(out, "days")?;
     day(out, first)?;
-    day(out, last)?;
-    Ok(())
+    day(out, last)
 }
 
 // An application.
@@ -75,8 +61,7 @@ fn application(out: &mut Vec<u8>, application: &Application) -> Result<(), Alloc
     named_place(out, "from", application.from())?;
     named_place(out, "to", application.to())?;
     asked(out, application)?;
-    days(out, application.first(), application.last())?;
-    Ok(())
+    days(out, application.first(), application.last())
 }
 
 // The asked routes, if any are asked for.
@@ -86,13 +71,9 @@ fn asked(out: &mut Vec<u8>, application: &Application) -> Result<(), AllocError>
     match application.asked() {
         None => {
             word(out, "asked")?;
-            word(out, "none")?;
-            Ok(())
+            word(out, "none")
         }
-        Some(routes) => {
-            named_routes(out, "asked", routes)?;
-            Ok(())
-        }
+        Some(routes) => named_routes(out, "asked", routes),
     }
 }
 
@@ -101,21 +82,9 @@ fn what(out: &mut Vec<u8>, what: &What) -> Result<(), AllocError>
     ensures { OnOk result (Adds out.old.items out.new.items (what_words what.now)) }
 {
     match what {
-        What::NotNeeded => {
-            word(out, "none")?;
-            Ok(())
-        }
-        What::Route(routes) => {
-            named_routes(out, "route", routes)?;
-            Ok(())
-        }
-        What::Fails { segment } => {
-            named_place(out, "fails", *segment)?;
-            Ok(())
-        }
-        What::Cut(nodes) => {
-            named_places(out, "cut", nodes.as_slice())?;
-            Ok(())
-        }
+        What::NotNeeded => word(out, "none"),
+        What::Route(routes) => named_routes(out, "route", routes),
+        What::Fails { segment } => named_place(out, "fails", *segment),
+        What::Cut(nodes) => named_places(out, "cut", nodes.as_slice()),
     }
 }

@@ -25,8 +25,7 @@ pub fn change(out: &mut Vec<u8>, change: &Change) -> Result<(), AllocError>
         } => posted(out, segment, what.word(), value),
         Replaced::Rating { span, permille } => {
             named_place(out, "span", span)?;
-            named(out, "rating", permille)?;
-            Ok(())
+            named(out, "rating", permille)
         }
     }
 }
@@ -91,13 +90,11 @@ pub fn cause(out: &mut Vec<u8>, cause: &Cause) -> Result<(), AllocError>
     match cause {
         Cause::NowFails { limit: why } => {
             word(out, "fails")?;
-            limit(out, why)?;
-            Ok(())
+            limit(out, why)
         }
         Cause::NowMeets { segment } => {
             word(out, "meets")?;
-            named_place(out, "segment", *segment)?;
-            Ok(())
+            named_place(out, "segment", *segment)
         }
     }
 }
@@ -117,8 +114,7 @@ fn span_limit(out: &mut Vec<u8>, limit: &Limit) -> Result<(), AllocError>
         } => {
             named_place(out, "segment", *segment)?;
             named_place(out, "span", *span)?;
-            effect(out, "moment", *has, *design, *rating)?;
-            Ok(())
+            effect(out, "moment", *has, *design, *rating)
         }
         Limit::Shear {
             segment,
@@ -129,8 +125,7 @@ fn span_limit(out: &mut Vec<u8>, limit: &Limit) -> Result<(), AllocError>
         } => {
             named_place(out, "segment", *segment)?;
             named_place(out, "span", *span)?;
-            effect(out, "shear", *has, *design, *rating)?;
-            Ok(())
+            effect(out, "shear", *has, *design, *rating)
         }
         _ => unreachable!(),
     }
@@ -141,8 +136,7 @@ fn closed(out: &mut Vec<u8>, segment: u32) -> Result<(), AllocError>
     ensures { OnOk result (Adds out.old.items out.new.items (limit_words (Limit.Closed segment))) }
 {
     named_place(out, "segment", segment)?;
-    word(out, "closed")?;
-    Ok(())
+    word(out, "closed")
 }
 
 // A value of a segment.
@@ -150,8 +144,7 @@ fn posted(out: &mut Vec<u8>, segment: u32, name: &str, value: u32) -> Result<(),
     ensures { OnOk result (Adds out.old.items out.new.items (posted_words segment name.now value)) }
 {
     named_place(out, "segment", segment)?;
-    named(out, name, value)?;
-    Ok(())
+    named(out, name, value)
 }
 
 // A posted value that is exceeded.
@@ -165,8 +158,7 @@ fn over(
     ensures { OnOk result (Adds out.old.items out.new.items (over_words segment name.now has allowed)) }
 {
     posted(out, segment, name, has)?;
-    named(out, "over", allowed)?;
-    Ok(())
+    named(out, "over", allowed)
 }
 
 // What a group weighs, its limit, and the allowance on it.
@@ -175,8 +167,7 @@ fn weighed(out: &mut Vec<u8>, weight: u32, limit: u32, allowance: u32) -> Result
 {
     named(out, "weight", weight)?;
     named(out, "limit", limit)?;
-    named(out, "allowance", allowance)?;
-    Ok(())
+    named(out, "allowance", allowance)
 }
 
 // What a tridem group weighs, and what is allowed.
@@ -184,8 +175,7 @@ fn outweighed(out: &mut Vec<u8>, weight: u32, allowed: u32) -> Result<(), AllocE
     ensures { OnOk result (Adds out.old.items out.new.items (outweighed_words weight allowed)) }
 {
     named(out, "weight", weight)?;
-    named(out, "over", allowed)?;
-    Ok(())
+    named(out, "over", allowed)
 }
 
 // An effect that is over its rating.
@@ -200,6 +190,5 @@ fn effect(
 {
     named_fraction(out, name, has)?;
     named_fraction(out, "hs20", design)?;
-    named(out, "rating", rating)?;
-    Ok(())
+    named(out, "rating", rating)
 }

@@ -56,8 +56,7 @@ pub fn reply(out: &mut Vec<u8>, reply: &Reply) -> Result<(), AllocError>
         } => {
             shown(out, *number, *caller, *truck)?;
             days(out, *first, *last)?;
-            standing(out, *version, *seen, *now)?;
-            Ok(())
+            standing(out, *version, *seen, *now)
         }
         Reply::Full { .. } => Ok(()),
         Reply::NoMemory => word(out, "nomemory"),
@@ -76,8 +75,7 @@ fn issued(
 {
     named(out, "issued", number)?;
     named(out, "at", version)?;
-    named_routes(out, "route", routes)?;
-    Ok(())
+    named_routes(out, "route", routes)
 }
 
 // That a limit fails.
@@ -85,8 +83,7 @@ fn refused(out: &mut Vec<u8>, version: u32, why: &Limit) -> Result<(), AllocErro
     ensures { OnOk result (Adds out.old.items out.new.items (reply_words (Reply.Refused version why.now))) }
 {
     named(out, "refused", version)?;
-    limit(out, why)?;
-    Ok(())
+    limit(out, why)
 }
 
 // That a proposal is outdated.
@@ -94,8 +91,7 @@ fn outdated(out: &mut Vec<u8>, version: u32, why: &Cause) -> Result<(), AllocErr
     ensures { OnOk result (Adds out.old.items out.new.items (reply_words (Reply.Outdated version why.now))) }
 {
     named(out, "outdated", version)?;
-    cause(out, why)?;
-    Ok(())
+    cause(out, why)
 }
 
 // That a change is posted.
@@ -104,8 +100,7 @@ fn posted(out: &mut Vec<u8>, version: u32, recalled: &[u32]) -> Result<(), Alloc
         (reply_words (Reply.Posted version recalled.now))) }
 {
     named(out, "posted", version)?;
-    named_numbers(out, "recalled", recalled)?;
-    Ok(())
+    named_numbers(out, "recalled", recalled)
 }
 
 // That a permit is not in force.
@@ -113,8 +108,7 @@ fn not_in_force(out: &mut Vec<u8>, now: Status) -> Result<(), AllocError>
     ensures { OnOk result (Adds out.old.items out.new.items (reply_words (Reply.NotInForce now))) }
 {
     word(out, "notinforce")?;
-    status(out, now)?;
-    Ok(())
+    status(out, now)
 }
 
 // Whose permit is shown.
@@ -123,8 +117,7 @@ fn shown(out: &mut Vec<u8>, number: u32, caller: u32, truck: u32) -> Result<(), 
 {
     named(out, "shown", number)?;
     named_place(out, "caller", caller)?;
-    named_place(out, "truck", truck)?;
-    Ok(())
+    named_place(out, "truck", truck)
 }
 
 // The versions that a permit was issued at and found at, and how it stands.
@@ -133,8 +126,7 @@ fn standing(out: &mut Vec<u8>, version: u32, seen: u32, now: Status) -> Result<(
 {
     named(out, "at", version)?;
     named(out, "seen", seen)?;
-    status(out, now)?;
-    Ok(())
+    status(out, now)
 }
 
 // How a permit stands.
@@ -142,21 +134,9 @@ fn status(out: &mut Vec<u8>, status: Status) -> Result<(), AllocError>
     ensures { OnOk result (Adds out.old.items out.new.items (status_words status)) }
 {
     match status {
-        Status::InForce => {
-            word(out, "inforce")?;
-            Ok(())
-        }
-        Status::Recalled { version } => {
-            named(out, "recalled", version)?;
-            Ok(())
-        }
-        Status::Surrendered => {
-            word(out, "surrendered")?;
-            Ok(())
-        }
-        Status::Expired => {
-            word(out, "expired")?;
-            Ok(())
-        }
+        Status::InForce => word(out, "inforce"),
+        Status::Recalled { version } => named(out, "recalled", version),
+        Status::Surrendered => word(out, "surrendered"),
+        Status::Expired => word(out, "expired"),
     }
 }

@@ -52,8 +52,7 @@ pub fn index_digits(out: &mut Vec<u8>, i: u32) -> Result<(), AllocError>
 pub fn number(out: &mut Vec<u8>, n: u32) -> Result<(), AllocError>
     ensures { OnOk result (Adds out.old.items out.new.items (λ ws. decimal n ∷ ws)) }
 {
-    digits_behind(out, b' ', u64::from(n))?;
-    Ok(())
+    digits_behind(out, b' ', u64::from(n))
 }
 
 /// An index, counted from 1.
@@ -62,8 +61,7 @@ pub fn number(out: &mut Vec<u8>, n: u32) -> Result<(), AllocError>
 pub fn place(out: &mut Vec<u8>, i: u32) -> Result<(), AllocError>
     ensures { OnOk result (Adds out.old.items out.new.items (λ ws. index i ∷ ws)) }
 {
-    index_behind(out, b' ', i)?;
-    Ok(())
+    index_behind(out, b' ', i)
 }
 
 /// A word and a number.
@@ -98,8 +96,7 @@ pub fn named_fraction(out: &mut Vec<u8>, text: &str, f: Frac) -> Result<(), Allo
     ensures { OnOk result (Adds out.old.items out.new.items (λ ws. text.now ∷ ratio_text f ∷ ws)) }
 {
     word(out, text)?;
-    fraction(out, f)?;
-    Ok(())
+    fraction(out, f)
 }
 
 /// A word and a group of axles, by its first and its last.
@@ -107,8 +104,7 @@ pub fn named_group(out: &mut Vec<u8>, text: &str, i: u32, j: u32) -> Result<(), 
     ensures { OnOk result (Adds out.old.items out.new.items (λ ws. text.now ∷ group i j ∷ ws)) }
 {
     word(out, text)?;
-    axles(out, i, j)?;
-    Ok(())
+    axles(out, i, j)
 }
 
 /// A word and a list of numbers.
@@ -116,8 +112,7 @@ pub fn named_numbers(out: &mut Vec<u8>, text: &str, numbers: &[u32]) -> Result<(
     ensures { OnOk result (Adds out.old.items out.new.items (numbers_words text.now numbers.now)) }
 {
     word(out, text)?;
-    number_list(out, numbers)?;
-    Ok(())
+    number_list(out, numbers)
 }
 
 /// A word and a list of indices, counted from 1.
@@ -125,8 +120,7 @@ pub fn named_places(out: &mut Vec<u8>, text: &str, places: &[u32]) -> Result<(),
     ensures { OnOk result (Adds out.old.items out.new.items (places_words text.now places.now)) }
 {
     word(out, text)?;
-    place_list(out, b' ', places)?;
-    Ok(())
+    place_list(out, b' ', places)
 }
 
 /// A word and routes.
@@ -134,8 +128,7 @@ pub fn named_routes(out: &mut Vec<u8>, text: &str, routes: &SharedRoutes) -> Res
     ensures { OnOk result (Adds out.old.items out.new.items (routes_words text.now routes.now)) }
 {
     word(out, text)?;
-    route_lists(out, routes)?;
-    Ok(())
+    route_lists(out, routes)
 }
 
 // The text of a fraction, behind a space.
@@ -143,8 +136,7 @@ fn fraction(out: &mut Vec<u8>, f: Frac) -> Result<(), AllocError>
     ensures { OnOk result (out.new.items ≡ out.old.items ++ (32 ∷ ratio_text f)) }
 {
     wide_digits_behind(out, b' ', f.num())?;
-    wide_digits_behind(out, b'/', f.den())?;
-    Ok(())
+    wide_digits_behind(out, b'/', f.den())
 }
 
 // The text of a group of axles, behind a space.
@@ -152,8 +144,7 @@ fn axles(out: &mut Vec<u8>, i: u32, j: u32) -> Result<(), AllocError>
     ensures { OnOk result (out.new.items ≡ out.old.items ++ (32 ∷ group i j)) }
 {
     index_behind(out, b' ', i)?;
-    index_behind(out, b'-', j)?;
-    Ok(())
+    index_behind(out, b'-', j)
 }
 
 // The numbers of a list, behind a space.
@@ -165,8 +156,7 @@ fn number_list(out: &mut Vec<u8>, numbers: &[u32]) -> Result<(), AllocError>
         return Ok(());
     };
     digits_behind(out, b' ', u64::from(*first))?;
-    more_numbers(out, rest)?;
-    Ok(())
+    more_numbers(out, rest)
 }
 
 // Numbers, each behind a comma.
@@ -201,8 +191,7 @@ fn place_list(out: &mut Vec<u8>, before: u8, places: &[u32]) -> Result<(), Alloc
         return Ok(());
     };
     index_behind(out, before, *first)?;
-    more_places(out, rest)?;
-    Ok(())
+    more_places(out, rest)
 }
 
 // Indices, each behind a comma.
@@ -231,8 +220,7 @@ fn digits_behind(out: &mut Vec<u8>, before: u8, n: u64) -> Result<(), AllocError
         return four_digits_behind(out, before, n as u32);
     }
     out.push(before)?;
-    digits(out, n)?;
-    Ok(())
+    digits(out, n)
 }
 
 // The same of at most four digits. They go out in one piece, whose length the compiler knows.
