@@ -4,9 +4,9 @@ ghost use Rattle.restriction_log.specs.States.{AreOf};
 
 use names::Name;
 use restriction_log::{Change, State, takes};
-use road_graph::{Network, What};
+use road_graph::{AddRefusal, Network, What};
 use std::alloc::Global;
-use std::fmt::Debug;
+use std::fmt::{Debug, Display};
 use std::process::Abort;
 
 // What is found is what a row of a table says.
@@ -19,9 +19,20 @@ pub fn holds(rt: &impl Abort, fact: bool, line: &str) {
     assert!(rt; fact, "{line}");
 }
 
+// What a value is written as.
+pub fn says<T: Display>(rt: &impl Abort, alloc: Global, value: &T, wanted: &str) {
+    let text = format!(in alloc; "{value}").expect(rt, "memory");
+    holds(rt, text.as_str() == wanted, wanted);
+}
+
 // The number that a text writes, or 0.
 pub fn number(text: &str) -> u32 {
     text.parse().unwrap_or(0)
+}
+
+// The part of a text with this number, from 0, or nothing where there are fewer.
+pub fn part(text: &str, separator: char, i: usize) -> &str {
+    text.split(separator).nth(i).unwrap_or("")
 }
 
 // A name of these bytes, which are one.
@@ -29,26 +40,38 @@ pub fn named(rt: &impl Abort, bytes: &[u8]) -> Name {
     Name::new(bytes).expect(rt, "a name")
 }
 
-// Segments 0 and 1 between two nodes, with the spans 0 and 2 on segment 0 and span 1 on segment 1, each so many inches
-// long and of these ratings.
-pub fn roads(rt: &impl Abort, alloc: Global, inches: u32, ratings: [u32; 3]) -> Network {
+// Adds what a line says: `node NAME`, `segment NAME FROM TO FEET`, or `span NAME SEGMENT INCHES RATING`. Nodes and segments
+// go by their numbers.
+pub fn add(rt: &impl Abort, network: &mut Network, line: &str) -> Result<u32, AddRefusal> {
+    let name = named(rt, part(line, ' ', 1).as_bytes());
+    let (first, second) = (number(part(line, ' ', 2)), number(part(line, ' ', 3)));
+    let third = number(part(line, ' ', 4));
+    match part(line, ' ', 0) {
+        "node" => network.add_node(name),
+        "segment" => network.add_segment(name, first, second, third),
+        _ => network.add_span(name, first, second, third),
+    }
+}
+
+// A network of these lines.
+pub fn network(rt: &impl Abort, alloc: Global, lines: &str) -> Network {
     let mut network = Network::new(alloc);
-    for name in [b"a", b"b"] {
-        network.add_node(named(rt, name)).expect(rt, "a node");
-    }
-    for (name, from, to) in [(b"ab", 0, 1), (b"ba", 1, 0)] {
-        network
-            .add_segment(named(rt, name), from, to, 5_280)
-            .expect(rt, "a segment");
-    }
-    let [first, second, third] = ratings;
-    for (name, segment, rating) in [(b"s", 0, first), (b"t", 1, second), (b"u", 0, third)] {
-        network
-            .add_span(named(rt, name), segment, inches, rating)
-            .expect(rt, "a span");
+    for line in lines.lines() {
+        holds(rt, add(rt, &mut network, line).is_ok(), line);
     }
     network
 }
+
+// Segments 0 and 1 between two nodes, with the spans 0 and 2 on segment 0 and span 1 on segment 1.
+pub const ROADS: &str = "\
+node a
+node b
+segment ab 0 1 5280
+segment ba 1 0 5280
+span s 0 360 1000
+span t 1 360 900
+span u 0 360 800
+";
 
 // Which limit of a segment is posted, or none for the rating of a span; the segment or the span; the value.
 pub type Posted = (Option<What>, u32, u32);

@@ -1,7 +1,10 @@
-ghost use Rattle.std.specs.Prelude.{◌≡◌, ◌<◌, length, IfOk};
+ghost use Rattle.std.specs.Prelude.{◌≡◌, ◌<◌, length};
 ghost use Rattle.restriction_log.specs.States.{AreOf};
 
-use crate::fixtures::{named, roads, same};
+use crate::fixtures::{
+    ALLOWANCE, CLOSED, GROSS, HEIGHT, LENGTH, Posted, RATING, TRIDEM, WIDTH, after, base_state,
+    change, network, same, says,
+};
 use axle_limits::WorstGroup;
 use axle_train::{Axle, Train};
 use clearance_rules::{
@@ -9,13 +12,12 @@ use clearance_rules::{
 };
 use hs20_truck::Live;
 use influence_line::Frac;
-use restriction_log::{Change, State, takes};
+use restriction_log::State;
 use road_graph::Network;
 use std::alloc::Global;
 use std::marker::Brand;
 use std::process::Abort;
 use std::sync::ledger::{Blank, Ledger};
-use std::test::Fail;
 
 // The design truck, with its smallest second spacing.
 const HS20: [(u32, u32); 3] = [(0, 8_000), (168, 32_000), (336, 32_000)];
@@ -44,21 +46,22 @@ const THREE_AXLES: [(u32, u32); 4] = [(0, 12_000), (180, 17_000), (234, 17_000),
 // Two axles 10 ft apart. On 20 ft the moment is 60,000/(4*240)*180*180, and the shear 30,000 + 15,000.
 const TWO_AXLES: [(u32, u32); 2] = [(0, 30_000), (120, 30_000)];
 
+// Segments 0 and 1 between two nodes, with the spans 0 and 2 on segment 0 and span 1 on segment 1, which carry what they may
+// at most.
+const STRONG: &str = "\
+node a
+node b
+segment ab 0 1 5280
+segment ba 1 0 5280
+span s 0 240 100000
+span t 1 240 100000
+span u 0 240 100000
+";
+
 // What was built is let go by a call of `drop`: where a scope lets it go, the proof of the whole function
 // goes through its parts. For the same reason no function both builds and goes through a table.
 
-// A train of axles of these places and weights.
-fn train(rt: &impl Abort, alloc: Global, pairs: &[(u32, u32)]) -> Result<Train, Fail> {
-    let mut axles = Vec::new(alloc);
-    for &(place, weight) in pairs {
-        axles.push(Axle { place, weight })?;
-    }
-    let train = Train::new(axles.as_slice()).expect(rt, "a train");
-    drop(axles);
-    Ok(train)
-}
-
-// A load of this size with these axles.
+// A load of this size with axles of these places and weights.
 fn loaded(
     rt: &impl Abort,
     alloc: Global,
@@ -66,37 +69,65 @@ fn loaded(
     width: u32,
     length: u32,
     pairs: &[(u32, u32)],
-) -> Result<Load, Fail> {
-    let train = train(rt, alloc, pairs)?;
-    Ok(Load::new(height, width, length, train).expect(rt, "a load"))
-}
-
-// A load that keeps what its axles ask of spans of 20 ft.
-fn kept(rt: &impl Abort, alloc: Global, pairs: &[(u32, u32)]) -> Result<Load, Fail> {
-    let mut load = loaded(rt, alloc, 168, 144, 720, pairs)?;
-    load.keep(alloc, 240)?;
-    Ok(load)
-}
-
-// A change, and the first limit that fails a load after it and the changes of the rows behind it, or none.
-type Row = (Change, Option<Limit>);
-
-// The state after the changes of these rows.
-fn state_after(
-    rt: &impl Abort,
-    alloc: Global,
-    network: &Network,
-    rows: &[Row],
-) -> Result<State, Fail>
-    ensures { IfOk result (λ state. AreOf network.now state) }
-{
-    let mut state = State::base(alloc, network)?;
-    assert!(rt; network.segments() > 0);
-    'changes: for (change, _) in rows {
-        assert!(rt; takes(network, change));
-        state = state.with(alloc, change)?;
+) -> Load {
+    let mut axles = Vec::new(alloc);
+    for &(place, weight) in pairs {
+        axles.push(Axle { place, weight }).expect(rt, "memory");
     }
-    Ok(state)
+    let train = Train::new(axles.as_slice()).expect(rt, "a train");
+    drop(axles);
+    Load::new(height, width, length, train).expect(rt, "a load")
+}
+
+// What fails a load: nothing, a limit, or on a span of segment 0 a moment or a shear, each a whole number, over what the span
+// may carry: the span, what the load and the design truck have, and the rating.
+#[derive(Clone, Copy)]
+enum Fails {
+    No,
+    By(Limit),
+    Moment(u32, u128, u128, u32),
+    Shear(u32, u128, u128, u32),
+}
+
+// A whole number as a fraction.
+fn whole(rt: &impl Abort, number: u128) -> Frac {
+    Frac::of(number, 1).expect(rt, "lowest terms")
+}
+
+// The limit that fails a load, or none.
+fn limit_of(rt: &impl Abort, fails: Fails) -> Option<Limit> {
+    match fails {
+        Fails::No => None,
+        Fails::By(limit) => Some(limit),
+        Fails::Moment(span, has, design, rating) => Some(Limit::Moment {
+            segment: 0,
+            span,
+            has: whole(rt, has),
+            design: whole(rt, design),
+            rating,
+        }),
+        Fails::Shear(span, has, design, rating) => Some(Limit::Shear {
+            segment: 0,
+            span,
+            has: whole(rt, has),
+            design: whole(rt, design),
+            rating,
+        }),
+    }
+}
+
+// What is posted, and what fails a load after it and the postings of the rows behind it.
+type Row = (Posted, Fails);
+
+// The state after what these rows post.
+fn state_after(rt: &impl Abort, alloc: Global, network: &Network, rows: &[Row]) -> State
+    ensures { AreOf network.now result }
+{
+    let mut state = base_state(rt, alloc, network);
+    'changes: for &(posted, _) in rows {
+        state = after(rt, alloc, network, &state, &change(posted));
+    }
+    state
 }
 
 // The first limit of a segment that fails a load, counted by a counter of its own.
@@ -146,393 +177,272 @@ fn limit_after(
     network: &Network,
     load: &Load,
     rows: &[Row],
-) -> Result<Option<Limit>, Fail> {
-    let state = state_after(rt, alloc, network, rows)?;
+) -> Option<Limit> {
+    let state = state_after(rt, alloc, network, rows);
     assert!(rt; network.segments() > 0);
     let limit = limit_on::<Brand>(network, &state, load, 0, Blank::new(1));
     let is_met = is_met_on::<Brand>(network, &state, load, 0, Blank::new(1));
     drop(state);
-    assert_eq!(rt; is_met, limit.is_none());
-    Ok(limit)
+    assert!(rt; is_met == limit.is_none());
+    limit
 }
 
-// Tries the change of each row alone.
+// Which postings stand at a row.
+#[derive(Clone, Copy, PartialEq)]
+enum Standing {
+    Its,
+    ItsAndThoseBehind,
+}
+
+// Tries the postings that stand at each row.
 fn try_each(
     rt: &impl Abort,
     alloc: Global,
     network: &Network,
     load: &Load,
+    standing: Standing,
     rows: &[Row],
-) -> Result<(), Fail> {
+) {
     for i in 0..rows.len() {
-        let limit = limit_after(rt, alloc, network, load, &rows[i..i + 1])?;
-        same(rt, i, &limit, &rows[i].1);
+        let end = if standing == Standing::Its {
+            i + 1
+        } else {
+            rows.len()
+        };
+        let limit = limit_after(rt, alloc, network, load, &rows[i..end]);
+        same(rt, i, &limit, &limit_of(rt, rows[i].1));
     }
-    Ok(())
 }
 
-// Tries the changes of each row and of those behind it.
-fn try_from_each(
-    rt: &impl Abort,
-    alloc: Global,
-    network: &Network,
-    load: &Load,
-    rows: &[Row],
-) -> Result<(), Fail> {
-    for i in 0..rows.len() {
-        let limit = limit_after(rt, alloc, network, load, &rows[i..])?;
-        same(rt, i, &limit, &rows[i].1);
-    }
-    Ok(())
-}
-
-#[test]
-fn passes_at_equality(rt: HostRuntime) -> Result<(), Fail> {
-    let load = loaded(&rt, rt.alloc(), 168, 144, 720, &OVER_THE_FORMULA)?;
-    let network = roads(&rt, rt.alloc(), 240, [100_000; 3]);
-    let tried = try_each(
-        &rt,
-        rt.alloc(),
-        &network,
-        &load,
-        &[
-            (
-                Change::Height {
-                    segment: 0,
-                    inches: 168,
-                },
-                None,
-            ),
-            (
-                Change::Height {
-                    segment: 0,
-                    inches: 167,
-                },
-                Some(Limit::Height {
-                    segment: 0,
-                    has: 168,
-                    allowed: 167,
-                }),
-            ),
-            (
-                Change::Width {
-                    segment: 0,
-                    inches: 144,
-                },
-                None,
-            ),
-            (
-                Change::Width {
-                    segment: 0,
-                    inches: 143,
-                },
-                Some(Limit::Width {
-                    segment: 0,
-                    has: 144,
-                    allowed: 143,
-                }),
-            ),
-            (
-                Change::Length {
-                    segment: 0,
-                    inches: 720,
-                },
-                None,
-            ),
-            (
-                Change::Length {
-                    segment: 0,
-                    inches: 719,
-                },
-                Some(Limit::Length {
-                    segment: 0,
-                    has: 720,
-                    allowed: 719,
-                }),
-            ),
-            (
-                Change::Gross {
-                    segment: 0,
-                    pounds: 80_000,
-                },
-                None,
-            ),
-            (
-                Change::Gross {
-                    segment: 0,
-                    pounds: 79_999,
-                },
-                Some(Limit::Gross {
-                    segment: 0,
-                    has: 80_000,
-                    allowed: 79_999,
-                }),
-            ),
-            // 68,000 lb of 65,500 lb are 1,038.2 thousandths
-            (
-                Change::Allowance {
-                    segment: 0,
-                    permille: 1_039,
-                },
-                None,
-            ),
-            (
-                Change::Allowance {
-                    segment: 0,
-                    permille: 1_038,
-                },
-                Some(Limit::Group {
-                    segment: 0,
-                    i: 1,
-                    j: 4,
-                    weight: 68_000,
-                    limit: 65_500,
-                    allowance: 1_038,
-                }),
-            ),
-        ],
-    );
+// The same on the strong roads.
+fn judge(rt: &impl Abort, alloc: Global, load: Load, standing: Standing, rows: &[Row]) {
+    let network = network(rt, alloc, STRONG);
+    try_each(rt, alloc, &network, &load, standing, rows);
     drop(network);
     drop(load);
-    tried
 }
 
-// A whole number as a fraction.
-fn whole(rt: &impl Abort, number: u128) -> Frac {
-    Frac::of(number, 1).expect(rt, "lowest terms")
+const AT_EQUALITY: [Row; 10] = [
+    ((HEIGHT, 0, 168), Fails::No),
+    (
+        (HEIGHT, 0, 167),
+        Fails::By(Limit::Height {
+            segment: 0,
+            has: 168,
+            allowed: 167,
+        }),
+    ),
+    ((WIDTH, 0, 144), Fails::No),
+    (
+        (WIDTH, 0, 143),
+        Fails::By(Limit::Width {
+            segment: 0,
+            has: 144,
+            allowed: 143,
+        }),
+    ),
+    ((LENGTH, 0, 720), Fails::No),
+    (
+        (LENGTH, 0, 719),
+        Fails::By(Limit::Length {
+            segment: 0,
+            has: 720,
+            allowed: 719,
+        }),
+    ),
+    ((GROSS, 0, 80_000), Fails::No),
+    (
+        (GROSS, 0, 79_999),
+        Fails::By(Limit::Gross {
+            segment: 0,
+            has: 80_000,
+            allowed: 79_999,
+        }),
+    ),
+    // 68,000 lb of 65,500 lb are 1,038.2 thousandths
+    ((ALLOWANCE, 0, 1_039), Fails::No),
+    (
+        (ALLOWANCE, 0, 1_038),
+        Fails::By(Limit::Group {
+            segment: 0,
+            i: 1,
+            j: 4,
+            weight: 68_000,
+            limit: 65_500,
+            allowance: 1_038,
+        }),
+    ),
+];
+
+#[test]
+fn passes_at_equality(rt: HostRuntime) {
+    let load = loaded(&rt, rt.alloc(), 168, 144, 720, &OVER_THE_FORMULA);
+    judge(&rt, rt.alloc(), load, Standing::Its, &AT_EQUALITY);
 }
 
-// A moment and a shear on a span of segment 0, each a whole number, over what the span may carry.
-fn moment(rt: &impl Abort, span: u32, has: u128, design: u128, rating: u32) -> Option<Limit> {
-    Some(Limit::Moment {
-        segment: 0,
-        span,
-        has: whole(rt, has),
-        design: whole(rt, design),
-        rating,
-    })
-}
-
-fn shear(rt: &impl Abort, span: u32, has: u128, design: u128, rating: u32) -> Option<Limit> {
-    Some(Limit::Shear {
-        segment: 0,
-        span,
-        has: whole(rt, has),
-        design: whole(rt, design),
-        rating,
-    })
-}
-
-// A rating of a span, and the limit that fails a load after it.
-fn rated(span: u32, permille: u32, limit: Option<Limit>) -> Row {
-    (Change::Rating { span, permille }, limit)
-}
-
-fn name_the_first(
-    rt: &impl Abort,
-    alloc: Global,
-    network: &Network,
-    load: &Load,
-) -> Result<(), Fail> {
-    let segment = 0;
-    let rows = [
-        (
-            Change::Closed {
-                segment,
-                closed: true,
-            },
-            Some(Limit::Closed { segment }),
-        ),
-        (
-            Change::Height { segment, inches: 1 },
-            Some(Limit::Height {
-                segment,
-                has: 168,
-                allowed: 1,
-            }),
-        ),
-        (
-            Change::Width { segment, inches: 1 },
-            Some(Limit::Width {
-                segment,
-                has: 144,
-                allowed: 1,
-            }),
-        ),
-        (
-            Change::Length { segment, inches: 1 },
-            Some(Limit::Length {
-                segment,
-                has: 720,
-                allowed: 1,
-            }),
-        ),
-        (
-            Change::Gross { segment, pounds: 1 },
-            Some(Limit::Gross {
-                segment,
-                has: 72_000,
-                allowed: 1,
-            }),
-        ),
-        (
-            Change::Allowance {
-                segment,
-                permille: 0,
-            },
-            Some(Limit::Group {
-                segment,
-                i: 1,
-                j: 1,
-                weight: 32_000,
-                limit: 20_000,
-                allowance: 0,
-            }),
-        ),
-        // 32,000 lb at the middle of 20 ft
-        rated(0, 999, moment(rt, 0, 1_920_000, 1_920_000, 999)),
-        rated(2, 0, moment(rt, 2, 1_920_000, 1_920_000, 0)),
-        // a span of another segment
-        rated(1, 0, None),
-    ];
-    try_from_each(rt, alloc, network, load, &rows)
-}
+const IN_ORDER: [Row; 9] = [
+    ((CLOSED, 0, 1), Fails::By(Limit::Closed { segment: 0 })),
+    (
+        (HEIGHT, 0, 1),
+        Fails::By(Limit::Height {
+            segment: 0,
+            has: 168,
+            allowed: 1,
+        }),
+    ),
+    (
+        (WIDTH, 0, 1),
+        Fails::By(Limit::Width {
+            segment: 0,
+            has: 144,
+            allowed: 1,
+        }),
+    ),
+    (
+        (LENGTH, 0, 1),
+        Fails::By(Limit::Length {
+            segment: 0,
+            has: 720,
+            allowed: 1,
+        }),
+    ),
+    (
+        (GROSS, 0, 1),
+        Fails::By(Limit::Gross {
+            segment: 0,
+            has: 72_000,
+            allowed: 1,
+        }),
+    ),
+    (
+        (ALLOWANCE, 0, 0),
+        Fails::By(Limit::Group {
+            segment: 0,
+            i: 1,
+            j: 1,
+            weight: 32_000,
+            limit: 20_000,
+            allowance: 0,
+        }),
+    ),
+    // 32,000 lb at the middle of 20 ft
+    (
+        (RATING, 0, 999),
+        Fails::Moment(0, 1_920_000, 1_920_000, 999),
+    ),
+    ((RATING, 2, 0), Fails::Moment(2, 1_920_000, 1_920_000, 0)),
+    // a span of another segment
+    ((RATING, 1, 0), Fails::No),
+];
 
 // Of all changes the first fails the load; of those after it the next one does, and so on.
 #[test]
-fn names_the_first_limit(rt: HostRuntime) -> Result<(), Fail> {
-    let load = loaded(&rt, rt.alloc(), 168, 144, 720, &HS20)?;
-    let network = roads(&rt, rt.alloc(), 240, [100_000; 3]);
-    let named = name_the_first(&rt, rt.alloc(), &network, &load);
-    drop(network);
-    drop(load);
-    named
+fn names_the_first_limit(rt: HostRuntime) {
+    let load = loaded(&rt, rt.alloc(), 168, 144, 720, &HS20);
+    judge(
+        &rt,
+        rt.alloc(),
+        load,
+        Standing::ItsAndThoseBehind,
+        &IN_ORDER,
+    );
 }
 
-// A posted weight of tridem groups, and the limit that fails a load after it.
-fn tridem(pounds: u32, limit: Option<Limit>) -> Row {
-    (Change::Tridem { segment: 0, pounds }, limit)
-}
-
-// The group of 51,000 lb is over this limit by a pound.
-fn over_tridem() -> Row {
-    let over = Limit::Tridem {
+// The group of 51,000 lb is over this posted weight of tridem groups by a pound.
+const OVER_TRIDEM: Row = (
+    (TRIDEM, 0, 50_999),
+    Fails::By(Limit::Tridem {
         segment: 0,
         i: 1,
         j: 3,
         weight: 51_000,
         allowed: 50_999,
-    };
-    tridem(50_999, Some(over))
-}
+    }),
+);
 
-fn weigh_tridems(
-    rt: &impl Abort,
-    alloc: Global,
-    network: &Network,
-    load: &Load,
-) -> Result<(), Fail> {
-    try_each(
-        rt,
-        alloc,
-        network,
-        load,
-        &[tridem(51_000, None), over_tridem()],
-    )?;
-    let rows = [
-        // 51,000 lb of 42,500 lb are 1,200 thousandths
-        (
-            Change::Allowance {
-                segment: 0,
-                permille: 1_199,
-            },
-            Some(Limit::Group {
-                segment: 0,
-                i: 1,
-                j: 3,
-                weight: 51_000,
-                limit: 42_500,
-                allowance: 1_199,
-            }),
-        ),
-        over_tridem(),
-        // on 20 ft: 17,000/4*240 of the axle in the middle, and 17,000*66/240*120 of each at its side, twice
-        rated(0, 0, moment(rt, 0, 2_142_000, 1_920_000, 0)),
-    ];
-    try_from_each(rt, alloc, network, load, &rows)
-}
+const TRIDEMS: [Row; 2] = [((TRIDEM, 0, 51_000), Fails::No), OVER_TRIDEM];
+
+const AROUND_TRIDEMS: [Row; 3] = [
+    // 51,000 lb of 42,500 lb are 1,200 thousandths
+    (
+        (ALLOWANCE, 0, 1_199),
+        Fails::By(Limit::Group {
+            segment: 0,
+            i: 1,
+            j: 3,
+            weight: 51_000,
+            limit: 42_500,
+            allowance: 1_199,
+        }),
+    ),
+    OVER_TRIDEM,
+    // on 20 ft: 17,000/4*240 of the axle in the middle, and 17,000*66/240*120 of each at its side, twice
+    ((RATING, 0, 0), Fails::Moment(0, 2_142_000, 1_920_000, 0)),
+];
 
 // A tridem group passes at equality, is judged behind the groups and before the spans, and by its own weight: the allowance, which is
 // the greatest here, does not scale it.
 #[test]
-fn weighs_tridem_groups(rt: HostRuntime) -> Result<(), Fail> {
-    let load = loaded(&rt, rt.alloc(), 168, 102, 720, &THREE_AXLES)?;
-    let network = roads(&rt, rt.alloc(), 240, [100_000; 3]);
-    let weighed = weigh_tridems(&rt, rt.alloc(), &network, &load);
-    drop(network);
-    drop(load);
-    weighed
+fn weighs_tridem_groups(rt: HostRuntime) {
+    let load = loaded(&rt, rt.alloc(), 168, 102, 720, &THREE_AXLES);
+    judge(&rt, rt.alloc(), load, Standing::Its, &TRIDEMS);
+    let load = loaded(&rt, rt.alloc(), 168, 102, 720, &THREE_AXLES);
+    judge(
+        &rt,
+        rt.alloc(),
+        load,
+        Standing::ItsAndThoseBehind,
+        &AROUND_TRIDEMS,
+    );
 }
 
-fn judge_spans(rt: &impl Abort, alloc: Global, network: &Network, load: &Load) -> Result<(), Fail> {
-    let rows = [
-        rated(0, 1_082, None),
-        rated(0, 1_081, shear(rt, 0, 45_000, 41_600, 1_081)),
-        rated(0, 1_055, shear(rt, 0, 45_000, 41_600, 1_055)),
-        rated(0, 1_054, moment(rt, 0, 2_025_000, 1_920_000, 1_054)),
-    ];
-    try_each(rt, alloc, network, load, &rows)
+const RATINGS: [Row; 4] = [
+    ((RATING, 0, 1_082), Fails::No),
+    ((RATING, 0, 1_081), Fails::Shear(0, 45_000, 41_600, 1_081)),
+    ((RATING, 0, 1_055), Fails::Shear(0, 45_000, 41_600, 1_055)),
+    (
+        (RATING, 0, 1_054),
+        Fails::Moment(0, 2_025_000, 1_920_000, 1_054),
+    ),
+];
+
+// By what the load keeps of what its axles ask of spans of 20 ft.
+#[test]
+fn judges_spans_by_both_effects(rt: HostRuntime) {
+    let mut load = loaded(&rt, rt.alloc(), 168, 144, 720, &TWO_AXLES);
+    load.keep(rt.alloc(), 240).expect(&rt, "memory");
+    judge(&rt, rt.alloc(), load, Standing::Its, &RATINGS);
 }
+
+const DESIGN: [Row; 1] = [((RATING, 0, 1_000), Fails::No)];
 
 #[test]
-fn judges_spans_by_both_effects(rt: HostRuntime) -> Result<(), Fail> {
-    let load = kept(&rt, rt.alloc(), &TWO_AXLES)?;
-    let network = roads(&rt, rt.alloc(), 240, [100_000; 3]);
-    let judged = judge_spans(&rt, rt.alloc(), &network, &load);
-    drop(network);
-    drop(load);
-    judged
-}
-
-#[test]
-fn carries_the_design_truck_at_a_rating_of_1000(rt: HostRuntime) -> Result<(), Fail> {
-    let load = loaded(&rt, rt.alloc(), 168, 144, 720, &HS20)?;
-    let network = roads(&rt, rt.alloc(), 240, [100_000; 3]);
-    let rows = [rated(0, 1_000, None)];
-    let tried = try_each(&rt, rt.alloc(), &network, &load, &rows);
-    drop(network);
-    drop(load);
+fn carries_the_design_truck_at_a_rating_of_1000(rt: HostRuntime) {
+    let load = loaded(&rt, rt.alloc(), 168, 144, 720, &HS20);
+    judge(&rt, rt.alloc(), load, Standing::Its, &DESIGN);
     limits_are_of_their_segment();
-    tried
 }
 
 // Whether a load of this height and width is legal.
-fn is_legal(
-    rt: &impl Abort,
-    alloc: Global,
-    height: u32,
-    width: u32,
-    pairs: &[(u32, u32)],
-) -> Result<bool, Fail> {
-    let load = loaded(rt, alloc, height, width, 720, pairs)?;
+fn is_legal(rt: &impl Abort, alloc: Global, height: u32, width: u32, pairs: &[(u32, u32)]) -> bool {
+    let load = loaded(rt, alloc, height, width, 720, pairs);
     let legal = load.legal();
     drop(load);
-    Ok(legal)
+    legal
 }
 
 #[test]
-fn tells_which_loads_are_legal(rt: HostRuntime) -> Result<(), Fail> {
+fn tells_which_loads_are_legal(rt: HostRuntime) {
     let alloc = rt.alloc();
-    assert!(rt; is_legal(&rt, alloc, 162, 102, &TWO_TANDEMS)?);
-    assert!(rt; !is_legal(&rt, alloc, 163, 102, &TWO_TANDEMS)?);
-    assert!(rt; !is_legal(&rt, alloc, 162, 103, &TWO_TANDEMS)?);
-    assert!(rt; !is_legal(&rt, alloc, 162, 102, &OVER_THE_FORMULA)?);
-    Ok(())
+    assert!(rt; is_legal(&rt, alloc, 162, 102, &TWO_TANDEMS));
+    assert!(rt; !is_legal(&rt, alloc, 163, 102, &TWO_TANDEMS));
+    assert!(rt; !is_legal(&rt, alloc, 162, 103, &TWO_TANDEMS));
+    assert!(rt; !is_legal(&rt, alloc, 162, 102, &OVER_THE_FORMULA));
 }
 
 #[test]
-fn tells_the_parts_of_a_load(rt: HostRuntime) -> Result<(), Fail> {
-    let load = loaded(&rt, rt.alloc(), 162, 102, 720, &OVER_THE_FORMULA)?;
+fn tells_the_parts_of_a_load(rt: HostRuntime) {
+    let load = loaded(&rt, rt.alloc(), 162, 102, 720, &OVER_THE_FORMULA);
     let sizes = (load.height(), load.width(), load.length());
     let (gross, found) = (load.train().gross(), load.worst());
     drop(load);
@@ -545,51 +455,37 @@ fn tells_the_parts_of_a_load(rt: HostRuntime) -> Result<(), Fail> {
         limit: 65_500,
     };
     same(&rt, 2, &found, &worst);
-    Ok(())
 }
+
+// Two axles of a pound each, an inch apart.
+const LEAST: [(u32, u32); 2] = [(0, 1), (1, 1)];
 
 // Whether a load of this height, width and length can be made.
-fn is_taken(sizes: (u32, u32, u32)) -> Result<bool, Fail> {
-    let axles = [
-        Axle {
-            place: 0,
-            weight: 1,
-        },
-        Axle {
-            place: 1,
-            weight: 1,
-        },
-    ];
-    let load = Load::new(sizes.0, sizes.1, sizes.2, Train::new(&axles)?);
+fn is_taken(rt: &impl Abort, sizes: (u32, u32, u32)) -> bool {
+    let axles = LEAST.map(|(place, weight)| Axle { place, weight });
+    let train = Train::new(&axles).expect(rt, "a train");
+    let load = Load::new(sizes.0, sizes.1, sizes.2, train);
     let taken = load.is_ok();
     drop(load);
-    Ok(taken)
+    taken
 }
 
-fn take_each(rt: &impl Abort, cases: &[((u32, u32, u32), bool)]) -> Result<(), Fail> {
-    for (row, &(sizes, taken)) in cases.iter().enumerate() {
-        same(rt, row, &is_taken(sizes)?, &taken);
-    }
-    Ok(())
-}
+// Height, width and length, and whether a load can have them.
+const SIZES: [((u32, u32, u32), bool); 8] = [
+    ((1, 1, 1), true),
+    ((999, 999, 9_999), true),
+    ((0, 1, 1), false),
+    ((1_000, 1, 1), false),
+    ((1, 0, 1), false),
+    ((1, 1_000, 1), false),
+    ((1, 1, 0), false),
+    ((1, 1, 10_000), false),
+];
 
-// Height, width and length.
 #[test]
-fn takes_numbers_in_range(rt: HostRuntime) -> Result<(), Fail> {
-    take_each(
-        &rt,
-        &[
-            ((1, 1, 1), true),
-            ((999, 999, 9_999), true),
-            ((0, 1, 1), false),
-            ((1_000, 1, 1), false),
-            ((1, 0, 1), false),
-            ((1, 1_000, 1), false),
-            ((1, 1, 0), false),
-            ((1, 1, 10_000), false),
-        ],
-    )?;
-    let range = format!(in rt.alloc(); "{Range}")?;
-    assert_eq!(rt; range.as_str(), "a number is out of its range");
-    Ok(())
+fn takes_numbers_in_range(rt: HostRuntime) {
+    for (row, &(sizes, taken)) in SIZES.iter().enumerate() {
+        same(&rt, row, &is_taken(&rt, sizes), &taken);
+    }
+    says(&rt, rt.alloc(), &Range, "a number is out of its range");
 }

@@ -1,4 +1,4 @@
-use crate::fixtures::{named, same};
+use crate::fixtures::{add, holds, named, network, same, says};
 use names::Name;
 use road_graph::{AddRefusal, Arrival, Network, Numbers, Segment, Span, Values, What};
 use std::alloc::Global;
@@ -25,143 +25,91 @@ fn numbered(rt: &impl Abort, number: u32) -> Name {
     named(rt, &digits)
 }
 
-// The name of a node.
-type Node = &'static [u8];
-
-// The name of a segment, from, to, feet.
-type Road = (&'static [u8], u32, u32, u32);
-
-// The name of a span, its segment, inches, rating.
-type Bridge = (&'static [u8], u32, u32, u32);
-
 // A segment, which of its limits, the value.
 type Posted = (u32, What, u32);
 
-// The number of what was added, or why it was not.
-type Answer = Result<u32, AddRefusal>;
+// What is added, and its number or why it is not.
+type Added = (&'static str, Result<u32, AddRefusal>);
 
 // A limit was set, or why it was not.
 type Taken = Result<(), AddRefusal>;
 
-fn add_node(rt: &impl Abort, network: &mut Network, name: Node) -> Answer {
-    network.add_node(named(rt, name))
-}
-
-fn add_segment(rt: &impl Abort, network: &mut Network, road: &Road) -> Answer {
-    let &(name, from, to, feet) = road;
-    network.add_segment(named(rt, name), from, to, feet)
-}
-
-fn add_span(rt: &impl Abort, network: &mut Network, bridge: &Bridge) -> Answer {
-    let &(name, segment, inches, rating) = bridge;
-    network.add_span(named(rt, name), segment, inches, rating)
-}
-
-// The two nodes a and b, these segments and these spans.
-fn built(rt: &impl Abort, alloc: Global, segments: &[Road], spans: &[Bridge]) -> Network {
-    let mut network = Network::new(alloc);
-    for name in [b"a", b"b"] {
-        same(rt, 0, &add_node(rt, &mut network, name).is_ok(), &true);
-    }
-    for road in segments {
-        same(rt, 1, &add_segment(rt, &mut network, road).is_ok(), &true);
-    }
-    for bridge in spans {
-        same(rt, 2, &add_span(rt, &mut network, bridge).is_ok(), &true);
-    }
-    network
-}
-
-// A segment there, and a span on it.
-fn small(rt: &impl Abort, alloc: Global) -> Network {
-    built(rt, alloc, &[(b"ab", 0, 1, 5_280)], &[(b"s", 0, 360, 1_000)])
-}
+// A segment from node a to node b, and a span on it.
+const SMALL: &str = "\
+node a
+node b
+segment ab 0 1 5280
+span s 0 360 1000
+";
 
 // The same with the way back, a second way there and a loop at b, and a span more on each of two segments.
-fn grown(rt: &impl Abort, alloc: Global) -> Network {
-    built(
-        rt,
-        alloc,
-        &[
-            (b"ab", 0, 1, 5_280),
-            (b"ba", 1, 0, 100),
-            (b"way-2", 0, 1, 200),
-            (b"loop", 1, 1, 300),
-        ],
-        &[
-            (b"s", 0, 360, 1_000),
-            (b"t", 2, 480, 900),
-            (b"u", 0, 600, 800),
-        ],
-    )
-}
+const GROWN: &str = "\
+node a
+node b
+segment ab 0 1 5280
+segment ba 1 0 100
+segment way-2 0 1 200
+segment loop 1 1 300
+span s 0 360 1000
+span t 2 480 900
+span u 0 600 800
+";
 
-fn add_nodes(rt: &impl Abort, network: &mut Network, cases: &[(Node, Answer)]) {
-    for (row, (name, answer)) in cases.iter().enumerate() {
-        same(rt, row, &add_node(rt, network, name), answer);
+fn add_each(rt: &impl Abort, network: &mut Network, cases: &[Added]) {
+    for &(line, answer) in cases {
+        holds(rt, add(rt, network, line) == answer, line);
     }
 }
 
-const NODES: [(Node, Answer); 5] = [
-    (b"a", Err(AddRefusal::SameName)),
-    (b"b", Err(AddRefusal::SameName)),
-    (b"c", Ok(2)),
-    (b"c", Err(AddRefusal::SameName)),
+// Adds each to the small network.
+fn add_to_small(rt: &impl Abort, alloc: Global, cases: &[Added]) {
+    let mut small = network(rt, alloc, SMALL);
+    add_each(rt, &mut small, cases);
+    drop(small);
+}
+
+const NODES: [Added; 5] = [
+    ("node a", Err(AddRefusal::SameName)),
+    ("node b", Err(AddRefusal::SameName)),
+    ("node c", Ok(2)),
+    ("node c", Err(AddRefusal::SameName)),
     // a segment and a span may have the name of a node
-    (b"s", Ok(3)),
+    ("node s", Ok(3)),
 ];
 
 #[test]
 fn refuses_a_node_by_the_first_cause_that_applies(rt: HostRuntime) {
-    let mut network = small(&rt, rt.alloc());
-    add_nodes(&rt, &mut network, &NODES);
-    drop(network);
+    add_to_small(&rt, rt.alloc(), &NODES);
 }
 
-fn add_segments(rt: &impl Abort, network: &mut Network, cases: &[(Road, Answer)]) {
-    for (row, (road, answer)) in cases.iter().enumerate() {
-        same(rt, row, &add_segment(rt, network, road), answer);
-    }
-}
-
-const SEGMENTS: [(Road, Answer); 7] = [
-    ((b"ab", 2, 2, 0), Err(AddRefusal::SameName)),
-    ((b"ba", 2, 0, 0), Err(AddRefusal::UnknownNode)),
-    ((b"ba", 0, 2, 0), Err(AddRefusal::UnknownNode)),
-    ((b"ba", 1, 0, 0), Err(AddRefusal::Range)),
-    ((b"ba", 1, 0, 10_000_001), Err(AddRefusal::Range)),
-    ((b"ba", 1, 0, 10_000_000), Ok(1)),
-    ((b"aa", 0, 0, 1), Ok(2)),
+const SEGMENTS: [Added; 7] = [
+    ("segment ab 2 2 0", Err(AddRefusal::SameName)),
+    ("segment ba 2 0 0", Err(AddRefusal::UnknownNode)),
+    ("segment ba 0 2 0", Err(AddRefusal::UnknownNode)),
+    ("segment ba 1 0 0", Err(AddRefusal::Range)),
+    ("segment ba 1 0 10000001", Err(AddRefusal::Range)),
+    ("segment ba 1 0 10000000", Ok(1)),
+    ("segment aa 0 0 1", Ok(2)),
 ];
 
 #[test]
 fn refuses_a_segment_by_the_first_cause_that_applies(rt: HostRuntime) {
-    let mut network = small(&rt, rt.alloc());
-    add_segments(&rt, &mut network, &SEGMENTS);
-    drop(network);
+    add_to_small(&rt, rt.alloc(), &SEGMENTS);
 }
 
-fn add_spans(rt: &impl Abort, network: &mut Network, cases: &[(Bridge, Answer)]) {
-    for (row, (bridge, answer)) in cases.iter().enumerate() {
-        same(rt, row, &add_span(rt, network, bridge), answer);
-    }
-}
-
-const SPANS: [(Bridge, Answer); 7] = [
-    ((b"s", 1, 0, 0), Err(AddRefusal::SameName)),
-    ((b"t", 1, 0, 100_001), Err(AddRefusal::UnknownSegment)),
-    ((b"t", 0, 0, 0), Err(AddRefusal::Range)),
-    ((b"t", 0, 6_001, 0), Err(AddRefusal::Range)),
-    ((b"t", 0, 1, 100_001), Err(AddRefusal::Range)),
-    ((b"t", 0, 6_000, 100_000), Ok(1)),
-    ((b"u", 0, 1, 0), Ok(2)),
+const SPANS: [Added; 7] = [
+    ("span s 1 0 0", Err(AddRefusal::SameName)),
+    ("span t 1 0 100001", Err(AddRefusal::UnknownSegment)),
+    ("span t 0 0 0", Err(AddRefusal::Range)),
+    ("span t 0 6001 0", Err(AddRefusal::Range)),
+    ("span t 0 1 100001", Err(AddRefusal::Range)),
+    ("span t 0 6000 100000", Ok(1)),
+    ("span u 0 1 0", Ok(2)),
 ];
 
 #[test]
 fn refuses_a_span_by_the_first_cause_that_applies(rt: HostRuntime) {
-    let mut network = small(&rt, rt.alloc());
-    add_spans(&rt, &mut network, &SPANS);
-    drop(network);
+    add_to_small(&rt, rt.alloc(), &SPANS);
 }
 
 fn set_limits(rt: &impl Abort, network: &mut Network, cases: &[(Posted, Taken)]) {
@@ -194,7 +142,7 @@ const LIMITS: [(Posted, Taken); 19] = [
 
 #[test]
 fn refuses_a_limit_by_the_first_cause_that_applies(rt: HostRuntime) {
-    let mut network = small(&rt, rt.alloc());
+    let mut network = network(&rt, rt.alloc(), SMALL);
     set_limits(&rt, &mut network, &LIMITS);
     drop(network);
 }
@@ -227,7 +175,7 @@ const NAMES: [Numbered; 8] = [
 
 #[test]
 fn finds_each_name_among_its_kind(rt: HostRuntime) {
-    let network = grown(&rt, rt.alloc());
+    let network = network(&rt, rt.alloc(), GROWN);
     find_each(&rt, &network, &NAMES);
     drop(network);
 }
@@ -254,7 +202,7 @@ fn tell(rt: &impl Abort, network: &Network) {
 
 #[test]
 fn tells_segments_and_spans_by_number(rt: HostRuntime) {
-    let network = grown(&rt, rt.alloc());
+    let network = network(&rt, rt.alloc(), GROWN);
     tell(&rt, &network);
     drop(network);
 }
@@ -274,7 +222,7 @@ const SET: [(Posted, Taken); 5] = [
 
 #[test]
 fn sets_one_limit_and_leaves_the_others(rt: HostRuntime) {
-    let mut network = grown(&rt, rt.alloc());
+    let mut network = network(&rt, rt.alloc(), GROWN);
     set_limits(&rt, &mut network, &SET);
     same(&rt, 0, &network.segments(), &4);
     let values = Values {
@@ -329,7 +277,7 @@ fn carries(rt: &impl Abort, network: &Network, segment: u32, spans: &[u32]) {
 
 #[test]
 fn lists_what_begins_and_ends_at_a_node_and_what_a_segment_carries(rt: HostRuntime) {
-    let network = grown(&rt, rt.alloc());
+    let network = network(&rt, rt.alloc(), GROWN);
     meets(&rt, &network, 0, &[0, 2], &INTO_A);
     meets(&rt, &network, 1, &[1, 3], &INTO_B);
     carries(&rt, &network, 0, &[0, 2]);
@@ -339,20 +287,18 @@ fn lists_what_begins_and_ends_at_a_node_and_what_a_segment_carries(rt: HostRunti
     drop(network);
 }
 
+const NODES_BEYOND: [Added; 2] = [
+    ("node c", Err(AddRefusal::TooMany)),
+    ("node a", Err(AddRefusal::SameName)),
+];
+
 #[test]
 fn has_room_for_4096_nodes(rt: HostRuntime) {
-    let mut network = small(&rt, rt.alloc());
+    let mut network = network(&rt, rt.alloc(), SMALL);
     for number in 2..4_096 {
         assert!(rt; network.add_node(numbered(&rt, number)) == Ok(number));
     }
-    add_nodes(
-        &rt,
-        &mut network,
-        &[
-            (b"c", Err(AddRefusal::TooMany)),
-            (b"a", Err(AddRefusal::SameName)),
-        ],
-    );
+    add_each(&rt, &mut network, &NODES_BEYOND);
     same(
         &rt,
         2,
@@ -362,21 +308,19 @@ fn has_room_for_4096_nodes(rt: HostRuntime) {
     drop(network);
 }
 
+const SEGMENTS_BEYOND: [Added; 2] = [
+    ("segment c 0 0 1", Err(AddRefusal::TooMany)),
+    ("segment c 0 0 0", Err(AddRefusal::Range)),
+];
+
 #[test]
 fn has_room_for_16384_segments(rt: HostRuntime) {
-    let mut network = small(&rt, rt.alloc());
+    let mut network = network(&rt, rt.alloc(), SMALL);
     for number in 1..16_384 {
         let added = network.add_segment(numbered(&rt, number), number % 2, 0, 1);
         assert!(rt; added == Ok(number));
     }
-    add_segments(
-        &rt,
-        &mut network,
-        &[
-            ((b"c", 0, 0, 1), Err(AddRefusal::TooMany)),
-            ((b"c", 0, 0, 0), Err(AddRefusal::Range)),
-        ],
-    );
+    add_each(&rt, &mut network, &SEGMENTS_BEYOND);
     same(
         &rt,
         2,
@@ -396,23 +340,17 @@ fn add_numbered_spans(rt: &impl Abort, network: &mut Network, first: u32, end: u
 
 #[test]
 fn has_room_for_2048_spans_and_16_on_a_segment(rt: HostRuntime) {
-    let mut network = small(&rt, rt.alloc());
+    let mut network = network(&rt, rt.alloc(), SMALL);
     for number in 1..130 {
         let added = network.add_segment(numbered(&rt, number), 0, 0, 1);
         assert!(rt; added == Ok(number));
     }
     add_numbered_spans(&rt, &mut network, 1, 16);
-    add_spans(
-        &rt,
-        &mut network,
-        &[((b"t", 0, 1, 0), Err(AddRefusal::TooMany))],
-    );
+    let added = add(&rt, &mut network, "span t 0 1 0");
+    assert!(rt; added == Err(AddRefusal::TooMany));
     add_numbered_spans(&rt, &mut network, 16, 2_048);
-    add_spans(
-        &rt,
-        &mut network,
-        &[((b"t", 129, 1, 0), Err(AddRefusal::TooMany))],
-    );
+    let added = add(&rt, &mut network, "span t 129 1 0");
+    assert!(rt; added == Err(AddRefusal::TooMany));
     same(
         &rt,
         2,
@@ -437,26 +375,18 @@ fn hands_numbers_back_as_they_were(rt: HostRuntime) -> Result<(), Fail> {
     hands_back(&rt, rt.alloc(), &[3, 3, 4_294_967_295])
 }
 
-fn names(rt: &impl Abort, alloc: Global, cases: &[(AddRefusal, &str)]) -> Result<(), Fail> {
-    for (row, (refusal, text)) in cases.iter().enumerate() {
-        let named = format!(in alloc; "{refusal}")?;
-        same(rt, row, &named.as_str(), text);
-    }
-    Ok(())
-}
+const CAUSES: [(AddRefusal, &str); 6] = [
+    (AddRefusal::SameName, "the name is taken"),
+    (AddRefusal::UnknownNode, "there is no such node"),
+    (AddRefusal::UnknownSegment, "there is no such segment"),
+    (AddRefusal::Range, "a value is out of range"),
+    (AddRefusal::TooMany, "there are too many"),
+    (AddRefusal::NoMemory, "out of memory"),
+];
 
 #[test]
-fn names_each_cause(rt: HostRuntime) -> Result<(), Fail> {
-    names(
-        &rt,
-        rt.alloc(),
-        &[
-            (AddRefusal::SameName, "the name is taken"),
-            (AddRefusal::UnknownNode, "there is no such node"),
-            (AddRefusal::UnknownSegment, "there is no such segment"),
-            (AddRefusal::Range, "a value is out of range"),
-            (AddRefusal::TooMany, "there are too many"),
-            (AddRefusal::NoMemory, "out of memory"),
-        ],
-    )
+fn names_each_cause(rt: HostRuntime) {
+    for (refusal, text) in &CAUSES {
+        says(&rt, rt.alloc(), refusal, text);
+    }
 }

@@ -3,8 +3,8 @@ ghost use Rattle.restriction_log.specs.Changes.{AreTaken};
 ghost use Rattle.restriction_log.specs.States.{AreOf};
 
 use crate::fixtures::{
-    ALLOWANCE, CLOSED, GROSS, HEIGHT, LENGTH, Posted, RATING, TRIDEM, WIDTH, after, base_state,
-    change, named, roads, same,
+    ALLOWANCE, CLOSED, GROSS, HEIGHT, LENGTH, Posted, RATING, ROADS, TRIDEM, WIDTH, after,
+    base_state, change, named, network, same, says,
 };
 use restriction_log::{
     Change, Log, PostRefusal, Stamps, State, states_are_of_their_network, takes, touched,
@@ -12,7 +12,6 @@ use restriction_log::{
 use road_graph::{Network, Values};
 use std::alloc::Global;
 use std::process::Abort;
-use std::test::Fail;
 
 // Each table goes to a function that takes the network by reference, and what was built is let go by a call
 // of `drop`: where a scope lets it go, the proof of the whole function goes through its parts.
@@ -83,7 +82,7 @@ fn post_on(rt: &impl Abort, alloc: Global, network: &Network) {
 
 #[test]
 fn takes_what_is_there_and_in_range(rt: HostRuntime) {
-    let network = roads(&rt, rt.alloc(), 360, [1_000, 900, 800]);
+    let network = network(&rt, rt.alloc(), ROADS);
     post_on(&rt, rt.alloc(), &network);
     drop(network);
 }
@@ -149,7 +148,7 @@ fn replace_each(rt: &impl Abort, alloc: Global, network: &Network) {
 
 #[test]
 fn replaces_one_value_at_each_posting(rt: HostRuntime) {
-    let network = roads(&rt, rt.alloc(), 360, [1_000, 900, 800]);
+    let network = network(&rt, rt.alloc(), ROADS);
     replace_each(&rt, rt.alloc(), &network);
     drop(network);
     states_are_of_their_network();
@@ -197,7 +196,7 @@ fn tell_changes(rt: &impl Abort, alloc: Global, network: &Network) {
 
 #[test]
 fn tells_what_changed_after_a_version(rt: HostRuntime) {
-    let network = roads(&rt, rt.alloc(), 360, [1_000, 900, 800]);
+    let network = network(&rt, rt.alloc(), ROADS);
     same(&rt, 0, &network.segments(), &2);
     tell_changes(&rt, rt.alloc(), &network);
     drop(network);
@@ -308,23 +307,15 @@ fn leaves_a_state_as_it_was_on_each_page(rt: HostRuntime) {
     drop(network);
 }
 
-fn names(rt: &impl Abort, alloc: Global, cases: &[(PostRefusal, &str)]) -> Result<(), Fail> {
-    for (row, (refusal, text)) in cases.iter().enumerate() {
-        let named = format!(in alloc; "{refusal}")?;
-        same(rt, row, &named.as_str(), text);
-    }
-    Ok(())
-}
+const CAUSES: [(PostRefusal, &str); 3] = [
+    (PostRefusal::Range, "the network does not take the change"),
+    (PostRefusal::Full, "the log is full"),
+    (PostRefusal::NoMemory, "out of memory"),
+];
 
 #[test]
-fn names_each_cause(rt: HostRuntime) -> Result<(), Fail> {
-    names(
-        &rt,
-        rt.alloc(),
-        &[
-            (PostRefusal::Range, "the network does not take the change"),
-            (PostRefusal::Full, "the log is full"),
-            (PostRefusal::NoMemory, "out of memory"),
-        ],
-    )
+fn names_each_cause(rt: HostRuntime) {
+    for (refusal, text) in &CAUSES {
+        says(&rt, rt.alloc(), refusal, text);
+    }
 }

@@ -2,7 +2,7 @@ ghost use Rattle.std.specs.Prelude.{◌≡◌, ◌<◌, length};
 ghost use Rattle.route_search.specs.Founds.{IsFound};
 ghost use Rattle.route_search.specs.Heights.{AreHeights};
 
-use crate::fixtures::{holds, named, number, same};
+use crate::fixtures::{holds, named, number, part, same};
 use names::Name;
 use road_graph::Network;
 use route_search::{
@@ -14,11 +14,6 @@ use std::process::Abort;
 
 // What was built is let go by a call of `drop`: where a scope lets it go, the proof of the whole function
 // goes through its parts. For the same reason no function both builds and goes through a table.
-
-// The part of a text with this number, from 0, or nothing where there are fewer.
-fn part(text: &str, separator: char, i: usize) -> &str {
-    text.split(separator).nth(i).unwrap_or("")
-}
 
 // The name of a number, of two digits.
 fn numbered(rt: &impl Abort, i: u32) -> Name {

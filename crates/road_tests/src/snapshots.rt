@@ -1,7 +1,7 @@
 ghost use Rattle.std.specs.Prelude.{◌≡◌};
 ghost use Rattle.restriction_log.specs.States.{AreOf};
 
-use crate::fixtures::{CLOSED, HEIGHT, Posted, RATING, change, roads, same};
+use crate::fixtures::{CLOSED, HEIGHT, Posted, RATING, ROADS, change, network, same};
 use names::NoMemory;
 use restriction_log::{Change, PostRefusal, State};
 use road_graph::Network;
@@ -170,7 +170,7 @@ fn check_store(rt: &impl Abort, alloc: Global, network: &Network, in_two_steps: 
 }
 
 fn check_over_roads(rt: &impl Abort, alloc: Global, in_two_steps: bool) {
-    let network = roads(rt, alloc, 360, [1_000, 900, 800]);
+    let network = network(rt, alloc, ROADS);
     check_store(rt, alloc, &network, in_two_steps);
     drop(network);
 }
