@@ -8,7 +8,7 @@ ghost use Rattle.office_core.specs.Machine.{MayAsk};
 ghost use Rattle.office_core.specs.Offices.{machine_in};
 ghost use Rattle.office_core.specs.Calls.{machine_seen};
 
-use crate::fixtures::{ALONE, AROUND, application, base, day, full_at, named, office_about};
+use crate::fixtures::{ALONE, AROUND, application, base, day, full_at, office_about, recall};
 use clearance_rules::Steps;
 use journal_text::print;
 use names::NoMemory;
@@ -402,14 +402,6 @@ fn are_recalls(rt: &impl Abort, listed: Vec<Recall>) {
     let are_wanted = listed.as_slice() == wanted.as_slice();
     drop(listed);
     assert!(rt; are_wanted);
-}
-
-fn recall(rt: &impl Abort, permit: u32, version: u32, carrier: &[u8]) -> Recall {
-    Recall {
-        permit,
-        version,
-        carrier: named(rt, carrier),
-    }
 }
 
 // A trip that would begin too late and a legal truck, a day set back, a permit given back by another and twice, and a later

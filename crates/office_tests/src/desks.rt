@@ -1,6 +1,6 @@
 //! What no clause says: that calls are answered, on threads that run at once.
 ghost use Rattle.std.specs.Prelude.{◌≡◌, ◌<◌};
-ghost use Rattle.office_turn.specs.Told.{IsReady, opening_root};
+ghost use Rattle.office_turn.specs.Told.{IsReady};
 
 use crate::fixtures::{ALONE, base, day};
 use journal_text::print;
@@ -20,11 +20,39 @@ fn start<L: Ledger>(rt: &impl Abort, alloc: Global, most: u32, blank: Blank) -> 
     requires name { blank.name ≡ L.name }
     requires parts { blank.parts ≡ L.parts }
     requires some { 0 < blank.parts }
-    ensures { result.1 ≡ opening_root result.0 }
+    ensures { result.1.lock ≡ result.0 }
 {
     assert!(rt; 1 <= most && most <= 1_000_000);
     let base = Arc::new(alloc, base(rt, alloc, ALONE, 168)).expect(rt, "memory");
     Desk::start(alloc, base, day(rt, "2026-03-02"), most, blank).expect(rt, "memory")
+}
+
+// One caller more.
+fn admit<L: Ledger>(rt: &impl Abort, desk: &Desk<L>, root: &mut Root<L>) -> Pass<L>
+    requires { root.old.lock ≡ desk.now }
+    ensures ready { IsReady desk.now result }
+    ensures lock { root.new.lock ≡ desk.now }
+{
+    assert!(rt; root.admitted() < 65_536);
+    desk.admit(root)
+}
+
+// A caller goes.
+fn leave<L: Ledger>(desk: &Desk<L>, root: &mut Root<L>, pass: Pass<L>)
+    requires lock { root.old.lock ≡ desk.now }
+    requires ready { IsReady desk.now pass }
+    ensures { root.new.lock ≡ desk.now }
+{
+    desk.leave(root, pass);
+}
+
+// The office of a desk that all callers left.
+fn close<L: Ledger>(rt: &impl Abort, desk: Desk<L>, root: Root<L>) -> Office
+    requires { root.lock ≡ desk }
+{
+    assert!(rt; root.joined() == root.admitted());
+    let (office, _tests) = desk.close(root);
+    office
 }
 
 // Posts that the segment is closed.
@@ -47,9 +75,10 @@ fn show<R: Wait, L: Ledger>(rt: &R, desk: &Desk<L>, pass: &mut Pass<L>) -> Reply
     desk.ask(rt, pass, Call::Show { number: 0 })
 }
 
-// The journal of the office is this text.
-fn compare(rt: &impl Abort, alloc: Global, office: &Office, text: &str) {
+// The journal of the office, which is let go then, is this text.
+fn compare(rt: &impl Abort, alloc: Global, office: Office, text: &str) {
     let journal = print(alloc, office.history()).expect(rt, "memory");
+    drop(office);
     assert!(rt; journal.as_slice() == text.as_bytes(), "{text}");
 }
 
@@ -115,15 +144,15 @@ fn look_behind_a_posting<L: Ledger + Send + Sync>(
     requires some { 0 < blank.parts }
 {
     let (desk, mut root) = start::<L>(rt, rt.alloc(), 100, blank);
-    let mut one = desk.admit(&mut root);
+    let mut one = admit(rt, &desk, &mut root);
     drop(post(rt, &desk, &mut one));
     let version = version_of(rt, desk.snapshot(rt, &mut one));
-    let other = desk.admit(&mut root);
+    let other = admit(rt, &desk, &mut root);
     let mut seat = sent(Seat::new(rt, &desk, other));
     drop(seat.show(0));
-    desk.leave(&mut root, one);
-    desk.leave(&mut root, seat.into_pass());
-    let (office, _tests) = desk.close(root);
+    leave(&desk, &mut root, one);
+    leave(&desk, &mut root, seat.into_pass());
+    let office = close(rt, desk, root);
     assert_eq!(rt; version, 1);
     let journal = "\
 permit-journal 3
@@ -132,7 +161,7 @@ permit-journal 3
 2 show 0 = unknown
 end 3
 ";
-    compare(rt, rt.alloc(), &office, journal);
+    compare(rt, rt.alloc(), office, journal);
 }
 
 #[test]
@@ -147,18 +176,18 @@ fn take_all_turns<L: Ledger>(rt: &(impl Abort + Wait + AllocGlobal + Sync), blan
     requires some { 0 < blank.parts }
 {
     let (desk, mut root) = start::<L>(rt, rt.alloc(), 1, blank);
-    let mut one = desk.admit(&mut root);
+    let mut one = admit(rt, &desk, &mut root);
     drop(show(rt, &desk, &mut one));
     let posted = post(rt, &desk, &mut one);
     let looked = desk.snapshot(rt, &mut one);
-    desk.leave(&mut root, one);
-    let (office, _tests) = desk.close(root);
+    leave(&desk, &mut root, one);
+    let office = close(rt, desk, root);
     assert!(rt; matches!(posted, Reply::Full { entries: 1 }));
     assert!(rt; matches!(looked, Looked::Full { entries: 1 }));
     compare(
         rt,
         rt.alloc(),
-        &office,
+        office,
         "permit-journal 3\n1 show 0 = unknown\nend 1\n",
     );
 }
@@ -178,14 +207,16 @@ fn call_at_once<L: Ledger + Send + Sync>(
     requires some { 0 < blank.parts }
 {
     let (desk, mut root) = start::<L>(rt, rt.alloc(), 1_000, blank);
-    let mut one = desk.admit(&mut root);
-    let mut two = desk.admit(&mut root);
+    let mut one = admit(rt, &desk, &mut root);
+    let mut two = admit(rt, &desk, &mut root);
     both_at_once(rt, &desk, &mut one, &mut two);
-    desk.leave(&mut root, one);
-    desk.leave(&mut root, two);
-    let (office, _tests) = desk.close(root);
-    assert_eq!(rt; office.version(), 400);
-    assert_eq!(rt; count_calls(rt, &office), [400, 400]);
+    leave(&desk, &mut root, one);
+    leave(&desk, &mut root, two);
+    let office = close(rt, desk, root);
+    assert!(rt; office.version() == 400);
+    let counts = count_calls(rt, &office);
+    drop(office);
+    assert!(rt; counts == [400, 400]);
 }
 
 // Two passes do so at once.

@@ -7,6 +7,7 @@ ghost use Rattle.trip_analysis.specs.Applications.{Sound};
 use day_text::read_day;
 use journal_text::print;
 use names::Name;
+use notice_desk::Recall;
 use office_core::Office;
 use office_words::Reply;
 use permit_days::Day;
@@ -18,6 +19,15 @@ use trip_analysis::{Application, Base};
 // A name of these bytes, which are one.
 pub fn named(rt: &impl Abort, bytes: &[u8]) -> Name {
     Name::new(bytes).expect(rt, "a name")
+}
+
+// A recall of this permit, by the posting of this version.
+pub fn recall(rt: &impl Abort, permit: u32, version: u32, carrier: &[u8]) -> Recall {
+    Recall {
+        permit,
+        version,
+        carrier: named(rt, carrier),
+    }
 }
 
 // The day of a text, which writes one.

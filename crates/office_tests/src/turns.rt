@@ -2,10 +2,62 @@
 ghost use Rattle.std.specs.Prelude.{◌≡◌, ◌<◌, false, Some, All, length};
 ghost use Rattle.office_turn.specs.Told.{Lock, IsReady};
 
-use office_turn::{Notes, Pass, Turn, Worn, note_once};
+use office_turn::{Notes, Pass, Root, Turn, Worn, note_once};
+use std::alloc::Global;
+use std::process::Abort;
 use std::sync::Wait;
-use std::test::Fail;
-use std::thread::{Threads, for_each_mut, join_mut};
+use std::thread::{Threads, for_each_mut};
+
+// A lock with room for so many notes, each made in a turn.
+fn start(rt: &impl Abort, alloc: Global, most: u32) -> (Turn<Notes>, Root<Notes>)
+    ensures tied { result.0.terms ≡ Some result.0.most }
+    ensures lock { result.1.lock ≡ result.0 }
+{
+    assert!(rt; 1 <= most && most <= 1_000_000);
+    let notes = Notes::new(alloc, most).expect(rt, "memory");
+    Turn::start(alloc, notes, most).expect(rt, "memory")
+}
+
+// One pass more.
+fn admit(rt: &impl Abort, turn: &Turn<Notes>, root: &mut Root<Notes>) -> Pass<Notes>
+    requires { root.old.lock ≡ turn.now }
+    ensures ready { IsReady turn.now result }
+    ensures lock { root.new.lock ≡ turn.now }
+{
+    assert!(rt; root.admitted() < 65_536);
+    turn.admit(root)
+}
+
+// Takes a pass back.
+fn join(turn: &Turn<Notes>, root: &mut Root<Notes>, pass: Pass<Notes>)
+    requires lock { root.old.lock ≡ turn.now }
+    requires ready { IsReady turn.now pass }
+    ensures { root.new.lock ≡ turn.now }
+{
+    turn.join(root, pass);
+}
+
+// The notes of a lock whose passes are all back.
+fn close(rt: &impl Abort, turn: Turn<Notes>, root: Root<Notes>) -> Notes
+    requires { root.lock ≡ turn }
+{
+    assert!(rt; root.joined() == root.admitted());
+    turn.close(root)
+}
+
+// Notes a number in a turn.
+fn note<R: Wait>(
+    rt: &R,
+    turn: &Turn<Notes>,
+    pass: &mut Pass<Notes>,
+    number: u32,
+) -> Result<(), Worn>
+    requires tied { turn.now.terms ≡ Some turn.now.most }
+    requires ready { IsReady turn.now pass.old }
+    ensures { IsReady turn.now pass.new }
+{
+    note_once(rt, turn, pass, number)
+}
 
 // Notes the numbers below `count`, each in a turn of its own.
 fn note_each<R: Wait>(rt: &R, turn: &Turn<Notes>, pass: &mut Pass<Notes>, count: u32)
@@ -14,7 +66,7 @@ fn note_each<R: Wait>(rt: &R, turn: &Turn<Notes>, pass: &mut Pass<Notes>, count:
     ensures { IsReady turn.now pass.new }
 {
     for number in 0..count {
-        if note_once(rt, turn, pass, number).is_err() {
+        if note(rt, turn, pass, number).is_err() {
             return;
         }
     }
@@ -56,68 +108,61 @@ fn counts_in_order<const N: usize>(notes: &Notes) -> Option<[u32; N]> {
 }
 
 #[test]
-fn a_lock_of_one_turn_is_worn_after_it(rt: HostRuntime) -> Result<(), Fail> {
-    let (turn, mut root) = Turn::start(rt.alloc(), Notes::new(rt.alloc(), 1)?, 1)?;
-    let mut pass = turn.admit(&mut root);
-    let first = note_once(&rt, &turn, &mut pass, 7);
-    let second = note_once(&rt, &turn, &mut pass, 8);
-    turn.join(&mut root, pass);
-    let notes = turn.close(root);
-    assert_eq!(rt; first, Ok(()));
-    assert_eq!(rt; second, Err(Worn { turns: 1 }));
+fn a_lock_of_one_turn_is_worn_after_it(rt: HostRuntime) {
+    let (turn, mut root) = start(&rt, rt.alloc(), 1);
+    let mut pass = admit(&rt, &turn, &mut root);
+    let first = note(&rt, &turn, &mut pass, 7);
+    let second = note(&rt, &turn, &mut pass, 8);
+    join(&turn, &mut root, pass);
+    let notes = close(&rt, turn, root);
+    assert!(rt; first == Ok(()));
+    assert!(rt; second == Err(Worn { turns: 1 }));
     assert!(rt; notes.pairs.as_slice() == [(0, 7)].as_slice());
-    Ok(())
 }
 
 #[test]
-fn two_passes_on_two_threads_note_twice_each(rt: HostRuntime) -> Result<(), Fail> {
-    let (turn, mut root) = Turn::start(rt.alloc(), Notes::new(rt.alloc(), 100)?, 100)?;
-    let mut one = turn.admit(&mut root);
-    let mut two = turn.admit(&mut root);
-    join_mut(
-        &rt,
-        &mut || note_each(&rt, &turn, &mut one, 2),
-        &mut || note_each(&rt, &turn, &mut two, 2),
-    );
+fn two_passes_on_two_threads_note_twice_each(rt: HostRuntime) {
+    let (turn, mut root) = start(&rt, rt.alloc(), 100);
+    let mut passes = [admit(&rt, &turn, &mut root), admit(&rt, &turn, &mut root)];
+    note_at_once(&rt, &turn, &mut passes, 2);
+    let [one, two] = passes;
     let numbers = (one.number(), two.number());
-    turn.join(&mut root, one);
-    turn.join(&mut root, two);
+    join(&turn, &mut root, one);
+    join(&turn, &mut root, two);
     let counts = (root.admitted(), root.joined());
-    let notes = turn.close(root);
-    assert_eq!(rt; numbers, (0, 1));
-    assert_eq!(rt; counts, (2, 2));
-    assert_eq!(rt; notes.pairs.len(), 4);
-    assert_eq!(rt; counts_in_order(&notes), Some([2, 2]));
-    Ok(())
+    let notes = close(&rt, turn, root);
+    assert!(rt; numbers == (0, 1));
+    assert!(rt; counts == (2, 2));
+    assert!(rt; notes.pairs.len() == 4);
+    assert!(rt; counts_in_order(&notes) == Some([2, 2]));
 }
 
 #[test]
-fn eight_passes_on_eight_threads_note_200_times_each(rt: HostRuntime) -> Result<(), Fail> {
-    let (turn, mut root) = Turn::start(rt.alloc(), Notes::new(rt.alloc(), 1600)?, 1600)?;
+fn eight_passes_on_eight_threads_note_200_times_each(rt: HostRuntime) {
+    let (turn, mut root) = start(&rt, rt.alloc(), 1600);
     let mut passes = [
-        turn.admit(&mut root),
-        turn.admit(&mut root),
-        turn.admit(&mut root),
-        turn.admit(&mut root),
-        turn.admit(&mut root),
-        turn.admit(&mut root),
-        turn.admit(&mut root),
-        turn.admit(&mut root),
+        admit(&rt, &turn, &mut root),
+        admit(&rt, &turn, &mut root),
+        admit(&rt, &turn, &mut root),
+        admit(&rt, &turn, &mut root),
+        admit(&rt, &turn, &mut root),
+        admit(&rt, &turn, &mut root),
+        admit(&rt, &turn, &mut root),
+        admit(&rt, &turn, &mut root),
     ];
     note_at_once(&rt, &turn, &mut passes, 200);
     let [one, two, three, four, five, six, seven, mut eight] = passes;
-    let more = note_once(&rt, &turn, &mut eight, 200);
-    turn.join(&mut root, one);
-    turn.join(&mut root, two);
-    turn.join(&mut root, three);
-    turn.join(&mut root, four);
-    turn.join(&mut root, five);
-    turn.join(&mut root, six);
-    turn.join(&mut root, seven);
-    turn.join(&mut root, eight);
-    let notes = turn.close(root);
-    assert_eq!(rt; more, Err(Worn { turns: 1600 }));
-    assert_eq!(rt; notes.pairs.len(), 1600);
-    assert_eq!(rt; counts_in_order(&notes), Some([200; 8]));
-    Ok(())
+    let more = note(&rt, &turn, &mut eight, 200);
+    join(&turn, &mut root, one);
+    join(&turn, &mut root, two);
+    join(&turn, &mut root, three);
+    join(&turn, &mut root, four);
+    join(&turn, &mut root, five);
+    join(&turn, &mut root, six);
+    join(&turn, &mut root, seven);
+    join(&turn, &mut root, eight);
+    let notes = close(&rt, turn, root);
+    assert!(rt; more == Err(Worn { turns: 1600 }));
+    assert!(rt; notes.pairs.len() == 1600);
+    assert!(rt; counts_in_order(&notes) == Some([200; 8]));
 }
