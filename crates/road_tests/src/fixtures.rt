@@ -3,6 +3,7 @@
 ghost use Rattle.restriction_log.specs.States.{AreOf};
 
 use names::Name;
+use permit_days::Day;
 use restriction_log::{Change, State, takes};
 use road_graph::{AddRefusal, Network, What};
 use std::alloc::Global;
@@ -38,6 +39,11 @@ pub fn part(text: &str, separator: char, i: usize) -> &str {
 // A name of these bytes, which are one.
 pub fn named(rt: &impl Abort, bytes: &[u8]) -> Name {
     Name::new(bytes).expect(rt, "a name")
+}
+
+// The day of a text, which writes one.
+pub fn day(rt: &impl Abort, text: &str) -> Day {
+    Day::read(text.as_bytes()).expect(rt, text)
 }
 
 // Adds what a line says: `node NAME`, `segment NAME FROM TO FEET`, or `span NAME SEGMENT INCHES RATING`. Nodes and segments

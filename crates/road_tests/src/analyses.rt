@@ -4,10 +4,9 @@ ghost use Rattle.trip_analysis.specs.Applications.{AreAskedThere, Sound};
 ghost use Rattle.snapshot_store.specs.Stores.{IsLater};
 ghost use Rattle.trip_analysis.specs.Followers.{GoesOn, followed};
 
+use crate::fixtures::{day, named, network, number, part};
 use axle_train::{Axle, Train};
 use clearance_rules::{Limit, Load, Steps};
-use names::Name;
-use permit_days::Day;
 use restriction_log::{Change, State, takes};
 use road_graph::{Network, Numbers};
 use snapshot_store::Store;
@@ -26,20 +25,6 @@ use trip_routes::{Routes, SharedRoutes};
 // What was built is let go by a call of `drop`: where a scope lets it go, the proof of the whole function goes through
 // its parts.
 
-// A name of these bytes, which are one.
-fn named(rt: &impl Abort, bytes: &[u8]) -> Name {
-    Name::new(bytes).expect(rt, "a name")
-}
-
-// A day of this text, which is one.
-fn day(rt: &impl Abort, text: &str) -> Day {
-    Day::read(text.as_bytes()).expect(rt, "a day")
-}
-
-fn number(text: &str) -> u32 {
-    text.parse().unwrap_or(0)
-}
-
 // The numbers of a text, parted by spaces.
 fn numbers(rt: &impl Abort, alloc: Global, text: &str) -> Vec<u32> {
     let mut list = Vec::new(alloc);
@@ -49,30 +34,18 @@ fn numbers(rt: &impl Abort, alloc: Global, text: &str) -> Vec<u32> {
     list
 }
 
-// The part of a text with this number, from 0, or nothing where there are fewer.
-fn part(text: &str, separator: char, i: usize) -> &str {
-    text.split(separator).nth(i).unwrap_or("")
-}
-
 // Nodes 0, 1 and 2, with two ways from node 0 to node 1: segment 0, and segments 1 and 2 by node 2. On segment 0 are two
 // spans of 360 in, which carry twice the HS20-44 truck.
-fn roads(rt: &impl Abort, alloc: Global) -> Network {
-    let mut network = Network::new(alloc);
-    for name in [b"a", b"b", b"c"] {
-        network.add_node(named(rt, name)).expect(rt, "a node");
-    }
-    for (name, from, to) in [(b"ab", 0, 1), (b"ac", 0, 2), (b"cb", 2, 1)] {
-        network
-            .add_segment(named(rt, name), from, to, 1_000)
-            .expect(rt, "a segment");
-    }
-    for name in [b"s", b"t"] {
-        network
-            .add_span(named(rt, name), 0, 360, 2_000)
-            .expect(rt, "a span");
-    }
-    network
-}
+const WAYS: &str = "\
+node a
+node b
+node c
+segment ab 0 1 1000
+segment ac 0 2 1000
+segment cb 2 1 1000
+span s 0 360 2000
+span t 0 360 2000
+";
 
 // A truck of 102 in by 720 in whose axles are within the limits of 23 CFR 658.17: 20,000 lb an axle, 34,000 lb for the
 // tandem of 48 in, and by the formula 45,000 lb for the first two axles and 50,000 lb for all three.
@@ -92,7 +65,7 @@ fn base(rt: &impl Abort, alloc: Global) -> Base {
     let mut fleet = Vec::new(alloc);
     fleet.push(truck(rt, b"high", 168)).expect(rt, "memory");
     fleet.push(truck(rt, b"legal", 160)).expect(rt, "memory");
-    Base::new(roads(rt, alloc), fleet)
+    Base::new(network(rt, alloc, WAYS), fleet)
 }
 
 // Whether the segments of a list are there.

@@ -1,11 +1,7 @@
+use crate::fixtures::day;
 use permit_days::{Day, DayRefusal};
 use std::alloc::Global;
 use std::process::Abort;
-
-// The day of a text, which writes one.
-fn day(rt: &impl Abort, text: &str) -> Day {
-    Day::read(text.as_bytes()).expect(rt, text)
-}
 
 // Texts that write a day.
 const DAYS: [&str; 6] = [

@@ -1,26 +1,21 @@
 ghost use Rattle.std.specs.Prelude.{◌≡◌, true};
 ghost use Rattle.permit_book.specs.Permits.{is_issued, is_live, permit_of};
 
+use crate::fixtures::day;
 use permit_book::{Book, Mark, Status, Trip};
-use permit_days::Day;
 use road_graph::Numbers;
 use std::alloc::Global;
 use std::process::Abort;
 use std::test::Fail;
 use trip_routes::SharedRoutes;
 
-// The day of a text, which writes one.
-fn day(rt: &impl Abort, text: &[u8]) -> Day {
-    Day::read(text).expect(rt, "a day")
-}
-
 // A trip along no segment, from the second day of a month to this one.
-fn trip(rt: &impl Abort, alloc: Global, caller: u32, truck: u32, last: &[u8]) -> Trip {
+fn trip(rt: &impl Abort, alloc: Global, caller: u32, truck: u32, last: &str) -> Trip {
     Trip {
         caller,
         truck,
         routes: SharedRoutes::along(alloc, Numbers::of(Vec::new(alloc))).expect(rt, "memory"),
-        first: day(rt, b"2026-03-02"),
+        first: day(rt, "2026-03-02"),
         last: day(rt, last),
     }
 }
@@ -29,8 +24,8 @@ fn trip(rt: &impl Abort, alloc: Global, caller: u32, truck: u32, last: &[u8]) ->
 fn two(rt: &impl Abort, alloc: Global) -> Book {
     let mut book = Book::new(alloc);
     let numbers = [
-        book.issue(trip(rt, alloc, 7, 1, b"2026-03-10"), 3, 2),
-        book.issue(trip(rt, alloc, 9, 0, b"2026-03-20"), 4, 4),
+        book.issue(trip(rt, alloc, 7, 1, "2026-03-10"), 3, 2),
+        book.issue(trip(rt, alloc, 9, 0, "2026-03-20"), 4, 4),
     ];
     assert_eq!(rt; numbers, [Ok(1), Ok(2)]);
     book
@@ -40,13 +35,13 @@ fn two(rt: &impl Abort, alloc: Global) -> Book {
 fn expires_after_its_last_day(rt: HostRuntime) -> Result<(), Fail> {
     let book = two(&rt, rt.alloc());
     let cases = [
-        (0, b"2026-03-02", None),
-        (1, b"2026-03-01", Some(Status::InForce)),
-        (1, b"2026-03-10", Some(Status::InForce)),
-        (1, b"2026-03-11", Some(Status::Expired)),
-        (2, b"2026-03-11", Some(Status::InForce)),
-        (2, b"2027-01-01", Some(Status::Expired)),
-        (3, b"2026-03-02", None),
+        (0, "2026-03-02", None),
+        (1, "2026-03-01", Some(Status::InForce)),
+        (1, "2026-03-10", Some(Status::InForce)),
+        (1, "2026-03-11", Some(Status::Expired)),
+        (2, "2026-03-11", Some(Status::InForce)),
+        (2, "2027-01-01", Some(Status::Expired)),
+        (3, "2026-03-02", None),
     ];
     'cases: for (number, text, status) in cases {
         assert_eq!(rt;
@@ -95,7 +90,7 @@ fn keeps_a_mark_after_the_last_day(rt: HostRuntime) -> Result<(), Fail> {
     let mut book = two(&rt, rt.alloc());
     recall_by_5(&rt, &mut book, 1);
     surrender(&rt, &mut book, 2);
-    let late = day(&rt, b"2027-01-01");
+    let late = day(&rt, "2027-01-01");
     assert_eq!(rt; book.status(1, late), Some(Status::Recalled { version: 5 }));
     assert_eq!(rt; book.status(2, late), Some(Status::Surrendered));
     assert_eq!(rt; book.permits()[0].mark, Mark::Recalled { version: 5 });

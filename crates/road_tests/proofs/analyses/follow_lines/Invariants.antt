@@ -1,6 +1,6 @@
 use Rattle.std.proofs.Common.{◌≡◌}
 use Rattle.trip_analysis.specs.Followers.{GoesOn}
-use Rattle.trip_tests.proofs.analyses.follow_lines.Given as goal
+use Rattle.road_tests.proofs.analyses.follow_lines.Given as goal
 
 abbrev pub invariant-lines : goal.invariant-lines
 invariant-lines g l = record {
