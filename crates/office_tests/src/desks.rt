@@ -105,18 +105,18 @@ fn count_calls(rt: &impl Abort, office: &Office) -> [u32; 2] {
     let mut counts = [0_u32; 2];
     let mut versions = 0_u32;
     for entry in office.history() {
-        let count = counts
-            .get_mut(entry.caller as usize)
-            .expect(rt, "one of two callers");
+        let caller = entry.caller as usize;
+        assert!(rt; caller < 2);
+        let posts = counts[caller] % 2 == 0;
         match &entry.reply {
             Reply::Posted { version, .. } => {
                 versions = versions.wrapping_add(1);
-                assert_eq!(rt; (*version, *count % 2), (versions, 0));
+                assert!(rt; posts && *version == versions);
             }
-            Reply::Unknown => assert_eq!(rt; *count % 2, 1),
+            Reply::Unknown => assert!(rt; !posts),
             _ => rt.abort(),
         }
-        *count = count.wrapping_add(1);
+        counts[caller] = counts[caller].wrapping_add(1);
     }
     counts
 }
