@@ -65,7 +65,7 @@ fn close<L: Ledger>(rt: &impl Abort, desk: &Rerouter, office: &mut CountedOffice
         closed: true,
     };
     match ask(desk, office, Call::Post { change }) {
-        Reply::Posted { recalled, .. } => assert!(rt; recalled.as_slice() == [recalls]),
+        Reply::Posted { recalled, .. } => assert!(rt; recalled.as_slice() == [recalls].as_slice()),
         _ => rt.abort(),
     }
 }
