@@ -68,15 +68,15 @@ impl Page {
         ensures { OnOk result (self.new ≡ after (put (row (kind.now ∷ map field_text fields.now))) self.old) }
     {
         let record = record_of(self.alloc, kind, fields)?;
-        let Some(mut writer) = self.writer.take() else {
+        let Some(writer) = &mut self.writer else {
             return Err(AllocError);
         };
         match writer.write_byte_record(&record) {
-            Ok(()) => {
-                self.writer = Some(writer);
-                Ok(())
+            Ok(()) => Ok(()),
+            Err(_) => {
+                self.writer = None;
+                Err(AllocError)
             }
-            Err(_) => Err(AllocError),
         }
     }
 
