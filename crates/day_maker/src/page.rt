@@ -1,6 +1,6 @@
 // A page to which records are added, and from which numbers are drawn.
 
-ghost use Rattle.std.specs.Prelude.{◌≡◌, ◌<◌, ◌≤◌, ◌%◌, ◌∷◌, length, map, OnOk, IfOk};
+ghost use Rattle.std.specs.Prelude.{◌≡◌, ◌<◌, ◌≤◌, ◌%◌, ◌∷◌, None, length, map, OnOk, IfOk};
 ghost use Rattle.csv.specs.Records.{fields_of};
 ghost use Rattle.day_maker.specs.Fields.{field_text};
 ghost use Rattle.day_maker.specs.Making.{drawn, put};
@@ -74,7 +74,7 @@ impl Page {
         match writer.write_byte_record(&record) {
             Ok(()) => Ok(()),
             Err(_) => {
-                self.writer = None;
+                let_go(&mut self.writer);
                 Err(AllocError)
             }
         }
@@ -89,6 +89,15 @@ impl Page {
             None => Err(AllocError),
         }
     }
+}
+
+// Lets a writer go. A function that does so first clears room on its stack for a whole writer, and `put` would at each record.
+#[cold]
+#[inline(never)]
+fn let_go(writer: &mut Option<Writer<Vec<u8>>>)
+    ensures { writer.new ≡ None }
+{
+    *writer = None;
 }
 
 // The record of these fields, with empty ones behind them to make eight.
