@@ -28,13 +28,16 @@ pub fn audit(
     requires { length history.now ≤ 1000000 }
     ensures { IfOk result (IsVerdict (arc_value base) day history.now) }
 {
-    let auditor = Auditor::open(alloc, base, day, history)?;
-    judge_all::<Brand>(auditor, day, history, Blank::new(1))
+    let mut auditor = Auditor::open(alloc, base, day, history)?;
+    let verdict = judge_all::<Brand>(&mut auditor, day, history, Blank::new(1));
+    drop(auditor);
+    verdict
 }
 
 // Judges the entries one after another, up to the first that is no step. What is tested is counted by a counter of this ledger.
+// The auditor is lent: where a function lets one go on each of its ways out, its proof goes through all parts at each.
 fn judge_all<L: Ledger>(
-    mut auditor: Auditor,
+    auditor: &mut Auditor,
     day: Day,
     history: &[Entry],
     blank: Blank,
@@ -43,8 +46,8 @@ fn judge_all<L: Ledger>(
     requires parts { blank.parts ≡ L.parts }
     requires some { 0 < blank.parts }
     requires few { length history.now ≤ 1000000 }
-    requires opened { HasOpened auditor day history.now }
-    ensures { IfOk result (IsVerdict auditor.replay.base day history.now) }
+    requires opened { HasOpened auditor.old day history.now }
+    ensures { IfOk result (IsVerdict auditor.old.replay.base day history.now) }
 {
     let mut steps = Steps::<L>::new(blank);
     'entries: for i in 0..history.len() {

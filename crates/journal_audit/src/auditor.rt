@@ -9,7 +9,8 @@ ghost use Rattle.std.specs.Arc.{arc_value};
 ghost use Rattle.trip_analysis.specs.Applications.{Sound};
 ghost use Rattle.office_core.specs.Machine.{HasRoom, IsFound, opened, version_of};
 ghost use Rattle.journal_audit.specs.Auditors.{HasMark, HasOpened, HasPassed, IsAuditor, IsNamedBy, IsStepOf, MayBeAsked, IsFoundThen, OnlyLooked};
-ghost use Rattle.journal_audit.specs.Versions.{HasKept};
+ghost use Rattle.office_core.specs.Registers.{stored_now};
+ghost use Rattle.journal_audit.specs.Versions.{AreVersions, HasKept, IsNamed, versions_of};
 
 use crate::sameness::{are_same_findings, are_same_replies};
 use crate::seat::Seat;
@@ -49,15 +50,42 @@ impl Auditor {
         ensures opened { IfOk result (λ a. HasOpened a day history.now) }
     {
         let replay = Replay::open(alloc, Arc::try_clone(&base)?, day)?;
-        let mut versions = Versions::of(alloc, history)?;
-        versions.go_on(&replay)?;
-        let seats = empty_seats(alloc, &base)?;
-        Ok(Auditor {
-            base,
-            replay,
-            versions,
-            seats,
-        })
+        match first_versions(alloc, &replay, history) {
+            Ok(versions) => Auditor::with_seats(alloc, base, replay, versions),
+            Err(_) => {
+                drop(replay);
+                Err(NoMemory)
+            }
+        }
+    }
+
+    // The same, with seats at which nothing is known yet.
+    fn with_seats(
+        alloc: Global,
+        base: Arc<Base, Global>,
+        replay: Replay,
+        versions: Versions,
+    ) -> Result<Auditor, NoMemory>
+        requires base { replay.base ≡ arc_value base }
+        requires versions { AreVersions (stored_now replay) versions }
+        requires all { length versions.kept.items ≡ versions_of (stored_now replay) }
+        ensures replay { IfOk result (λ a. a.replay ≡ replay) }
+        ensures versions { IfOk result (λ a. a.versions ≡ versions) }
+        ensures auditor { IfOk result IsAuditor }
+    {
+        match empty_seats(alloc, &base) {
+            Ok(seats) => Ok(Auditor {
+                base,
+                replay,
+                versions,
+                seats,
+            }),
+            Err(_) => {
+                drop(replay);
+                drop(versions);
+                Err(NoMemory)
+            }
+        }
     }
 
     /// Whether an entry is a step of the office's machine, from what the entries before it leave. If it is, the auditor is behind
@@ -165,6 +193,20 @@ impl Auditor {
         self.versions.go_on(&self.replay)?;
         Ok(true)
     }
+}
+
+// The versions of an office on which nothing is posted yet.
+fn first_versions(alloc: Global, replay: &Replay, history: &[Entry]) -> Result<Versions, NoMemory>
+    requires few { length history.now ≤ 1000000 }
+    requires none { version_of replay.now.machine ≡ 0 }
+    ensures named { IfOk result (λ v. All (λ e. IsNamed v.named.items e.call) history.now) }
+    ensures marks { IfOk result (λ v. length v.named.items ≡ length history.now + 1) }
+    ensures versions { IfOk result (AreVersions (stored_now replay.now)) }
+    ensures all { IfOk result (λ v. length v.kept.items ≡ versions_of (stored_now replay.now)) }
+{
+    let mut versions = Versions::of(alloc, history)?;
+    versions.go_on(replay)?;
+    Ok(versions)
 }
 
 // Seats at which nothing is known yet.

@@ -68,40 +68,40 @@ fn are_same_permits(one: &Reply, other: &Reply) -> bool
     requires { IsShown one.now }
     ensures { (result ≡ true) ↔ (one.now ≡ other.now) }
 {
-    match (one, other) {
-        (
-            Reply::Shown {
-                number: n,
-                caller: c,
-                truck: t,
-                first: f,
-                last: l,
-                version: v,
-                seen: s,
-                status: st,
-            },
-            Reply::Shown {
-                number,
-                caller,
-                truck,
-                first,
-                last,
-                version,
-                seen,
-                status,
-            },
-        ) => {
-            n == number
-                && c == caller
-                && t == truck
-                && f == first
-                && l == last
-                && v == version
-                && s == seen
-                && st == status
-        }
-        _ => false,
-    }
+    let Reply::Shown {
+        number: n,
+        caller: c,
+        truck: t,
+        first: f,
+        last: l,
+        version: v,
+        seen: s,
+        status: st,
+    } = one
+    else {
+        return false;
+    };
+    let Reply::Shown {
+        number,
+        caller,
+        truck,
+        first,
+        last,
+        version,
+        seen,
+        status,
+    } = other
+    else {
+        return false;
+    };
+    n == number
+        && c == caller
+        && t == truck
+        && f == first
+        && l == last
+        && v == version
+        && s == seen
+        && st == status
 }
 
 // Whether the routes are the same.
