@@ -29,7 +29,11 @@ fn audits<R: Abort + Threads + Wait + AllocGlobal + Sync>(
 }
 
 // The line of a legal journal has the number of entries that the journal's last line has.
-fn audits_legal<R: Abort + Threads + Wait + AllocGlobal + Sync>(rt: &R, journal: &str, day: &str) {
+pub(crate) fn audits_legal<R: Abort + Threads + Wait + AllocGlobal + Sync>(
+    rt: &R,
+    journal: &str,
+    day: &str,
+) {
     let count = journal
         .lines()
         .last()

@@ -1,12 +1,14 @@
-// Days that are made from a number, for the tests: run, and read back from their journals.
+// Days that are made from a number, for the tests: run, audited, and read back from their journals.
 
-use crate::runs::run_words;
+use crate::audits::audits_legal;
+use crate::runs::{Ran, run_words};
 use day_text::{Order, read_day};
 use journal_reader::read;
 use journal_text::print;
 use office_words::{Call, Command, Entry, Reply};
 use std::alloc::Global;
 use std::process::Abort;
+use std::str;
 
 // Whether an entry can be one of those that carry out the command.
 fn carries_out(entry: &Entry, command: &Command) -> bool {
@@ -83,13 +85,20 @@ fn is_of_day(rt: &impl Abort, alloc: Global, history: &[Entry], day: &[u8]) {
     assert!(rt; count == 100 && done);
 }
 
-// A made day of 36 nodes, 120 segments, 30 spans, 4 trucks, three analysts, an engineer and 100 commands, run on threads: its
-// journal is read back and printed again, and in it each actor's commands stand once in their order.
+// What a run wrote.
+fn text_of<'a>(rt: &impl Abort, ran: &'a Ran) -> &'a str {
+    str::from_utf8(ran.text.as_slice()).expect(rt, "text")
+}
+
+// A made day of 36 nodes, 120 segments, 30 spans, 4 trucks, three analysts, an engineer and 100 commands, run on threads: an
+// audit judges each entry of its journal legal, the journal is read back and printed again, and in it each actor's commands
+// stand once in their order.
 #[test]
 fn runs_a_made_day_and_reads_it_back(rt: HostRuntime) {
     let made = run_words(&rt, &["make", "--seed", "7", "--size", "5"], &[], &[], &[]);
     let ran = run_words(&rt, &["day"], made.text.as_slice(), &[], &[]);
     assert_eq!(rt; (made.status, ran.status), (0, 0));
+    audits_legal(&rt, text_of(&rt, &ran), text_of(&rt, &made));
     let history = read_back(&rt, rt.alloc(), ran.text.as_slice());
     is_of_day(&rt, rt.alloc(), &history, made.text.as_slice());
     drop(history);
