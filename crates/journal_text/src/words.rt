@@ -170,7 +170,6 @@ fn more_numbers(out: &mut Vec<u8>, numbers: &[u32]) -> Result<(), AllocError>
 }
 
 // The lists of routes with slashes between them, behind a space.
-#[tactic(auto, using(crate::proofs::Pieces::first_route, crate::proofs::Pieces::one_more_route))]
 fn route_lists(out: &mut Vec<u8>, routes: &SharedRoutes) -> Result<(), AllocError>
     ensures { OnOk result (out.new.items ≡ out.old.items ++ (32 ∷ routes_text routes.now)) }
 {
