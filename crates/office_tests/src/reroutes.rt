@@ -21,7 +21,12 @@ use std::sync::ledger::{Blank, Ledger};
 // the first node to the second, and a way around it by two others.
 
 // An office about these roads with room for so many entries, and a new desk.
-fn beside<L: Ledger>(rt: &impl Abort, alloc: Global, most: u32, blank: Blank) -> (CountedOffice<L>, Rerouter)
+fn beside<L: Ledger>(
+    rt: &impl Abort,
+    alloc: Global,
+    most: u32,
+    blank: Blank,
+) -> (CountedOffice<L>, Rerouter)
     requires name { blank.name ≡ L.name }
     requires parts { blank.parts ≡ L.parts }
     requires some { 0 < blank.parts }
@@ -30,7 +35,10 @@ fn beside<L: Ledger>(rt: &impl Abort, alloc: Global, most: u32, blank: Blank) ->
 {
     new_desks_keep_up();
     let office = office_about(rt, alloc, base(rt, alloc, AROUND, 168), most);
-    (CountedOffice::<L>::new(office, blank), Rerouter::new(alloc, 1))
+    (
+        CountedOffice::<L>::new(office, blank),
+        Rerouter::new(alloc, 1),
+    )
 }
 
 // Caller 0 makes a call.
@@ -55,7 +63,13 @@ fn hold<L: Ledger>(rt: &impl Abort, desk: &Rerouter, office: &mut CountedOffice<
 }
 
 // Caller 0 closes a segment, by which this permit is recalled.
-fn close<L: Ledger>(rt: &impl Abort, desk: &Rerouter, office: &mut CountedOffice<L>, segment: u32, recalls: u32)
+fn close<L: Ledger>(
+    rt: &impl Abort,
+    desk: &Rerouter,
+    office: &mut CountedOffice<L>,
+    segment: u32,
+    recalls: u32,
+)
     requires caller { desk.now.caller ≡ 1 }
     requires kept { KeepsUp desk.now office.old.office }
     ensures { KeepsUp desk.now office.new.office }
