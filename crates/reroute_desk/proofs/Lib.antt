@@ -7,3 +7,4 @@ pub mod Going
 pub mod Asking
 pub mod Handling
 pub mod Left
+pub mod Once

@@ -16,6 +16,6 @@ mod refusal;
 mod rerouter;
 
 pub use handled::{Handled, HandledAs};
-pub use laws::{calls_of_others_keep_up, new_desks_keep_up};
+pub use laws::{calls_of_others_keep_up, new_desks_keep_up, permits_are_replaced_once};
 pub use refusal::RerouteRefusal;
 pub use rerouter::Rerouter;
