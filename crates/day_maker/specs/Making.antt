@@ -8,6 +8,7 @@ pub record Made : Type 0 where
   pub rows : List Row
   pub next : ℕ
 
+-- what is made, by the number that stands before its first draw
 abbrev pub Maker : Type 0
 Maker = ℕ → Made
 
@@ -23,20 +24,21 @@ drawn x = (75 * x + 74) % 65537
 abbrev pub draw : ℕ → Draws ℕ
 draw m = λ x. (drawn x % m, drawn x)
 
--- what is made with a drawn value
 infixl 10 ◌>>=◌
+-- what is made with a drawn value
 abbrev pub ◌>>=◌ : {A : Type 0} → Draws A → (A → Maker) → Maker
 draws >>= make = λ x. make (draws x).0 (draws x).1
 
--- one thing and then another
 infixl 10 ◌>>◌
+-- one thing and then another
 abbrev pub ◌>>◌ : Maker → Maker → Maker
 first >> second = λ x. record { rows = (first x).rows ++ (second (first x).next).rows; next = (second (first x).next).next }
 
--- nothing, and one record
+-- no record, and no draw
 abbrev pub nothing : Maker
 nothing = λ x. record { rows = []; next = x }
 
+-- one record, and no draw
 abbrev pub put : Row → Maker
 put fields = λ x. record { rows = fields ∷ []; next = x }
 

@@ -16,6 +16,7 @@ IsJournalIn format history text = HasJournalIn format history × (text ≡ journ
 abbrev pub IsJournalOf : List Entry → List ℕ → Type 0
 IsJournalOf history text = (format : Format) × IsJournalIn format history text
 
+-- the text is the journal of no history, in any format
 abbrev pub IsNoJournal : List ℕ → Type 0
 IsNoJournal text = (history : List Entry) → IsJournalOf history text → ⊥
 
@@ -31,10 +32,11 @@ IsLine text = AllByRecursion (λ b. b ≢ 10) text
 abbrev pub lines_text : List (List ℕ) → List ℕ
 lines_text lines = flat_map ended lines
 
--- the first line of a journal and the lines of some entries
+-- the lines of some entries, each with its line feed
 abbrev pub lines_of : List Entry → List ℕ
 lines_of history = flat_map (λ e. ended (line_of e)) history
 
+-- the first line of a journal and the lines of some entries
 abbrev pub front_of : Format → List Entry → List ℕ
 front_of format history = ended (first_line format) ++ lines_of history
 

@@ -31,6 +31,7 @@ abbrev pub replaced_words : Replaced → Words → Words
 replaced_words (replaced.Limit segment what value) ws = posted_words segment (what_word what) value ws
 replaced_words (replaced.Rating span permille) ws = codes "span" ∷ index span ∷ codes "rating" ∷ decimal permille ∷ ws
 
+-- a change that is posted, by what it replaces
 abbrev pub change_words : Change → Words → Words
 change_words change ws = replaced_words (replaced_by change) ws
 
@@ -52,6 +53,7 @@ abbrev pub effect_words : List ℕ → Ratio → Ratio → ℕ → Words → Wor
 effect_words named has design rating ws =
     named ∷ ratio_text has ∷ codes "hs20" ∷ ratio_text design ∷ codes "rating" ∷ decimal rating ∷ ws
 
+-- a limit that a load fails: its segment, which limit it is, and the numbers compared, if any
 abbrev pub limit_words : Limit → Words → Words
 limit_words (limit.Closed segment) ws = codes "segment" ∷ index segment ∷ codes "closed" ∷ ws
 limit_words (limit.Height segment has allowed) ws = over_words segment (codes "height") has allowed ws
@@ -78,9 +80,11 @@ abbrev pub asked_words : Option (List (List ℕ)) → Words → Words
 asked_words None ws = codes "asked" ∷ codes "none" ∷ ws
 asked_words (Some routes) ws = routes_words (codes "asked") routes ws
 
+-- the first and the last day of a trip
 abbrev pub days_words : List ℕ → List ℕ → Words → Words
 days_words first last ws = codes "days" ∷ first ∷ last ∷ ws
 
+-- an application: its truck, the nodes where it begins and ends, the asked routes and the days
 abbrev pub application_words : Application → Words → Words
 application_words a ws =
     codes "truck" ∷ index a.truck ∷ codes "from" ∷ index a.from ∷ codes "to" ∷ index a.to ∷ asked_words a.asked (days_words a.first a.last ws)
@@ -92,6 +96,7 @@ what_words (what.Route routes) ws = routes_words (codes "route") routes ws
 what_words (what.Fails segment) ws = codes "fails" ∷ index segment ∷ ws
 what_words (what.Cut nodes) ws = places_words (codes "cut") nodes ws
 
+-- a call: what is asked of the office, and with what
 abbrev pub call_words : Call → Words → Words
 call_words call.Snapshot ws = codes "snapshot" ∷ ws
 call_words (call.Submit a p) ws = codes "submit" ∷ application_words a (codes "seen" ∷ decimal p.seen ∷ what_words p.what ws)
@@ -101,6 +106,7 @@ call_words (call.Day day) ws = codes "day" ∷ day ∷ ws
 call_words (call.Surrender number) ws = codes "surrender" ∷ decimal number ∷ ws
 call_words (call.Show number) ws = codes "show" ∷ decimal number ∷ ws
 
+-- how a permit stands: in force, recalled by a posting, surrendered or expired
 abbrev pub status_words : Status → Words → Words
 status_words status.InForce ws = codes "inforce" ∷ ws
 status_words (status.Recalled version) ws = codes "recalled" ∷ decimal version ∷ ws
@@ -112,15 +118,16 @@ abbrev pub cause_words : Cause → Words → Words
 cause_words (cause.NowFails why) ws = codes "fails" ∷ limit_words why ws
 cause_words (cause.NowMeets segment) ws = codes "meets" ∷ codes "segment" ∷ index segment ∷ ws
 
--- whose permit is shown, and how it stands
+-- a permit that is shown: its number, its caller and its truck
 abbrev pub shown_words : ℕ → ℕ → ℕ → Words → Words
 shown_words number caller truck ws =
     codes "shown" ∷ decimal number ∷ codes "caller" ∷ index caller ∷ codes "truck" ∷ index truck ∷ ws
 
+-- the version of a permit's issue, the one at which its routes were found, and how it stands
 abbrev pub standing_words : ℕ → ℕ → Status → Words → Words
 standing_words version seen now ws = codes "at" ∷ decimal version ∷ codes "seen" ∷ decimal seen ∷ status_words now ws
 
--- that an office is full is the reply of no entry, and has no words
+-- a reply: what the office answers; that it is full is the reply of no entry, and has no words
 abbrev pub reply_words : Reply → Words → Words
 reply_words (reply.SnapshotAt version) ws = codes "at" ∷ decimal version ∷ ws
 reply_words (reply.Issued number version routes) ws =

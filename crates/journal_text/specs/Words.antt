@@ -2,6 +2,7 @@
 use Rattle.std.specs.Prelude.{◌≡◌, ℕ, ◌+◌, List, [], ◌∷◌, ◌++◌, flat_map, codes}
 use Rattle.std.specs.Fmt.{decimal}
 
+-- words in order, each by its text
 abbrev pub Words : Type 0
 Words = List (List ℕ)
 
@@ -36,10 +37,11 @@ routes_text routes = joined 47 (list_text index) routes
 abbrev pub group : ℕ → ℕ → List ℕ
 group i j = index i ++ (codes "-" ++ index j)
 
--- a word, and a list of numbers or of indices behind it
+-- a word, and a list of numbers behind it
 abbrev pub numbers_words : List ℕ → List ℕ → Words → Words
 numbers_words named numbers ws = named ∷ list_text decimal numbers ∷ ws
 
+-- a word, and a list of indices behind it
 abbrev pub places_words : List ℕ → List ℕ → Words → Words
 places_words named places ws = named ∷ list_text index places ∷ ws
 

@@ -22,10 +22,11 @@ abbrev pub carrier_of : BaseLists → Option ℕ → List ℕ
 carrier_of base (Some truck) = (truck_of base truck).carrier
 carrier_of base None = []
 
--- the recall of a permit by the posting of a version, and those of a posting's answer, in order, by what the trucks are
+-- the recall of a permit by the posting of a version, by what the trucks are
 abbrev pub recall_of : BaseLists → (ℕ → Option ℕ) → ℕ → ℕ → Recall
 recall_of base trucks v n = record { permit = n; version = v; carrier = carrier_of base (trucks n) }
 
+-- the recalls of a posting's answer, in order, by what the trucks are; any other answer has none
 abbrev pub recalls_by : BaseLists → (ℕ → Option ℕ) → Reply → List Recall
 recalls_by base trucks (reply.Posted v ns) = map (recall_of base trucks v) ns
 recalls_by base trucks _ = []
