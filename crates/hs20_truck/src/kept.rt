@@ -54,7 +54,7 @@ impl Kept {
     }
 
     /// Keeps the least rating with which spans of `inches` carry the train, unless it does so already. The first
-    /// length takes the memory for all. Where none is found it keeps what it kept.
+    /// length takes the memory for all. Where no memory is found it keeps what it kept.
     pub fn keep(&mut self, alloc: Global, inches: u32) -> Result<(), AllocError>
         requires some { 1 ≤ inches }
         requires long { inches ≤ 6000 }

@@ -53,7 +53,7 @@ pub record TruePermit (base : BaseLists) (day : Day) (front : History) (c : Call
 
 -- the limit is one of a segment that is there, and the first that fails the truck on it: it fails, with these
 -- two sides, and none that comes before it does, in the order of closed, height, width, length, gross weight,
--- groups of axles, and the spans by moment and shear
+-- groups of axles, tridem groups, and the spans by moment and shear
 pub record IsFirstLimit (base : BaseLists) (state : InForce) (truck : ℕ) (l : Limit) : Type 0 where
   pub there : segment_of l < length base.roads.segments
   pub first : FailsFirst base.roads state (truck_of base truck).load (segment_of l) l

@@ -43,7 +43,7 @@ pub trait OfficeCalls {
         requires { MayAsk (view self.old).who.base (machine_seen (view self.old)) asked }
         ensures { Answered (view self.old) asked result (view self.new) };
 
-    /// A permit, for what was found for the application at an earlier version, which the caller has seen.
+    /// Asks for a permit, for what was found for the application at an earlier version, which the caller has seen.
     fn submit(&mut self, application: Application, proposal: Proposal) -> Reply
         requires { MayAsk (view self.old).who.base (machine_seen (view self.old)) (call.Submit application proposal) }
         ensures { Answered (view self.old) (call.Submit application proposal) result (view self.new) }
@@ -54,7 +54,7 @@ pub trait OfficeCalls {
         })
     }
 
-    /// A permit, for what the office itself finds now.
+    /// Asks for a permit, for what the office itself finds now.
     fn held(&mut self, application: Application) -> Reply
         requires { MayAsk (view self.old).who.base (machine_seen (view self.old)) (call.Held application) }
         ensures { Answered (view self.old) (call.Held application) result (view self.new) }
@@ -62,28 +62,28 @@ pub trait OfficeCalls {
         self.ask(Call::Held { application })
     }
 
-    /// That a change is posted.
+    /// Asks that a change be posted.
     fn post(&mut self, change: Change) -> Reply
         ensures { Answered (view self.old) (call.Post change) result (view self.new) }
     {
         self.ask(Call::Post { change })
     }
 
-    /// That it is this day from now on.
+    /// Asks that it be this day from now on.
     fn day(&mut self, day: Day) -> Reply
         ensures { Answered (view self.old) (call.Day day) result (view self.new) }
     {
         self.ask(Call::Day { day })
     }
 
-    /// That a permit is given back.
+    /// Asks to give a permit back.
     fn surrender(&mut self, number: u32) -> Reply
         ensures { Answered (view self.old) (call.Surrender number) result (view self.new) }
     {
         self.ask(Call::Surrender { number })
     }
 
-    /// What a permit says.
+    /// Asks what a permit says.
     fn show(&mut self, number: u32) -> Reply
         ensures { Answered (view self.old) (call.Show number) result (view self.new) }
     {

@@ -121,9 +121,9 @@ abbrev pub is_wanting : Result (Unit {0}) RerouteRefusal → Bool
 is_wanting (Err NoMemory) = true
 is_wanting _ = false
 
--- What a desk does while it catches up: the history grows by entries of its caller alone, which recall nothing and set no day,
--- and are answered that memory was wanting only where the desk says so; what was handled before stays, and items come behind it,
--- of which those have ended whose last day is before the day of the office.
+-- What a desk does while it catches up. The history grows by entries of its caller alone, which recall nothing and set no day.
+-- One of them is answered that memory was wanting only where the desk says so. What was handled before stays, and items come
+-- behind it. Of these a permit has ended exactly where its last day is before the day of the office.
 pub record HasGoneOn (desk : Desk) (o : Opened) (r : Result (Unit {0}) RerouteRefusal) (next : Desk) (now : Opened) : Type 0 where
   pub own : List Entry
   pub grown : now ≡ record o { history = o.history ++ own }
