@@ -226,9 +226,17 @@ pub struct Trip {
     pub last: Day,
 }
 
+/// A new value for one of the limits of a segment, or for the rating of a span.
+#[derive(Clone, Copy)]
+pub struct Posting {
+    pub item: u32,
+    pub what: usize,
+    pub value: u32,
+}
+
 pub enum Order {
     Apply(Trip),
-    Post(u32, usize, u32),
+    Post(Posting),
     SetDay(Day),
     Surrender(u32),
     Show(u32),
@@ -262,6 +270,10 @@ pub fn read_day(data: &[u8]) -> Result<DayFile, Refusal> {
 impl DayFile {
     pub fn node_count(&self) -> usize {
         self.nodes.0.len()
+    }
+
+    pub fn actor_count(&self) -> usize {
+        self.actors.0.len()
     }
 
     fn take(&mut self, kind: &str, record: &[Field]) -> Or<()> {
@@ -347,7 +359,7 @@ impl DayFile {
             let actor = self.actors.known(actor, 2)?;
             let item = if what == RATING { &self.span_names } else { &self.segment_names }.known(item, 3)?;
             range(value, RANGES[what], 5)?;
-            return Ok((actor, Order::Post(item, what, value)));
+            return Ok((actor, Order::Post(Posting { item, what, value })));
         }
         if kind == "setday" {
             let to = day(record, 3)?;

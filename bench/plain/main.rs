@@ -1,9 +1,13 @@
 //! `check` and `day` of the permit office as plain Rust with its standard library alone, to measure the proved program against.
-//! It reads and writes the same bytes. A day of several actors is run on one thread, in the order of the file.
+//! It reads and writes the same bytes. What it finds of trucks and roads it keeps, for all threads.
+mod actors;
 mod files;
+mod finding;
+mod limits;
 mod office;
 mod records;
 mod report;
+mod search;
 mod text;
 mod truck;
 
@@ -11,32 +15,39 @@ use files::Refusal;
 use std::io::{Read, Write};
 use std::process::ExitCode;
 
-fn made(word: &str, data: &[u8]) -> Result<(Vec<u8>, Vec<u8>), Refusal> {
-    if word == "check" {
-        return Ok((report::report(&files::read_check(data)?), Vec::new()));
+const USAGE: u8 = 2;
+const CANNOT_READ: u8 = 3;
+const CANNOT_WRITE: u8 = 4;
+const CANNOT_TELL: u8 = 8;
+
+fn check(data: &[u8]) -> Result<u8, Refusal> {
+    let text = report::report(&files::read_check(data)?);
+    Ok(if std::io::stdout().write_all(&text).is_ok() { 0 } else { CANNOT_WRITE })
+}
+
+fn day(data: &[u8]) -> Result<u8, Refusal> {
+    let (told, is_written) = actors::run(files::read_day(data)?, std::io::stdout());
+    if !is_written {
+        return Ok(CANNOT_WRITE);
     }
-    Ok(office::Office::new(files::read_day(data)?).run())
+    Ok(if std::io::stderr().write_all(&told).is_ok() { 0 } else { CANNOT_TELL })
 }
 
 fn main() -> ExitCode {
-    let word = std::env::args().nth(1).unwrap_or_default();
-    if word != "check" && word != "day" {
-        println!("usage: plain check|day");
-        return ExitCode::from(2);
-    }
+    let command = match std::env::args().nth(1).as_deref() {
+        Some("check") => check,
+        Some("day") => day,
+        _ => {
+            println!("usage: plain check|day");
+            return ExitCode::from(USAGE);
+        }
+    };
     let mut data = Vec::new();
     if std::io::stdin().lock().read_to_end(&mut data).is_err() {
-        return ExitCode::from(3);
+        return ExitCode::from(CANNOT_READ);
     }
-    let (status, text, told) = match made(&word, &data) {
-        Ok((text, told)) => (0, text, told),
-        Err(Refusal(status, line)) => (status, format!("refused: {line}\n").into_bytes(), Vec::new()),
-    };
-    if std::io::stdout().lock().write_all(&text).is_err() {
-        return ExitCode::from(4);
-    }
-    if std::io::stderr().write_all(&told).is_err() {
-        return ExitCode::from(8);
-    }
-    ExitCode::from(status)
+    ExitCode::from(command(&data).unwrap_or_else(|Refusal(status, line)| {
+        let is_written = writeln!(std::io::stdout(), "refused: {line}").is_ok();
+        if is_written { status } else { CANNOT_WRITE }
+    }))
 }

@@ -38,14 +38,14 @@ fn probe(text: &mut Text, train: &Train, design: &Train, inches: u32, rating: u3
     let (moment, place) = train.moment_with_place(span);
     let (shear, lead, side) = train.shear(span);
     let most = design.effects(span);
-    text.pair("span ", inches).word("\nmoment ").frac(moment).word(" at ").signed(place.scale);
+    text.pair("span ", inches).word("\nmoment ").frac(moment.lowest()).word(" at ").signed(place.scale);
     text.word(" ").signed(place.lead).word(" ").signed(place.section).pair(" axle ", place.axle as u64 + 1);
     text.pair(" run ", place.run.0 as u64 + 1).pair("-", place.run.1 as u64 + 1);
-    text.word("\nshear ").frac(shear).word(" at ").signed(lead.into()).word(" ").word(side);
-    text.word("\nhs20 ").frac(most.moment).word(" ").frac(most.shear).pair("\nrating ", rating);
-    text.word(if !moment.is_within(rating, most.moment) {
+    text.word("\nshear ").frac(shear.lowest()).word(" at ").signed(lead.into()).word(" ").word(side);
+    text.word("\nhs20 ").frac(most.moment.lowest()).word(" ").frac(most.shear.lowest()).pair("\nrating ", rating);
+    text.word(if rating < moment.least_rating(most.moment) {
         " moment\n"
-    } else if !shear.is_within(rating, most.shear) {
+    } else if rating < shear.least_rating(most.shear) {
         " shear\n"
     } else {
         " fits\n"

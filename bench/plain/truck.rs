@@ -9,13 +9,14 @@ pub struct Frac {
 }
 
 impl Frac {
-    fn lowest(num: u128, den: u128) -> Frac {
-        let by = gcd(num, den);
-        Frac { num: num / by, den: den / by }
+    pub fn lowest(self) -> Frac {
+        let by = gcd(self.num, self.den);
+        Frac { num: self.num / by, den: self.den / by }
     }
 
-    pub fn is_within(self, rating: u32, of: Frac) -> bool {
-        1000 * self.num * of.den <= u128::from(rating) * of.num * self.den
+    /// The least rating in per mille of another fraction that this one is within.
+    pub fn least_rating(self, of: Frac) -> u32 {
+        (1000 * self.num * of.den).div_ceil(of.num * self.den).try_into().unwrap_or(u32::MAX)
     }
 }
 
@@ -213,13 +214,13 @@ impl Train {
 
     pub fn moment(&self, span: u64) -> Frac {
         let (most, over) = self.peak(span);
-        Frac::lowest(most as u128, 4 * over as u128 * u128::from(span))
+        Frac { num: most as u128, den: 4 * over as u128 * u128::from(span) }
     }
 
     /// The peak moment, and the first vertex that reaches it, by axle and then by run: all runs with one centre have the same.
     pub fn moment_with_place(&self, span: u64) -> (Frac, Place) {
         let (most, over) = self.peak(span);
-        (Frac::lowest(most as u128, 4 * over as u128 * u128::from(span)), self.place(span, most, over))
+        (Frac { num: most as u128, den: 4 * over as u128 * u128::from(span) }, self.place(span, most, over))
     }
 
     fn place(&self, span: u64, most: i128, over: i128) -> Place {
@@ -271,7 +272,7 @@ impl Train {
                 (most, lead, side) = (total, span as i64 - at(i) as i64, "right");
             }
         }
-        (Frac::lowest(u128::from(most), u128::from(span)), lead, side)
+        (Frac { num: u128::from(most), den: u128::from(span) }, lead, side)
     }
 
     pub fn effects(&self, span: u64) -> Effects {
