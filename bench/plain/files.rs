@@ -2,6 +2,7 @@
 use crate::records::{Field, Records};
 use crate::truck::{Train, Truck};
 use std::collections::HashMap;
+use std::hash::{BuildHasherDefault, Hasher};
 
 pub const WHATS: [&str; 8] = ["closed", "height", "width", "length", "gross", "allowance", "tridem", "rating"];
 pub const TRIDEM: usize = 6;
@@ -114,21 +115,47 @@ fn room(count: usize, most: usize, kind: &'static str) -> Or<()> {
     if count < most { Ok(()) } else { Err(Cause::Many(kind)) }
 }
 
-/// The names of a kind, with their numbers.
+/// The names of a kind, with their numbers. A name has at most 16 bytes, none of them zero, so it is kept as one number.
 #[derive(Default)]
-pub struct Names(HashMap<Vec<u8>, u32>);
+pub struct Names(HashMap<u128, u32, BuildHasherDefault<NameHasher>>);
+
+/// One product of both halves of a name: quicker than the usual hash, which is made for names of an enemy.
+#[derive(Default)]
+struct NameHasher(u64);
+
+impl Hasher for NameHasher {
+    fn finish(&self) -> u64 {
+        self.0
+    }
+
+    fn write(&mut self, _: &[u8]) {
+        unreachable!("names are numbers")
+    }
+
+    fn write_u128(&mut self, name: u128) {
+        let (low, high) = (name as u64 ^ 0x9e37_79b9_7f4a_7c15, (name >> 64) as u64 ^ 0xd1b5_4a32_d192_ed03);
+        let product = u128::from(low) * u128::from(high);
+        self.0 = product as u64 ^ (product >> 64) as u64;
+    }
+}
 
 impl Names {
+    fn key(name: &[u8]) -> u128 {
+        let mut bytes = [0; 16];
+        bytes[..name.len()].copy_from_slice(name);
+        u128::from_le_bytes(bytes)
+    }
+
     fn known(&self, name: &[u8], at: usize) -> Or<u32> {
-        self.0.get(name).map_or_else(|| bad(format!("unknown {at}")), |number| Ok(*number))
+        self.0.get(&Names::key(name)).map_or_else(|| bad(format!("unknown {at}")), |number| Ok(*number))
     }
 
     fn is_new(&self, name: &[u8]) -> Or<()> {
-        demand(!self.0.contains_key(name), "same")
+        demand(!self.0.contains_key(&Names::key(name)), "same")
     }
 
     fn add(&mut self, name: &[u8]) {
-        self.0.insert(name.to_vec(), self.0.len() as u32);
+        self.0.insert(Names::key(name), self.0.len() as u32);
     }
 }
 
@@ -159,11 +186,12 @@ fn read_all(data: &[u8], kinds: &[(&str, usize)], mut take: impl FnMut(&str, &[F
         return Err(Refusal(6, "bytes".into()));
     }
     let (mut records, mut record) = (Records::new(data), Vec::new());
-    let (mut row, mut ended) = (0, false);
+    let (mut row, mut ended, is_ascii) = (0, false, data.is_ascii());
     while records.read(&mut record) {
         row += 1;
         let mut judge = || {
-            demand(record.len() == 8 && record.iter().all(|field| std::str::from_utf8(field).is_ok()), "fields")?;
+            let is_text = is_ascii || record.iter().all(|field| std::str::from_utf8(field).is_ok());
+            demand(record.len() == 8 && is_text, "fields")?;
             let Some(&(kind, used)) = kinds.iter().find(|kind| kind.0.as_bytes() == &*record[0]) else {
                 return bad("kind");
             };

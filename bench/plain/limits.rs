@@ -66,6 +66,9 @@ struct Needs {
 pub struct Base {
     pub file: DayFile,
     design: Train,
+    /// The spans of all segments, one segment's behind another's, and where those of each segment begin.
+    spans: Vec<u32>,
+    spans_from: Vec<u16>,
     /// For each length of span that there is its column in the table of needs.
     columns: Vec<u16>,
     lengths: usize,
@@ -88,10 +91,20 @@ impl Base {
                 lengths += 1;
             }
         }
+        let (mut spans, mut spans_from) = (Vec::with_capacity(file.spans.len()), vec![0]);
+        for segment in &file.segments {
+            spans.extend_from_slice(&segment.spans);
+            spans_from.push(spans.len() as u16);
+        }
         let (trucks, lengths) = (file.trucks.len(), usize::from(lengths));
         let needs = (0..trucks * lengths).map(|_| OnceLock::new()).collect();
         let flags = (0..trucks * file.segments.len()).map(|_| AtomicU16::new(0)).collect();
-        Base { file, design: Train::new(HS20.to_vec()), columns, lengths, needs, flags }
+        Base { file, design: Train::new(HS20.to_vec()), spans, spans_from, columns, lengths, needs, flags }
+    }
+
+    fn spans(&self, segment: u32) -> &[u32] {
+        let (first, end) = (self.spans_from[segment as usize], self.spans_from[segment as usize + 1]);
+        &self.spans[first.into()..end.into()]
     }
 
     fn needs(&self, truck: u32, inches: u32) -> Needs {
@@ -132,7 +145,7 @@ impl Base {
         if it.tridem.as_ref().is_some_and(|group| group.weight > u64::from(tridem)) {
             return Some(Limit::Tridem);
         }
-        self.file.segments[segment as usize].spans.iter().find_map(|&span| {
+        self.spans(segment).iter().find_map(|&span| {
             let rating = posted.ratings[span as usize];
             let needs = self.needs(truck, self.file.spans[span as usize].inches);
             if rating < needs.moment {

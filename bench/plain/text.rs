@@ -10,23 +10,26 @@ impl Text {
         self
     }
 
-    pub fn number(&mut self, mut number: u128) -> &mut Text {
-        let (mut digits, mut at) = ([0; 39], 39);
-        while number > u128::from(u64::MAX) {
-            at -= 1;
-            digits[at] = b'0' + (number % 10) as u8;
+    pub fn number(&mut self, number: u128) -> &mut Text {
+        const TENS: u128 = 10_000_000_000_000_000_000;
+        if let Ok(low) = u64::try_from(number) {
+            return self.digits(low, 1);
+        }
+        self.number(number / TENS).digits((number % TENS) as u64, 19)
+    }
+
+    /// A number with so many digits or more.
+    fn digits(&mut self, mut number: u64, least: usize) -> &mut Text {
+        let count = least.max(number.checked_ilog10().unwrap_or(0) as usize + 1);
+        // room of a fixed size is made at once, where a slice of any size takes a call
+        let start = self.0.len();
+        self.0.extend_from_slice(&[b'0'; 20]);
+        for digit in self.0[start..start + count].iter_mut().rev() {
+            *digit = b'0' + (number % 10) as u8;
             number /= 10;
         }
-        let mut low = number as u64;
-        loop {
-            at -= 1;
-            digits[at] = b'0' + (low % 10) as u8;
-            low /= 10;
-            if low == 0 {
-                break;
-            }
-        }
-        self.word(&digits[at..])
+        self.0.truncate(start + count);
+        self
     }
 
     pub fn signed(&mut self, number: i128) -> &mut Text {
@@ -63,9 +66,9 @@ impl Text {
         }
         for (i, number) in numbers.iter().enumerate() {
             if i > 0 {
-                self.word(",");
+                self.0.push(b',');
             }
-            self.number(u128::from(number + more));
+            self.digits(u64::from(number + more), 1);
         }
         self
     }
