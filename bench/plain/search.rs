@@ -100,7 +100,7 @@ fn distances(ways: &Ways, from: u32, mut meets: impl FnMut(u32) -> bool) -> Vec<
     far
 }
 
-const LANDMARKS: usize = 8;
+const LANDMARKS: usize = 16;
 
 /// For each node how far each landmark is over all segments, and how far the node is from each landmark. What is farther
 /// than a number can say counts as the greatest number: no bound is too great by that.
