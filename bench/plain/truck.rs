@@ -56,17 +56,12 @@ pub struct Place {
     pub section: i128,
 }
 
-/// An axle's place, and the weight and the weight times place of the axles in front of it.
-#[derive(Clone, Copy)]
-struct Front {
-    place: f64,
-    weight: f64,
-    turn: f64,
-}
-
 pub struct Train {
     pub axles: Vec<(u64, u64)>,
-    fronts: Vec<Front>,
+    /// In floating point each axle's place, and the weight and the weight times place of the axles in front of it.
+    places: Vec<f64>,
+    fronts: Vec<f64>,
+    arms: Vec<f64>,
     /// The weight of the axles in front of each axle, and their weight times place.
     weights: Vec<u64>,
     turns: Vec<u64>,
@@ -79,13 +74,9 @@ impl Train {
             weights.push(weights[i] + weight);
             turns.push(turns[i] + weight * place);
         }
-        let front = |(i, axle): (usize, &(u64, u64))| Front {
-            place: axle.0 as f64,
-            weight: weights[i] as f64,
-            turn: turns[i] as f64,
-        };
-        let fronts = axles.iter().enumerate().map(front).collect();
-        Train { axles, fronts, weights, turns }
+        let places = axles.iter().map(|axle| axle.0 as f64).collect();
+        let [fronts, arms] = [&weights, &turns].map(|sums| sums.iter().map(|sum| *sum as f64).collect());
+        Train { axles, places, fronts, arms, weights, turns }
     }
 
     pub fn gross(&self) -> u64 {
@@ -134,7 +125,8 @@ impl Train {
     /// The runs of axles that can be exactly those on the span, as the train rolls over it.
     fn runs(&self, span: u64) -> Vec<(usize, usize)> {
         let (count, at) = (self.axles.len(), |k: usize| self.axles[k].0);
-        let (mut first, mut last, mut runs) = (0, 0, vec![(0, 0)]);
+        let (mut first, mut last, mut runs) = (0, 0, Vec::with_capacity(2 * count));
+        runs.push((0, 0));
         while first + 1 < count || last + 1 < count {
             if last + 1 < count && at(last + 1) - at(first) <= span {
                 last += 1;
@@ -174,23 +166,20 @@ impl Train {
         let mut runs = self.runs(span);
         let heaviest = (0..runs.len()).max_by_key(|at| self.run(runs[*at]).0).expect("a run");
         runs.swap(0, heaviest);
-        let (mut most, mut over, mut about) = (-1, 1, 0.0_f64);
+        let (mut most, mut over, mut about, mut room) = (-1, 1, 0.0_f64, [0.0; 32]);
         for run in runs {
             let (weight, turn) = self.run(run);
             // no moment is above the weight times a quarter of the span
             if (weight * span * span) as f64 <= about {
                 continue;
             }
-            let guesses = self.guesses(run, span);
-            let mut greatest = 0.0;
-            for guess in guesses.clone() {
-                greatest = if guess > greatest { guess } else { greatest };
-            }
+            let guesses = self.guesses(run, span, &mut room);
+            let greatest = greatest(guesses);
             if greatest < about {
                 continue;
             }
             about = if greatest * (1.0 - 1e-9) > about { greatest * (1.0 - 1e-9) } else { about };
-            for (axle, _) in (run.0..).zip(guesses).filter(|(_, guess)| *guess >= about) {
+            for (axle, _) in (run.0..).zip(guesses).filter(|(_, guess)| **guess >= about) {
                 let arm = i128::from(self.arm(weight, turn, axle, span));
                 let value = arm * arm - 4 * i128::from(weight * span) * i128::from(self.before(run.0, axle));
                 if value * over > most * i128::from(weight) {
@@ -202,14 +191,17 @@ impl Train {
     }
 
     /// For each axle of a run its value over the run's weight, about.
-    fn guesses(&self, run: (usize, usize), span: u64) -> impl Iterator<Item = f64> + Clone + '_ {
-        let (weight, turn) = self.run(run);
+    fn guesses<'a>(&self, (first, last): (usize, usize), span: u64, room: &'a mut [f64; 32]) -> &'a [f64] {
+        let (weight, turn) = self.run((first, last));
         let (heavy, inverse, far) = (weight as f64, 1.0 / weight as f64, 4.0 * span as f64);
-        let (reach, front) = ((weight * span) as f64 - turn as f64, self.fronts[run.0]);
-        self.fronts[run.0..=run.1].iter().map(move |axle| {
-            let arm = reach + heavy * axle.place;
-            arm * arm * inverse - far * ((axle.weight - front.weight) * axle.place - (axle.turn - front.turn))
-        })
+        let (reach, front, arm_of_front) = ((weight * span) as f64 - turn as f64, self.fronts[first], self.arms[first]);
+        let (places, fronts, arms) = (&self.places[first..=last], &self.fronts[first..=last], &self.arms[first..=last]);
+        let room = &mut room[..places.len()];
+        for (((guess, place), weight), turn) in room.iter_mut().zip(places).zip(fronts).zip(arms) {
+            let arm = reach + heavy * place;
+            *guess = arm * arm * inverse - far * ((weight - front) * place - (turn - arm_of_front));
+        }
+        room
     }
 
     pub fn moment(&self, span: u64) -> Frac {
@@ -278,6 +270,19 @@ impl Train {
     pub fn effects(&self, span: u64) -> Effects {
         Effects { moment: self.moment(span), shear: self.shear(span).0 }
     }
+}
+
+/// The greatest of some numbers: of four rows of them at a time, which needs no order.
+fn greatest(numbers: &[f64]) -> f64 {
+    let more = |a: f64, b: f64| if b > a { b } else { a };
+    let (mut rows, chunks) = ([0.0; 4], numbers.chunks_exact(4));
+    let rest = chunks.remainder().iter().copied().fold(0.0, more);
+    for chunk in chunks {
+        for (row, number) in rows.iter_mut().zip(chunk) {
+            *row = more(*row, *number);
+        }
+    }
+    rows.into_iter().fold(rest, more)
 }
 
 pub struct Truck {
