@@ -1,5 +1,6 @@
 //! `check` and `day` of the permit office as plain Rust with its standard library alone, to measure the proved program against.
-//! It reads and writes the same bytes. What it finds of trucks and roads it keeps, for all threads.
+//! It reads and writes the same bytes. Actors work at once, each on a thread of its own, and share all that is kept of trucks and
+//! roads; so a day of several actors may have another journal each time, as that of the proved program may.
 mod actors;
 mod files;
 mod finding;
