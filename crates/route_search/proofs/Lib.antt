@@ -12,3 +12,4 @@ pub mod Uniqueness
 pub mod Cuts
 pub mod Columns
 pub mod Staying
+pub mod Regions

@@ -7,6 +7,7 @@ use Rattle.std.proofs.lemmas.Bool.{cases_lt, false≢true}
 use Rattle.road_graph.specs.Roads.{Roads}
 use Rattle.road_graph.proofs.Places.{get-front, get-last, get-push_cases, get_within}
 use Rattle.route_search.specs.Walks.{AreReached}
+use Rattle.route_search.specs.declared.reach.Way.TheVariants.{Forth}
 use Rattle.route_search.specs.Reaching.{AreMarked}
 use Rattle.route_search.specs.Listing.{marked_below}
 
@@ -60,12 +61,12 @@ module _ (marked : List Bool) where
     | inr f ↦ below_rises k i j x y low (rw (below_false k f) at a) (rw (below_false k f) at b)
   ]
 
-marked_at : (marked : List Bool) (v : ℕ) → get_or marked v false ≡ true → slice_get marked v ≡ Some true
+pub marked_at : (marked : List Bool) (v : ℕ) → get_or marked v false ≡ true → slice_get marked v ≡ Some true
 marked_at [] v h = absurd (false≢true h)
 marked_at (b ∷ rest) zero h = ap (λ (x : Bool). Some x) h
 marked_at (b ∷ rest) (suc v) h = marked_at rest v h
 
-pub listed_all : (roads : Roads) (may : ℕ → Bool) (from : ℕ) (marked : List Bool) → AreMarked roads may from marked → AreReached roads.segments may from (marked_below marked (length roads.nodes))
+pub listed_all : (roads : Roads) (may : ℕ → Bool) (from : ℕ) (marked : List Bool) → AreMarked Forth roads may from marked → AreReached roads.segments may from (marked_below marked (length roads.nodes))
 listed_all roads may from marked h = record {
   rising = λ j k x y low a b. below_rises marked (length roads.nodes) j k x y low a b;
   sound = λ k v at. h.sound v (marked_at marked v (below_is marked (length roads.nodes) k v at).1);

@@ -6,6 +6,7 @@ use Rattle.road_graph.specs.Roads.{Roads}
 use Rattle.road_graph.proofs.Places.{get_some, get_within}
 use Rattle.route_search.specs.Walks.{AreNear, ArePotentials, AreReached, CanReach, IsPotential, IsRoute, IsWalk, every, flagged}
 use Rattle.route_search.specs.Heights.{AreLengths}
+use Rattle.route_search.specs.declared.reach.Way.TheVariants.{Forth}
 use Rattle.route_search.specs.Reaching.{AreMarked, IsMarked}
 use Rattle.route_search.specs.Founds.{IsCutFound, IsNoRoadFound, IsRouteFound, IsShortestRoute}
 
@@ -52,11 +53,11 @@ pub lengths_every : (roads : Roads) (flags : List Bool) (goal : ℕ) (ps : List 
 lengths_every roads flags goal ps e h = record { many = h.many; each = λ v p at. potential_every roads.segments flags e v goal p (h.each v p at) }
 
 pub cut_found : (roads : Roads) (passable flags : List Bool) (a b : ℕ) (all : List Bool) (numbers : List ℕ) → flags ≡ replicate (length roads.segments) true → (CanReach roads.segments (flagged passable) a b → ⊥)
-    → AreMarked roads (flagged flags) a all → IsMarked all b → AreReached roads.segments (flagged passable) a numbers → IsCutFound roads passable a b numbers
+    → AreMarked Forth roads (flagged flags) a all → IsMarked all b → AreReached roads.segments (flagged passable) a numbers → IsCutFound roads passable a b numbers
 cut_found roads passable flags a b all numbers e none h m r = record { walk = reach_every roads.segments flags e a b (h.sound b m); none = none; nodes = r }
 
 pub no_road_found : (roads : Roads) (flags : List Bool) (a b : ℕ) (all : List Bool) (numbers : List ℕ) → flags ≡ replicate (length roads.segments) true
-    → AreMarked roads (flagged flags) a all → slice_get all b ≡ Some false → AreReached roads.segments (flagged flags) a numbers → IsNoRoadFound roads a b numbers
+    → AreMarked Forth roads (flagged flags) a all → slice_get all b ≡ Some false → AreReached roads.segments (flagged flags) a numbers → IsNoRoadFound roads a b numbers
 no_road_found roads flags a b all numbers e h m r = record {
   none = λ reach. let k = h.complete b (reach_flagged roads.segments flags e a b reach) in bits (sym m ∙ k);
   nodes = reached_every roads.segments flags e a numbers r;

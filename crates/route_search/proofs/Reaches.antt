@@ -1,14 +1,18 @@
 -- The steps of the search for reached nodes.
-use Rattle.std.proofs.Common.{◌≡◌, ◌⊎◌, ◌+◌, ◌<◌, ◌≤◌, ◌∷◌, ◌++◌, [], ℕ, suc, zero, List, Bool, true, false, Some, length, set, refl, ap, sym, subst, inl, inr, arith, ◌∙◌, length-set, length-append, replicate}
+use Rattle.std.proofs.Common.{◌≡◌, ◌⊎◌, ◌+◌, ◌<◌, ◌≤◌, ◌∷◌, ◌++◌, [], ℕ, suc, zero, List, Bool, true, false, Some, length, set, refl, ap, sym, subst, inl, inr, arith, ◌∙◌, length-set, length-append, map, replicate}
 use Rattle.std.proofs.lemmas.List.{length-replicate}
-use Rattle.std.specs.Prelude.{slice_get, Contains}
+use Rattle.std.specs.Prelude.{slice_get, option_map, Contains}
 use Rattle.std.proofs.lemmas.List.Elements.{Contains-append_left, Contains-push, Contains-push_cases}
 use Rattle.std.proofs.lemmas.Bool.{cases_eq, false≢true}
 use Rattle.road_graph.specs.declared.segment.Segment.{Segment}
-use Rattle.road_graph.specs.Roads.{IsOutgoing, IsRoads, Roads}
+use Rattle.road_graph.specs.declared.segment.Arrival.{Arrival}
+use Rattle.road_graph.specs.Roads.{IsIncoming, IsRoads, Roads}
+use Rattle.std.proofs.lemmas.Option.{slice_get-map}
 use Rattle.road_graph.proofs.Places.{get-push_cases, get-set_other, get-set_same, get_within}
-use Rattle.route_search.specs.Walks.{CanReach, IsWalk}
-use Rattle.route_search.specs.Reaching.{AreMarked, IsMarked, IsMarkedToo, IsReaching, IsSpread, IsSpreading, to_do}
+use Rattle.route_search.specs.declared.reach.Way.{Way}
+use Rattle.route_search.specs.declared.reach.Way.TheVariants.{Back, Forth}
+use Rattle.route_search.specs.Walks.{CanReach, IsAmong, IsWalk}
+use Rattle.route_search.specs.Reaching.{AreMarked, IsMarked, IsMarkedToo, IsReaching, IsSpread, IsSpreading, Leads, begin_of, end_of, to_do}
 
 pub segment_is : (s t : Segment) → Some s ≡ Some t → s ≡ t
 segment_is s t e = cc
@@ -25,6 +29,37 @@ walk_end segments may a b (j ∷ path) i s walk at may1 from = let (t, here, may
 
 pub reach_more : (segments : List Segment) (may : ℕ → Bool) (a b i : ℕ) (s : Segment) → CanReach segments may a b → slice_get segments i ≡ Some s → may i ≡ true → s.from ≡ b → CanReach segments may a s.to
 reach_more segments may a b i s (path, walk) at may1 from = (path ++ i ∷ [], walk_end segments may a b path i s walk at may1 from)
+
+-- a node more, by a segment from one that is reached
+leads_more : (way : Way) (segments : List Segment) (may : ℕ → Bool) (root b i : ℕ) (s : Segment) → Leads way segments may root b → slice_get segments i ≡ Some s → may i ≡ true → begin_of way s ≡ b → Leads way segments may root (end_of way s)
+leads_more Forth segments may root b i s h at may1 begin = reach_more segments may root b i s h at may1 begin
+leads_more Back segments may root b i s (path, walk) at may1 begin = (i ∷ path, (s, at, may1, refl, subst (λ (v : ℕ). IsWalk segments may v root path) (sym begin) walk))
+
+leads_none : (way : Way) (segments : List Segment) (may : ℕ → Bool) (root : ℕ) → Leads way segments may root root
+leads_none Forth segments may root = ([], refl)
+leads_none Back segments may root = ([], refl)
+
+-- from a marked node walks lead to marked nodes, where the segments of each marked node do
+module _ (roads : Roads) (may : ℕ → Bool) (marked : List Bool) where
+  along : (path : List ℕ) (a b : ℕ) → ((v : ℕ) → IsMarked marked v → IsSpread Forth roads may marked v) → IsMarked marked a → IsWalk roads.segments may a b path → IsMarked marked b
+  along [] a b spread m walk = subst (IsMarked marked) walk m
+  along (i ∷ path) a b spread m walk = let (s, at, may1, begin, rest) = walk in along path s.to b spread (spread a m i s at may1 begin) rest
+
+  against : (path : List ℕ) (a b : ℕ) → ((v : ℕ) → IsMarked marked v → IsSpread Back roads may marked v) → IsMarked marked b → IsWalk roads.segments may a b path → IsMarked marked a
+  against [] a b spread m walk = subst (IsMarked marked) (sym walk) m
+  against (i ∷ path) a b spread m walk =
+      let (s, at, may1, begin, rest) = walk in
+      subst (IsMarked marked) begin (spread s.to (against path s.to b spread m rest) i s at may1 refl)
+
+  led : (way : Way) (root v : ℕ) → ((u : ℕ) → IsMarked marked u → IsSpread way roads may marked u) → IsMarked marked root → Leads way roads.segments may root v → IsMarked marked v
+  led Forth root v spread m (path, walk) = along path root v spread m walk
+  led Back root v spread m (path, walk) = against path v root spread m walk
+
+-- the arrivals at a node have the numbers of all segments into it
+pub arrivals_all : (segments : List Segment) (node : ℕ) (arrivals : List Arrival) → IsIncoming segments node arrivals → (i : ℕ) (s : Segment) → slice_get segments i ≡ Some s → s.to ≡ node → IsAmong (map (λ (a : Arrival). a.segment) arrivals) i
+arrivals_all segments node arrivals all i s at end =
+    let (k, a, there, is) = all.complete i s at end in
+    (k, slice_get-map (λ (a : Arrival). a.segment) arrivals k ∙ ap (option_map (λ (a : Arrival). a.segment)) there ∙ ap (λ (n : ℕ). Some n) is)
 
 to_do-set : (ms : List Bool) (u : ℕ) → slice_get ms u ≡ Some false → to_do (set ms u true) + 1 ≡ to_do ms
 to_do-set [] u h = cc
@@ -67,9 +102,9 @@ module _ (marked : List Bool) (waiting : List ℕ) (now : List Bool) (queue : Li
   mark_less (inl w) = rw (w.1, w.2) (omega arith)
   mark_less (inr w) = rw (w.1, w.2) (omega (arith, to_do-set marked node w.0, length-append waiting (node ∷ [])))
 
-module _ (roads : Roads) (may : ℕ → Bool) (from : ℕ) (ok : IsRoads roads) where
-  module _ (marked : List Bool) (waiting : List ℕ) (node : ℕ) (tried : List ℕ) (i : ℕ) (h : IsSpreading roads may from marked waiting node tried) where
-    pub spreading_skip : may i ≡ false → IsSpreading roads may from marked waiting node (tried ++ i ∷ [])
+module _ (way : Way) (roads : Roads) (may : ℕ → Bool) (from : ℕ) (ok : IsRoads roads) where
+  module _ (marked : List Bool) (waiting : List ℕ) (node : ℕ) (tried : List ℕ) (i : ℕ) (h : IsSpreading way roads may from marked waiting node tried) where
+    pub spreading_skip : may i ≡ false → IsSpreading way roads may from marked waiting node (tried ++ i ∷ [])
     spreading_skip may0 = record {
       reaching = h.reaching;
       here = h.here;
@@ -79,54 +114,54 @@ module _ (roads : Roads) (may : ℕ → Bool) (from : ℕ) (ok : IsRoads roads) 
       ];
     }
 
-    pub spreading_more : (now : List Bool) (queue : List ℕ) (s : Segment) → slice_get roads.segments i ≡ Some s → may i ≡ true → s.from ≡ node → IsMarkedToo marked waiting now queue s.to → IsSpreading roads may from now queue node (tried ++ i ∷ [])
+    pub spreading_more : (now : List Bool) (queue : List ℕ) (s : Segment) → slice_get roads.segments i ≡ Some s → may i ≡ true → begin_of way s ≡ node → IsMarkedToo marked waiting now queue (end_of way s) → IsSpreading way roads may from now queue node (tried ++ i ∷ [])
     spreading_more now queue s there may1 begin w =
         let r = h.reaching in
         record {
           reaching = record {
-            many = mark_length marked waiting now queue s.to w ∙ r.many;
-            start = still_marked marked waiting now queue s.to w from r.start;
-            sound = λ v m. elim (was_marked marked waiting now queue s.to w v m) [
-              | inl k ↦ rw k.0 (reach_more roads.segments may from node i s (r.sound node h.here) there may1 begin)
+            many = mark_length marked waiting now queue (end_of way s) w ∙ r.many;
+            start = still_marked marked waiting now queue (end_of way s) w from r.start;
+            sound = λ v m. elim (was_marked marked waiting now queue (end_of way s) w v m) [
+              | inl k ↦ rw k.0 (leads_more way roads.segments may from node i s (r.sound node h.here) there may1 begin)
               | inr k ↦ r.sound v k
             ];
-            ranged = λ v c. elim (was_waiting marked waiting now queue s.to w v c) [
-              | inl k ↦ rw k (now_marked marked waiting now queue s.to w)
-              | inr k ↦ still_marked marked waiting now queue s.to w v (r.ranged v k)
+            ranged = λ v c. elim (was_waiting marked waiting now queue (end_of way s) w v c) [
+              | inl k ↦ rw k (now_marked marked waiting now queue (end_of way s) w)
+              | inr k ↦ still_marked marked waiting now queue (end_of way s) w v (r.ranged v k)
             ];
-            waits = λ v m. elim (was_marked marked waiting now queue s.to w v m) [
+            waits = λ v m. elim (was_marked marked waiting now queue (end_of way s) w v m) [
               | inl k ↦ inr (inl k.1)
               | inr k ↦ elim (r.waits v k) [
                 | inl is ↦ inl is
                 | inr rest ↦ elim rest [
-                  | inl c ↦ inr (inl (still_waits marked waiting now queue s.to w v c))
-                  | inr done ↦ inr (inr (λ j t at2 may2 begin2. still_marked marked waiting now queue s.to w t.to (done j t at2 may2 begin2)))
+                  | inl c ↦ inr (inl (still_waits marked waiting now queue (end_of way s) w v c))
+                  | inr done ↦ inr (inr (λ j t at2 may2 begin2. still_marked marked waiting now queue (end_of way s) w (end_of way t) (done j t at2 may2 begin2)))
                 ]
               ]
             ];
           };
-          here = still_marked marked waiting now queue s.to w node h.here;
+          here = still_marked marked waiting now queue (end_of way s) w node h.here;
           tried_all = λ k j t at at2 may2. elim (get-push_cases tried i k j at) [
-            | inl u ↦ still_marked marked waiting now queue s.to w t.to (h.tried_all k j t u at2 may2)
-            | inr u ↦ (let same : t ≡ s = segment_is t s (sym at2 ∙ ap (slice_get roads.segments) u.1 ∙ there) in rw same (now_marked marked waiting now queue s.to w))
+            | inl u ↦ still_marked marked waiting now queue (end_of way s) w (end_of way t) (h.tried_all k j t u at2 may2)
+            | inr u ↦ (let same : t ≡ s = segment_is t s (sym at2 ∙ ap (slice_get roads.segments) u.1 ∙ there) in rw same (now_marked marked waiting now queue (end_of way s) w))
           ];
         }
 
-  pub spread_done : (marked : List Bool) (waiting : List ℕ) (node : ℕ) (numbers : List ℕ) → IsOutgoing roads.segments node numbers → IsSpreading roads may from marked waiting node numbers → IsReaching roads may from marked waiting
+  pub spread_done : (marked : List Bool) (waiting : List ℕ) (node : ℕ) (numbers : List ℕ) → ((i : ℕ) (s : Segment) → slice_get roads.segments i ≡ Some s → begin_of way s ≡ node → IsAmong numbers i) → IsSpreading way roads may from marked waiting node numbers → IsReaching way roads may from marked waiting
   spread_done marked waiting node numbers all h = record {
     many = h.reaching.many;
     start = h.reaching.start;
     sound = h.reaching.sound;
     ranged = h.reaching.ranged;
     waits = λ v m. elim (h.reaching.waits v m) [
-      | inl is ↦ inr (inr (λ i s at may1 begin. let (k, place) = all.complete i s at (begin ∙ is) in h.tried_all k i s place at may1))
+      | inl is ↦ inr (inr (λ i s at may1 begin. let (k, place) = all i s at (begin ∙ is) in h.tried_all k i s place at may1))
       | inr rest ↦ inr rest
     ];
   }
 
-  pub reaching_popped : (marked : List Bool) (waiting rest : List ℕ) (node : ℕ) → waiting ≡ rest ++ node ∷ [] → IsReaching roads may from marked waiting → IsSpreading roads may from marked rest node []
+  pub reaching_popped : (marked : List Bool) (waiting rest : List ℕ) (node : ℕ) → waiting ≡ rest ++ node ∷ [] → IsReaching way roads may from marked waiting → IsSpreading way roads may from marked rest node []
   reaching_popped marked waiting rest node e h0 =
-      let h = subst (λ (l : List ℕ). IsReaching roads may from marked l) e h0 in
+      let h = subst (λ (l : List ℕ). IsReaching way roads may from marked l) e h0 in
       record {
         reaching = record {
           many = h.many;
@@ -145,29 +180,25 @@ module _ (roads : Roads) (may : ℕ → Bool) (from : ℕ) (ok : IsRoads roads) 
         tried_all = λ k i s at. absurd cc;
       }
 
-  pub reaching_done : (marked : List Bool) → IsReaching roads may from marked [] → AreMarked roads may from marked
+  pub reaching_done : (marked : List Bool) → IsReaching way roads may from marked [] → AreMarked way roads may from marked
   reaching_done marked h = record {
     many = h.many;
     sound = h.sound;
-    complete = λ v reach. along reach.0 from v h.start reach.1;
+    complete = λ v reach. led roads may marked way from v spread h.start reach;
   }
     where
-      spread : (v : ℕ) → IsMarked marked v → IsSpread roads may marked v
+      spread : (v : ℕ) → IsMarked marked v → IsSpread way roads may marked v
       spread v m = elim (h.waits v m) [
         | inl bad ↦ absurd bad
         | inr k ↦ elim k [ inl c ↦ (let (n, low, is) = c in absurd (omega (arith, low))) | inr done ↦ done ]
       ]
 
-      along : (path : List ℕ) (a b : ℕ) → IsMarked marked a → IsWalk roads.segments may a b path → IsMarked marked b
-      along [] a b m walk = subst (IsMarked marked) walk m
-      along (i ∷ path) a b m walk = let (s, at, may1, begin, rest) = walk in along path s.to b (spread a m i s at may1 begin) rest
-
-  pub reaching_first : (marked now : List Bool) (queue : List ℕ) → from < length roads.nodes → marked ≡ replicate (length roads.nodes) false → IsMarkedToo marked [] now queue from → IsReaching roads may from now queue
+  pub reaching_first : (marked now : List Bool) (queue : List ℕ) → from < length roads.nodes → marked ≡ replicate (length roads.nodes) false → IsMarkedToo marked [] now queue from → IsReaching way roads may from now queue
   reaching_first marked now queue there e w = record {
     many = mark_length marked [] now queue from w ∙ rw e (length-replicate (length roads.nodes) false);
     start = now_marked marked [] now queue from w;
     sound = λ v m. elim (was_marked marked [] now queue from w v m) [
-      | inl k ↦ ([], sym k.0)
+      | inl k ↦ rw k.0 (leads_none way roads.segments may from)
       | inr k ↦ absurd (none v k)
     ];
     ranged = λ v c. elim (was_waiting marked [] now queue from w v c) [

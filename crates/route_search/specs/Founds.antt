@@ -1,5 +1,5 @@
 -- What a search answers. The three cases exclude one another.
-use Rattle.std.specs.Prelude.{◌≡◌, ℕ, ◌<◌, Bool, List, length, Option, Some, slice_get}
+use Rattle.std.specs.Prelude.{◌≡◌, ℕ, ◌<◌, Bool, List, length, Option, Some, None, slice_get}
 use Rattle.road_graph.specs.Roads.{Roads}
 use Rattle.route_search.specs.declared.found.Found.{Found}
 use Rattle.route_search.specs.declared.found.Found.TheVariants.{Cut, NoRoad, Route}
@@ -49,6 +49,11 @@ abbrev pub IsShortest : Roads → List Bool → ℕ → ℕ → Shortest → Typ
 IsShortest roads passable a b (shortest.Route segments feet) = IsShortestRoute roads passable a b segments feet
 IsShortest roads passable a b (shortest.Cut reached) = IsCutFound roads passable a b reached
 IsShortest roads passable a b (shortest.NoRoad reached) = IsNoRoadFound roads a b reached
+
+-- the route from a to b, or none, where no passable walk leads there
+abbrev pub IsRouteOrNone : Roads → List Bool → ℕ → ℕ → Option Shortest → Type 0
+IsRouteOrNone roads passable a b None = CanReach roads.segments (flagged passable) a b → ⊥
+IsRouteOrNone roads passable a b (Some found) = IsShortest roads passable a b found
 
 -- the segments of a route, and the nodes that are reached, are there
 abbrev pub IsInRange : Roads → Found → Type 0

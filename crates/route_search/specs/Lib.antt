@@ -9,3 +9,4 @@ pub mod Buckets
 pub use Rattle.road_graph.specs.Roads
 pub mod Staying
 pub mod Heights
+pub mod Regions

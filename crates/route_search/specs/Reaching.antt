@@ -2,7 +2,24 @@
 use Rattle.std.specs.Prelude.{◌≡◌, ◌⊎◌, ℕ, ◌+◌, ◌≤◌, ◌++◌, ◌∷◌, [], Bool, true, false, List, length, slice_get, slice_set, Some, Contains}
 use Rattle.road_graph.specs.declared.segment.Segment.{Segment}
 use Rattle.road_graph.specs.Roads.{Roads}
+use Rattle.route_search.specs.declared.reach.Way.{Way}
+use Rattle.route_search.specs.declared.reach.Way.TheVariants.{Back, Forth}
 use Rattle.route_search.specs.Walks.{CanReach, flagged}
+
+-- where a segment is entered that is taken in a direction
+abbrev pub begin_of : Way → Segment → ℕ
+begin_of Forth s = s.from
+begin_of Back s = s.to
+
+-- where it is left
+abbrev pub end_of : Way → Segment → ℕ
+end_of Forth s = s.to
+end_of Back s = s.from
+
+-- some walk leads from the root to a node, or, against the direction, from the node to the root
+abbrev pub Leads : Way → List Segment → (ℕ → Bool) → ℕ → ℕ → Type 0
+Leads Forth segments may root v = CanReach segments may root v
+Leads Back segments may root v = CanReach segments may v root
 
 -- how many nodes are not marked: each mark takes one from it
 abbrev pub one_unless : Bool → ℕ
@@ -17,46 +34,46 @@ to_do (b ∷ rest) = one_unless b + to_do rest
 abbrev pub IsMarked : List Bool → ℕ → Type 0
 IsMarked marked v = slice_get marked v ≡ Some true
 
--- the marked nodes are those that walks reach
-pub record AreMarked (roads : Roads) (may : ℕ → Bool) (from : ℕ) (marked : List Bool) : Type 0 where
+-- the marked nodes are those that walks reach, or those from which walks come
+pub record AreMarked (way : Way) (roads : Roads) (may : ℕ → Bool) (root : ℕ) (marked : List Bool) : Type 0 where
   pub many : length marked ≡ length roads.nodes
-  pub sound : (v : ℕ) → IsMarked marked v → CanReach roads.segments may from v
-  pub complete : (v : ℕ) → CanReach roads.segments may from v → IsMarked marked v
+  pub sound : (v : ℕ) → IsMarked marked v → Leads way roads.segments may root v
+  pub complete : (v : ℕ) → Leads way roads.segments may root v → IsMarked marked v
 
 -- node is marked too, and waits if it was not
 abbrev pub IsMarkedToo : List Bool → List ℕ → List Bool → List ℕ → ℕ → Type 0
 IsMarkedToo marked waiting now queue node =
     (IsMarked marked node × (now ≡ marked) × (queue ≡ waiting)) ⊎ ((slice_get marked node ≡ Some false) × (now ≡ slice_set marked node true) × (queue ≡ waiting ++ node ∷ []))
 
--- the segments from v lead to marked nodes
-abbrev pub IsSpread : Roads → (ℕ → Bool) → List Bool → ℕ → Type 0
-IsSpread roads may marked v = (i : ℕ) (s : Segment) → slice_get roads.segments i ≡ Some s → may i ≡ true → s.from ≡ v → IsMarked marked s.to
+-- the segments from v, or against the direction those into v, lead to marked nodes
+abbrev pub IsSpread : Way → Roads → (ℕ → Bool) → List Bool → ℕ → Type 0
+IsSpread way roads may marked v = (i : ℕ) (s : Segment) → slice_get roads.segments i ≡ Some s → may i ≡ true → begin_of way s ≡ v → IsMarked marked (end_of way s)
 
 -- the marked nodes are reached, the start among them, and each of them, but those of `but`, waits or has been spread from
-pub record IsReachingBut (roads : Roads) (may : ℕ → Bool) (from : ℕ) (marked : List Bool) (waiting : List ℕ) (but : ℕ → Type 0) : Type 0 where
+pub record IsReachingBut (way : Way) (roads : Roads) (may : ℕ → Bool) (root : ℕ) (marked : List Bool) (waiting : List ℕ) (but : ℕ → Type 0) : Type 0 where
   pub many : length marked ≡ length roads.nodes
-  pub start : IsMarked marked from
-  pub sound : (v : ℕ) → IsMarked marked v → CanReach roads.segments may from v
+  pub start : IsMarked marked root
+  pub sound : (v : ℕ) → IsMarked marked v → Leads way roads.segments may root v
   pub ranged : (v : ℕ) → Contains waiting v → IsMarked marked v
-  pub waits : (v : ℕ) → IsMarked marked v → but v ⊎ (Contains waiting v ⊎ IsSpread roads may marked v)
+  pub waits : (v : ℕ) → IsMarked marked v → but v ⊎ (Contains waiting v ⊎ IsSpread way roads may marked v)
 
 -- the same of every marked node
-abbrev pub IsReaching : Roads → (ℕ → Bool) → ℕ → List Bool → List ℕ → Type 0
-IsReaching roads may from marked waiting = IsReachingBut roads may from marked waiting (λ v. ⊥)
+abbrev pub IsReaching : Way → Roads → (ℕ → Bool) → ℕ → List Bool → List ℕ → Type 0
+IsReaching way roads may root marked waiting = IsReachingBut way roads may root marked waiting (λ v. ⊥)
 
 -- the same but for a node, of which the segments of these numbers are tried
-pub record IsSpreading (roads : Roads) (may : ℕ → Bool) (from : ℕ) (marked : List Bool) (waiting : List ℕ) (node : ℕ) (tried : List ℕ) : Type 0 where
-  pub reaching : IsReachingBut roads may from marked waiting (λ v. v ≡ node)
+pub record IsSpreading (way : Way) (roads : Roads) (may : ℕ → Bool) (root : ℕ) (marked : List Bool) (waiting : List ℕ) (node : ℕ) (tried : List ℕ) : Type 0 where
+  pub reaching : IsReachingBut way roads may root marked waiting (λ v. v ≡ node)
   pub here : IsMarked marked node
-  pub tried_all : (k i : ℕ) (s : Segment) → slice_get tried k ≡ Some i → slice_get roads.segments i ≡ Some s → may i ≡ true → IsMarked marked s.to
+  pub tried_all : (k i : ℕ) (s : Segment) → slice_get tried k ≡ Some i → slice_get roads.segments i ≡ Some s → may i ≡ true → IsMarked marked (end_of way s)
 
 -- the marking over the flagged segments goes on with these marks and these nodes that wait
-abbrev pub IsReachingOver : Roads → List Bool → ℕ → List Bool → List ℕ → Type 0
-IsReachingOver roads passable from marked waiting = IsReaching roads (flagged passable) from marked waiting
+abbrev pub IsReachingOver : Way → Roads → List Bool → ℕ → List Bool → List ℕ → Type 0
+IsReachingOver way roads passable root marked waiting = IsReaching way roads (flagged passable) root marked waiting
 
 -- the same but for a node, none of whose segments is tried yet
-abbrev pub IsSpreadingOver : Roads → List Bool → ℕ → List Bool → List ℕ → ℕ → Type 0
-IsSpreadingOver roads passable from marked waiting node = IsSpreading roads (flagged passable) from marked waiting node []
+abbrev pub IsSpreadingOver : Way → Roads → List Bool → ℕ → List Bool → List ℕ → ℕ → Type 0
+IsSpreadingOver way roads passable root marked waiting node = IsSpreading way roads (flagged passable) root marked waiting node []
 
 -- no more is left to do with these marks and these nodes that wait than with those before
 abbrev pub IsNoMoreToMark : List Bool → List ℕ → List Bool → List ℕ → Type 0

@@ -3,14 +3,14 @@
 ghost use Rattle.std.specs.Prelude.{◌≡◌, ◌<◌, length, IfOk};
 ghost use Rattle.road_graph.specs.Roads.{IsRoads};
 ghost use Rattle.route_search.specs.Walks.{CanReach, flagged};
-ghost use Rattle.route_search.specs.Founds.{AreNearOver, ArePotentialsOver, IsFound, IsShortest};
+ghost use Rattle.route_search.specs.Founds.{AreNearOver, ArePotentialsOver, IsFound, IsRouteOrNone, IsShortest};
 ghost use Rattle.route_search.specs.Heights.{AreHeights};
 
 use crate::follow::follow;
 use crate::found::{Found, Potentials};
 use crate::heights::Heights;
 use crate::query::Query;
-use crate::reach::{listed, reach};
+use crate::reach::{Way, listed, reach};
 use crate::settle::{settle, settle_all};
 use crate::shortest::Shortest;
 use crate::waiting::Waiting;
@@ -72,15 +72,8 @@ pub fn shortest_walk(
     requires to { to < length network.now.nodes }
     ensures { IfOk result (IsShortest network.now passable.now from to) }
 {
-    let query = Query {
-        network,
-        passable,
-        start: Some(from),
-        goal: to,
-        heights,
-    };
-    let list = settle(alloc, &query)?;
-    Ok(shown(alloc, network, passable, &list, from, to)?)
+    let found = shortest_route(alloc, network, passable, heights, from, to)?;
+    Ok(or_why(alloc, network, passable, from, to, found)?)
 }
 
 /// The same, where the potentials are known. `NoMemory` where no memory was left.
@@ -98,8 +91,53 @@ pub fn shortest_walk_by(
     requires potentials { ArePotentialsOver network.now passable.now to potentials.now }
     ensures { IfOk result (IsShortest network.now passable.now from to) }
 {
+    let found = shortest_route_by(alloc, network, passable, potentials, from, to)?;
+    Ok(or_why(alloc, network, passable, from, to, found)?)
+}
+
+/// The route that `shortest_walk` answers, or `None` where no passable walk leads there. `NoMemory` where no memory was left.
+pub fn shortest_route(
+    alloc: Global,
+    network: &Network,
+    passable: &[bool],
+    heights: &Heights,
+    from: u32,
+    to: u32,
+) -> Result<Option<Shortest>, NoMemory>
+    requires flags { length passable.now ≡ length network.now.segments }
+    requires heights { AreHeights network.now.segments heights.now }
+    requires from { from < length network.now.nodes }
+    requires to { to < length network.now.nodes }
+    ensures { IfOk result (IsRouteOrNone network.now passable.now from to) }
+{
+    let query = Query {
+        network,
+        passable,
+        start: Some(from),
+        goal: to,
+        heights,
+    };
+    let list = settle(alloc, &query)?;
+    Ok(route_shown(alloc, network, passable, &list, from, to)?)
+}
+
+/// The same, where the potentials are known. `NoMemory` where no memory was left.
+pub fn shortest_route_by(
+    alloc: Global,
+    network: &Network,
+    passable: &[bool],
+    potentials: &Potentials,
+    from: u32,
+    to: u32,
+) -> Result<Option<Shortest>, NoMemory>
+    requires flags { length passable.now ≡ length network.now.segments }
+    requires from { from < length network.now.nodes }
+    requires to { to < length network.now.nodes }
+    requires potentials { ArePotentialsOver network.now passable.now to potentials.now }
+    ensures { IfOk result (IsRouteOrNone network.now passable.now from to) }
+{
     network.lists_are_in_order();
-    Ok(shown(alloc, network, passable, potentials.as_slice(), from, to)?)
+    Ok(route_shown(alloc, network, passable, potentials.as_slice(), from, to)?)
 }
 
 // The potentials first, and then what they show.
@@ -116,7 +154,9 @@ fn find(
     ensures { IfOk result (IsFound network.now passable.now from to) }
 {
     let list = settle_all(alloc, network, passable, to)?;
-    match shown(alloc, network, passable, &list, from, to)? {
+    let route = route_shown(alloc, network, passable, &list, from, to)?;
+    let found = or_why(alloc, network, passable, from, to, route)?;
+    match found {
         Shortest::Route { segments, length } => Ok(Found::Route {
             segments,
             length,
@@ -127,32 +167,53 @@ fn find(
     }
 }
 
-// The route that potentials show, or why there is none.
-fn shown(
+// The route that potentials show, or none.
+fn route_shown(
     alloc: Global,
     network: &Network,
     passable: &[bool],
     potentials: &[Option<u64>],
     from: u32,
     to: u32,
-) -> Result<Shortest, AllocError>
+) -> Result<Option<Shortest>, AllocError>
     requires roads { IsRoads network.now }
     requires flags { length passable.now ≡ length network.now.segments }
     requires from { from < length network.now.nodes }
     requires to { to < length network.now.nodes }
     requires potentials { AreNearOver network.now passable.now from to potentials.now }
-    ensures { IfOk result (IsShortest network.now passable.now from to) }
+    ensures { IfOk result (IsRouteOrNone network.now passable.now from to) }
 {
     let nearest = potentials[from as usize];
     match nearest {
         Some(length) => {
             let start = Waiting { length, node: from };
             let segments = follow(alloc, network, passable, potentials, start, to)?;
-            Ok(Shortest::Route {
+            Ok(Some(Shortest::Route {
                 segments: Numbers::of(segments),
                 length,
-            })
+            }))
         }
+        None => Ok(None),
+    }
+}
+
+// What was found, or why nothing was.
+fn or_why(
+    alloc: Global,
+    network: &Network,
+    passable: &[bool],
+    from: u32,
+    to: u32,
+    found: Option<Shortest>,
+) -> Result<Shortest, AllocError>
+    requires flags { length passable.now ≡ length network.now.segments }
+    requires from { from < length network.now.nodes }
+    requires to { to < length network.now.nodes }
+    requires found { IsRouteOrNone network.now passable.now from to found }
+    ensures { IfOk result (IsShortest network.now passable.now from to) }
+{
+    match found {
+        Some(route) => Ok(route),
         None => no_route(alloc, network, passable, from, to),
     }
 }
@@ -172,9 +233,9 @@ fn no_route(
     ensures { IfOk result (IsShortest network.now passable.now from to) }
 {
     let open = vec![in alloc; true; network.segments() as usize]?;
-    let all = reach(alloc, network, open.as_slice(), from)?;
+    let all = reach(alloc, network, open.as_slice(), Way::Forth, from)?;
     if all[to as usize] {
-        let marked = reach(alloc, network, passable, from)?;
+        let marked = reach(alloc, network, passable, Way::Forth, from)?;
         let reached = listed(alloc, network, passable, from, marked.as_slice())?;
         Ok(Shortest::Cut {
             reached: Numbers::of(reached),

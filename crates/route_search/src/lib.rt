@@ -10,8 +10,12 @@
 //! `shortest_walk` answers the same route without the potentials. It leaves out nodes by which no walk from the start can be
 //! as short as one that is known, as heights of the nodes show (Goldberg and Harrelson, "Computing the shortest path: A*
 //! search meets graph theory", 2005). How much is left out is speed alone.
+//!
+//! A `Region` keeps what is reached from a node. From each node that passable walks join to it, there and back, just the same
+//! is reached, so it tells without a search why trips from there have no route.
 #![tactic(auto)]
 
+mod around;
 mod buckets;
 mod finding;
 mod follow;
@@ -20,13 +24,17 @@ mod heights;
 mod laws;
 mod query;
 mod reach;
+mod region;
 mod settle;
 mod shortest;
 mod waiting;
 mod width;
 
-pub use finding::{potentials, search, shortest_walk, shortest_walk_by};
+pub use finding::{
+    potentials, search, shortest_route, shortest_route_by, shortest_walk, shortest_walk_by,
+};
 pub use found::{Found, Potentials};
 pub use heights::Heights;
 pub use laws::{cuts_hold, findings_are_one, potentials_certify};
+pub use region::Region;
 pub use shortest::Shortest;

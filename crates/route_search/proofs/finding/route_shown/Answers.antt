@@ -2,7 +2,7 @@ use Rattle.std.proofs.Common.{◌≡◌, ◌<◌, ℕ, List, Option, Some, None,
 use Rattle.std.specs.Prelude.{slice_get}
 use Rattle.std.proofs.lemmas.Option.{slice_get-get_or}
 use Rattle.route_search.proofs.Outcomes.{none_found, route_found}
-use Rattle.route_search.proofs.finding.shown.Goals as goal
+use Rattle.route_search.proofs.finding.route_shown.Goals as goal
 
 -- a potential that was read
 read_at : (ps : List (Option ℕ)) (i : ℕ) (p : Option ℕ) → i < length ps → get_or ps i None ≡ p → slice_get ps i ≡ Some p
@@ -13,8 +13,8 @@ follow-requires-clause-start c =
     let ps = c.args.potentials.now in
     read_at ps c.args.from (Some c.in-Some.length) (omega (arith, c.requires.potentials.many, c.requires.from)) c.in-Some.is
 
-pub no_route-requires-clause-none : goal.no_route-requires-clause-none
-no_route-requires-clause-none c =
+pub returns-in-None : goal.returns-in-None
+returns-in-None c =
     let ps = c.args.potentials.now in
     let at = read_at ps c.args.from None (omega (arith, c.requires.potentials.many, c.requires.from)) c.in-None.is in
     none_found c.args.network.now c.args.passable.now c.args.from c.args.to ps c.requires.potentials at

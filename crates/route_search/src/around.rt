@@ -1,0 +1,102 @@
+// A region is made around a node, and tells why trips have no route.
+
+ghost use Rattle.std.specs.Prelude.{◌≡◌, ◌<◌, ℕ, Bool, List, length, IfOk};
+ghost use Rattle.road_graph.specs.Roads.{IsRoads, Roads};
+ghost use Rattle.route_search.specs.Founds.{IsShortest};
+ghost use Rattle.route_search.specs.Regions.{AreReachedFrom, IsCutOff, IsRegion, IsTold, IsToldAll, is_cut_off};
+ghost use Rattle.route_search.specs.Walks.{flagged};
+
+use crate::reach::{Way, listed, reach};
+use crate::region::{Reached, Region};
+use crate::shortest::Shortest;
+use names::NoMemory;
+use road_graph::{Network, Numbers};
+use std::alloc::{AllocError, Global};
+
+impl Region {
+    /// The region around a node. `NoMemory` where no memory was left.
+    pub fn around(
+        alloc: Global,
+        network: &Network,
+        passable: &[bool],
+        root: u32,
+    ) -> Result<Region, NoMemory>
+        requires flags { length passable.now ≡ length network.now.segments }
+        requires root { root < length network.now.nodes }
+        ensures { IfOk result (IsRegion network.now passable.now root) }
+    {
+        let open = vec![in alloc; true; network.segments() as usize]?;
+        let by_any = reach_from(alloc, network, &open, root)?;
+        let by_passable = reach_from(alloc, network, passable, root)?;
+        let leading_in = reach(alloc, network, passable, Way::Back, root)?;
+        Ok(Region {
+            passable: by_passable,
+            any: by_any,
+            leading_in,
+        })
+    }
+
+    /// What `shortest_walk` answers, where the start is joined to the root and no passable walk leads to the goal; else
+    /// `None`. `NoMemory` where no memory was left.
+    pub fn tell(&self, alloc: Global, from: u32, to: u32) -> Result<Option<Shortest>, NoMemory>
+        requires from { from < length self.now.leading_in.items }
+        requires to { to < length self.now.leading_in.items }
+        ensures told { (roads : Roads) (passable : List Bool) (root : ℕ) → IsRegion roads passable root self.now
+            → IfOk result (IsTold roads passable from to) }
+        ensures all { (roads : Roads) (passable : List Bool) (root : ℕ) → IsRegion roads passable root self.now
+            → IfOk result (IsToldAll roads passable root from to) }
+    {
+        if self.is_cut_off(from, to) {
+            let found = self.why(alloc, to)?;
+            Ok(Some(found))
+        } else {
+            Ok(None)
+        }
+    }
+
+    /// What `shortest_walk` answers where no passable walk leads to the goal from a node that is joined to the root.
+    /// `NoMemory` where no memory was left.
+    pub fn why(&self, alloc: Global, to: u32) -> Result<Shortest, NoMemory>
+        requires to { to < length self.now.leading_in.items }
+        ensures { (roads : Roads) (passable : List Bool) (root from : ℕ) → IsRegion roads passable root self.now
+            → IsCutOff roads passable root from to → IfOk result (IsShortest roads passable from to) }
+    {
+        if self.any.marks[to as usize] {
+            let reached = self.passable.numbers.try_clone(alloc)?;
+            Ok(Shortest::Cut { reached })
+        } else {
+            let reached = self.any.numbers.try_clone(alloc)?;
+            Ok(Shortest::NoRoad { reached })
+        }
+    }
+
+    // Whether the start is joined to the root, and no passable walk leads to the goal.
+    fn is_cut_off(&self, from: u32, to: u32) -> bool
+        requires from { from < length self.now.leading_in.items }
+        requires to { to < length self.now.leading_in.items }
+        ensures { result ≡ is_cut_off self.now from to }
+    {
+        let marks = &self.passable.marks;
+        marks[from as usize] && self.leading_in[from as usize] && !marks[to as usize]
+    }
+}
+
+// The nodes that walks from the root reach.
+fn reach_from(
+    alloc: Global,
+    network: &Network,
+    passable: &[bool],
+    root: u32,
+) -> Result<Reached, AllocError>
+    requires flags { length passable.now ≡ length network.now.segments }
+    requires root { root < length network.now.nodes }
+    ensures { IfOk result (AreReachedFrom network.now (flagged passable.now) root) }
+{
+    network.lists_are_in_order();
+    let marks = reach(alloc, network, passable, Way::Forth, root)?;
+    let numbers = listed(alloc, network, passable, root, &marks)?;
+    Ok(Reached {
+        marks,
+        numbers: Numbers::of(numbers),
+    })
+}
