@@ -1,8 +1,10 @@
 -- What is known of the trucks of a base in a state of its roads.
-use Rattle.std.specs.Prelude.{◌≡◌, ◌<◌, ◌≤◌, ℕ, Bool, true, false, List, Option, length, slice_index_or, slice_set}
+use Rattle.std.specs.Prelude.{◌≡◌, ◌<◌, ◌≤◌, ℕ, Bool, true, false, List, Option, IfSome, length, slice_index_or, slice_set}
 use Rattle.road_graph.specs.Roads.{Roads}
 use Rattle.route_search.specs.Founds.{ArePotentialsOver}
 use Rattle.route_search.specs.Heights.{AreHeights}
+use Rattle.route_search.specs.Regions.{IsRegion}
+use Rattle.route_search.specs.declared.region.Region.{Region}
 use Rattle.restriction_log.specs.States.{InForce}
 use Rattle.trip_analysis.specs.declared.analyst.Known.{Known}
 use Rattle.trip_analysis.specs.declared.analyst.Analyst.{Analyst}
@@ -14,18 +16,24 @@ pub record IsSettled (roads : Roads) (flags : List Bool) (goal : ℕ) (potential
   pub there : goal < length roads.nodes
   pub least : ArePotentialsOver roads flags goal potentials
 
--- the potentials that are kept, if any are, are those of the kept flags and the kept goal
-abbrev pub AreSettled : Roads → Known → Type 0
-AreSettled roads known = known.is_settled ≡ true → IsSettled roads known.flags.items known.goal known.potentials
+-- a region over the flagged segments, if one is kept: some node is its root
+abbrev pub IsRegionOver : Roads → List Bool → Option Region → Type 0
+IsRegionOver roads flags kept = IfSome kept (λ region. (root : ℕ) × IsRegion roads flags root region)
 
--- what is known of a truck in a state: the flags, if they are kept, are those of the segments in the state, and the potentials
--- are those of the flags
+-- what is kept beside the flags is of them: the potentials, if any are kept, are those of the kept goal, and the region, if
+-- one is kept, is one over them
+pub record AreSettled (roads : Roads) (known : Known) : Type 0 where
+  pub potentials : known.is_settled ≡ true → IsSettled roads known.flags.items known.goal known.potentials
+  pub region : IsRegionOver roads known.flags.items known.region
+
+-- what is known of a truck in a state: the flags, if they are kept, are those of the segments in the state, and what is kept
+-- beside them is of them
 pub record IsKnown (base : BaseLists) (state : InForce) (truck : ℕ) (known : Known) : Type 0 where
   pub flags : known.is_flagged ≡ true → known.flags.items ≡ flags_of base state truck
   pub settled : AreSettled base.roads known
 
--- what is kept of a truck is of the roads, whatever is posted: there is a flag for each segment, if flags are kept, and the
--- potentials are those of the flags
+-- what is kept of a truck is of the roads, whatever is posted: there is a flag for each segment, if flags are kept, and what
+-- is kept beside them is of them
 pub record IsOfRoads (roads : Roads) (known : Known) : Type 0 where
   pub many : known.is_flagged ≡ true → length known.flags.items ≡ length roads.segments
   pub settled : AreSettled roads known

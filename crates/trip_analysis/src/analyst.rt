@@ -1,7 +1,7 @@
 // Who finds what applications ask for, and keeps what is known of each truck.
 
 ghost use Rattle.std.specs.Prelude.{◌≡◌, ◌<◌, ℕ, None, length, slice_set, true, false, IfOk, OnOk};
-ghost use Rattle.route_search.specs.Founds.{IsShortest};
+ghost use Rattle.route_search.specs.Founds.{IsRouteOrNone, IsShortest};
 ghost use Rattle.route_search.specs.Heights.{AreHeights};
 ghost use Rattle.road_graph.specs.Roads.{IsRoads};
 ghost use Rattle.restriction_log.specs.States.{AgreeOn, AreOf, InForce};
@@ -21,13 +21,15 @@ use clearance_rules::Steps;
 use names::NoMemory;
 use restriction_log::State;
 use road_graph::Network;
-use route_search::{Heights, Potentials, Shortest, potentials, shortest_walk, shortest_walk_by};
+use route_search::{
+    Heights, Potentials, Region, Shortest, potentials, shortest_route, shortest_route_by,
+};
 use snapshot_store::Snapshot;
 use std::alloc::Global;
 use std::sync::ledger::Ledger;
 
-/// What is known of one truck, once it was needed: for each segment whether it may pass it, and for each node how far it is
-/// from there to a goal that came twice.
+/// What is known of one truck, once it was needed: for each segment whether it may pass it, for each node how far it is from
+/// there to a goal that came twice, and what is reached from the region of a trip that had no route.
 #[derive(Drop)]
 pub struct Known {
     is_flagged: bool,
@@ -35,7 +37,9 @@ pub struct Known {
     is_settled: bool,
     goal: u32,
     potentials: Potentials,
-    // the goal of its last trip
+    // around the start of its last trip that had no route and was not told of
+    region: Option<Region>,
+    // the goal of its last trip that was searched for
     last: Option<u32>,
 }
 
@@ -179,11 +183,12 @@ fn learn_flags<L: Ledger>(
     known.flags = flags(alloc, base, state, truck, steps)?;
     known.is_flagged = true;
     known.is_settled = false;
+    known.region = None;
     Ok(())
 }
 
-// The shortest walk over the flagged segments. Potentials are kept of a goal that comes again; else one search is made that
-// leaves out what leads away.
+// The shortest walk over the flagged segments. Where the kept region tells that there is none, no search is made; where a
+// search finds none, the region around its start is kept.
 fn search_known(
     alloc: Global,
     network: &Network,
@@ -203,14 +208,70 @@ fn search_known(
     ensures settled { AreSettled network.now known.new }
     ensures heights { AreHeights network.now.segments heights.new }
 {
+    if let Some(region) = &known.region {
+        if let Some(found) = region.tell(alloc, from, to)? {
+            return Ok(found);
+        }
+    }
+    match search_route(alloc, network, known, heights, from, to)? {
+        Some(route) => Ok(route),
+        None => learn_region(alloc, network, known, from, to),
+    }
+}
+
+// The shortest route over the flagged segments, if there is one. Potentials are kept of a goal that comes again; else one
+// search is made that leaves out what leads away.
+fn search_route(
+    alloc: Global,
+    network: &Network,
+    known: &mut Known,
+    heights: &mut Heights,
+    from: u32,
+    to: u32,
+) -> Result<Option<Shortest>, NoMemory>
+    requires many { length known.old.flags.items ≡ length network.now.segments }
+    requires from { from < length network.now.nodes }
+    requires to { to < length network.now.nodes }
+    requires settled { AreSettled network.now known.old }
+    requires heights { AreHeights network.now.segments heights.old }
+    ensures found { IfOk result (IsRouteOrNone network.now known.old.flags.items from to) }
+    ensures flagged { known.new.is_flagged ≡ known.old.is_flagged }
+    ensures flags { known.new.flags.items ≡ known.old.flags.items }
+    ensures settled { AreSettled network.now known.new }
+    ensures heights { AreHeights network.now.segments heights.new }
+{
     if comes_again(known, to) {
         learn_potentials(alloc, network, to, known)?;
-        return shortest_walk_by(alloc, network, &known.flags, &known.potentials, from, to);
+        return shortest_route_by(alloc, network, &known.flags, &known.potentials, from, to);
     }
     let others = known.last.is_some();
     known.last = Some(to);
     learn_heights(alloc, network, heights, others)?;
-    shortest_walk(alloc, network, &known.flags, heights, from, to)
+    shortest_route(alloc, network, &known.flags, heights, from, to)
+}
+
+// Keeps the region around the start of a trip that has no route, and answers why.
+fn learn_region(
+    alloc: Global,
+    network: &Network,
+    known: &mut Known,
+    from: u32,
+    to: u32,
+) -> Result<Shortest, NoMemory>
+    requires many { length known.old.flags.items ≡ length network.now.segments }
+    requires from { from < length network.now.nodes }
+    requires to { to < length network.now.nodes }
+    requires settled { AreSettled network.now known.old }
+    requires none { IsRouteOrNone network.now known.old.flags.items from to None }
+    ensures found { IfOk result (IsShortest network.now known.old.flags.items from to) }
+    ensures flagged { known.new.is_flagged ≡ known.old.is_flagged }
+    ensures flags { known.new.flags.items ≡ known.old.flags.items }
+    ensures settled { AreSettled network.now known.new }
+{
+    let region = Region::around(alloc, network, &known.flags, from)?;
+    let found = region.why(alloc, to)?;
+    known.region = Some(region);
+    Ok(found)
 }
 
 // Makes one column of heights more, where trips of a truck have several goals.
@@ -281,7 +342,8 @@ fn judge_anew<L: Ledger>(
     }
 }
 
-// Writes the flag of a segment. The potentials stay where it is as before, or where it does not matter to them.
+// Writes the flag of a segment. Where it is as before, all stays. Else the region goes, and the potentials stay where the
+// segment does not matter to them.
 fn write_flag(network: &Network, segment: u32, passable: bool, known: &mut Known)
     requires roads { IsRoads network.now }
     requires segment { segment < length network.now.segments }
@@ -293,8 +355,11 @@ fn write_flag(network: &Network, segment: u32, passable: bool, known: &mut Known
 {
     let before = known.flags[segment as usize];
     known.flags[segment as usize] = passable;
-    if before != passable && known.is_settled {
-        known.is_settled = known.potentials.is_slack(network, segment);
+    if before != passable {
+        known.region = None;
+        if known.is_settled {
+            known.is_settled = known.potentials.is_slack(network, segment);
+        }
     }
 }
 
@@ -326,6 +391,7 @@ fn unknown(alloc: Global) -> Known
         is_settled: false,
         goal: 0,
         potentials: Potentials::none(alloc),
+        region: None,
         last: None,
     }
 }
