@@ -24,5 +24,5 @@ pub use laws::{
 };
 pub use limit::Limit;
 pub use load::{Load, Range, is_cross_section, is_length};
-pub use met_limits::meets;
+pub use met_limits::{meets, meets_at_first};
 pub use steps::Steps;

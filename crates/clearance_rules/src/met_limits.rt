@@ -2,7 +2,7 @@
 
 ghost use Rattle.std.specs.Prelude.{◌≡◌, ◌<◌, ◌+◌, ◌↔◌, length, is_none, IsTrue};
 ghost use Rattle.axle_train.specs.Bounds.{IsTrain};
-ghost use Rattle.restriction_log.specs.States.{AreOf};
+ghost use Rattle.restriction_log.specs.States.{AreOf, base_of};
 ghost use Rattle.clearance_rules.specs.Limits.{spans_limit, meets, Meets};
 
 use crate::first_limit::{bounds, posted_limit, weights_limit};
@@ -37,7 +37,27 @@ pub fn meets<E: SpanStudy, L: Ledger>(
     is_met(network, state, load, study, segment)
 }
 
-/// The same, uncounted.
+/// Whether the segment meets the load before anything is posted, by the values with which the network begins.
+///
+/// It takes no step: what is found so is found once, before an office opens. In a state that postings made it may not be asked.
+/// Takes no memory.
+pub fn meets_at_first<E: SpanStudy>(
+    network: &Network,
+    first: &State,
+    load: &Load,
+    study: &E,
+    segment: u32,
+) -> bool
+    requires segment { segment < length network.now.segments }
+    requires first { first.now ≡ base_of network.now }
+    requires study { E.axles study.now ≡ load.now.train }
+    ensures { result ≡ meets network.now (base_of network.now) load.now segment }
+{
+    bounds(network, load);
+    is_met(network, first, load, study, segment)
+}
+
+/// The same in any state, uncounted.
 fn is_met<E: SpanStudy>(
     network: &Network,
     state: &State,
