@@ -48,6 +48,29 @@ impl Heights {
         }
     }
 
+    /// Heights in all sixteen columns.
+    ///
+    /// `NoMemory` where no memory was left.
+    pub fn all(alloc: Global, network: &Network) -> Result<Heights, NoMemory>
+        ensures { IfOk result (λ heights. AreHeights network.now.segments heights) }
+    {
+        let mut heights = Heights::none(alloc);
+        'columns: for _ in 0..COLUMNS {
+            heights.add(alloc, network)?;
+        }
+        Ok(heights)
+    }
+
+    /// The same heights once more. `NoMemory` where no memory was left.
+    pub fn try_clone(&self, alloc: Global) -> Result<Heights, NoMemory>
+        ensures { IfOk result (λ heights. heights ≡ self.now) }
+    {
+        Ok(Heights {
+            rows: Vec::from_slice(alloc, self.rows.as_slice())?,
+            columns: self.columns,
+        })
+    }
+
     /// Makes one column more, up to sixteen: that of the node that is farthest from the nodes of the others.
     ///
     /// `NoMemory` where no memory was left.
