@@ -55,13 +55,13 @@ impl Seat {
             (λ w. (s : Stored) → IsKeptAt versions.now seen s → IsFinding base.now (state_now s) application.now w) }
         ensures seat { IsSeat base.now versions.now self.new }
     {
-        let state = versions.at(seen).state();
+        let snapshot = versions.at(seen);
         if !self.is_behind(seen) {
-            return find(self.alloc, base, state, application, steps);
+            return find(self.alloc, base, snapshot.state(), application, steps);
         }
         self.go_on(base, versions, seen, steps);
         self.analyst
-            .find(self.alloc, base, state, application, steps)
+            .find(self.alloc, base, snapshot, application, steps)
     }
 
     // Whether the version at which the trucks are known, if any, is not above this one. Takes no memory.

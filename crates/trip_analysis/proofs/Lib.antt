@@ -11,4 +11,5 @@ pub mod Following
 pub mod Counting
 pub mod Joined
 pub mod Learning
+pub mod Turning
 pub mod Routes

@@ -11,5 +11,6 @@ pub use Rattle.snapshot_store.specs.Stores
 pub use Rattle.clearance_rules.specs.Loads
 pub use Rattle.clearance_rules.specs.Limits
 pub mod Known
+pub mod Openings
 pub mod Followers
 pub use Rattle.trip_routes.specs.Routes

@@ -16,7 +16,8 @@ use crate::analysis::{find_asked, proposed};
 use crate::application::Application;
 use crate::base::Base;
 use crate::finding::What;
-use crate::passing::{flags, is_passable};
+use crate::opening::flags_at;
+use crate::passing::is_passable;
 use clearance_rules::Steps;
 use names::NoMemory;
 use restriction_log::State;
@@ -63,25 +64,25 @@ impl Analyst {
         }
         Ok(Analyst {
             known,
-            heights: Heights::none(alloc),
+            heights: base.own_heights(alloc)?,
         })
     }
 
-    /// What is found for the application in the state of the base's roads, as `find` says it, by what is known. This is
-    /// known in that state afterwards too, also where no memory was left.
+    /// What is found for the application in the state of the snapshot, as `find` says it, by what is known. This is known in
+    /// that state afterwards too, also where no memory was left.
     pub fn find<L: Ledger>(
         &mut self,
         alloc: Global,
         base: &Base,
-        state: &State,
+        snapshot: &Snapshot,
         application: &Application,
         steps: &mut Steps<L>,
     ) -> Result<What, NoMemory>
-        requires known { AreKnown base.now state.now self.old }
-        requires state { AreOf base.now.roads state.now }
+        requires known { AreKnown base.now (state_now snapshot.now) self.old }
+        requires roads { snapshot.now.roads ≡ base.now.roads }
         requires sound { Sound base.now application.now }
-        ensures found { IfOk result (λ w. IsFinding base.now state.now application.now w) }
-        ensures known { AreKnown base.now state.now self.new }
+        ensures found { IfOk result (λ w. IsFinding base.now (state_now snapshot.now) application.now w) }
+        ensures known { AreKnown base.now (state_now snapshot.now) self.new }
         ensures steps { TestsAtMost (tests_for base.now application.now.asked) steps.old steps.new }
         ensures legal { needs_none base.now application.now.truck ≡ true → steps.new ≡ steps.old }
     {
@@ -90,8 +91,8 @@ impl Analyst {
             return Ok(What::NotNeeded);
         }
         match application.asked() {
-            Some(routes) => find_asked(base, state, truck, routes, steps),
-            None => self.find_free(alloc, base, state, application, steps),
+            Some(routes) => find_asked(base, snapshot.state(), truck, routes, steps),
+            None => self.find_free(alloc, base, snapshot, application, steps),
         }
     }
 
@@ -100,20 +101,20 @@ impl Analyst {
         &mut self,
         alloc: Global,
         base: &Base,
-        state: &State,
+        snapshot: &Snapshot,
         application: &Application,
         steps: &mut Steps<L>,
     ) -> Result<What, NoMemory>
-        requires known { AreKnown base.now state.now self.old }
-        requires state { AreOf base.now.roads state.now }
+        requires known { AreKnown base.now (state_now snapshot.now) self.old }
+        requires roads { snapshot.now.roads ≡ base.now.roads }
         requires sound { Sound base.now application.now }
-        ensures found { IfOk result (IsFoundBy base.now state.now application.now None) }
-        ensures known { AreKnown base.now state.now self.new }
+        ensures found { IfOk result (IsFoundBy base.now (state_now snapshot.now) application.now None) }
+        ensures known { AreKnown base.now (state_now snapshot.now) self.new }
         ensures steps { TestsAtMost (tests_for base.now None) steps.old steps.new }
     {
         let truck = application.truck();
         let known = &mut self.known[truck as usize];
-        learn_flags(alloc, base, state, truck, known, steps)?;
+        learn_flags(alloc, base, snapshot, truck, known, steps)?;
         let heights = &mut self.heights;
         let (from, to) = (application.from(), application.to());
         let found = search_known(alloc, base.network(), known, heights, from, to)?;
@@ -165,22 +166,22 @@ impl Analyst {
 fn learn_flags<L: Ledger>(
     alloc: Global,
     base: &Base,
-    state: &State,
+    snapshot: &Snapshot,
     truck: u32,
     known: &mut Known,
     steps: &mut Steps<L>,
 ) -> Result<(), NoMemory>
     requires truck { truck < length base.now.fleet }
-    requires known { IsKnown base.now state.now truck known.old }
-    requires state { AreOf base.now.roads state.now }
+    requires known { IsKnown base.now (state_now snapshot.now) truck known.old }
+    requires roads { snapshot.now.roads ≡ base.now.roads }
     ensures flagged { IfOk result (λ _. known.new.is_flagged ≡ true) }
-    ensures known { IsKnown base.now state.now truck known.new }
+    ensures known { IsKnown base.now (state_now snapshot.now) truck known.new }
     ensures steps { TestsAtMost (tests_for base.now None) steps.old steps.new }
 {
     if known.is_flagged {
         return Ok(());
     }
-    known.flags = flags(alloc, base, state, truck, steps)?;
+    known.flags = flags_at(alloc, base, snapshot, truck, steps)?;
     known.is_flagged = true;
     known.is_settled = false;
     known.region = None;

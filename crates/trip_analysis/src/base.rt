@@ -3,10 +3,13 @@
 ghost use Rattle.std.specs.Prelude.{◌≡◌, All};
 ghost use Rattle.axle_train.specs.Bounds.{IsTrain};
 
+use crate::opening::{Opening, flags_in, keep, opening_flags};
 use clearance_rules::Load;
 use hs20_truck::Kept;
 use names::{Name, NoMemory};
+use restriction_log::State;
 use road_graph::Network;
+use route_search::Heights;
 use std::alloc::Global;
 use std::marker::Model;
 
@@ -19,27 +22,34 @@ pub struct Truck {
 }
 
 /// A road network and the trucks that may ask for permits on it. Nothing of it changes; postings change the state of its
-/// roads. What a truck asks of a span of one length never changes either, so it is kept here, once for all who read it.
+/// roads. What a truck asks of a span of one length never changes either, nor which segments it may pass before anything is
+/// posted, nor the heights of the nodes. So these are kept here, once for all who read them.
 #[derive(Drop)]
 pub struct Base {
     network: Network,
     fleet: Vec<Truck>,
+    openings: Option<Vec<Opening>>,
+    heights: Option<Heights>,
 }
 
 impl Model for Base {
-    ghost use Rattle.trip_analysis.specs.Bases.{BaseLists, IsBase};
+    ghost use Rattle.trip_analysis.specs.Bases.{BaseLists};
+    ghost use Rattle.trip_analysis.specs.Openings.{IsKept, lists_in};
 
     ghost Value = { BaseLists };
 
-    ghost view = { λ b. record { roads = b.network; fleet = b.fleet.items } };
+    ghost view = { lists_in };
 
-    ghost invariant = { λ b. IsBase (record { roads = b.network; fleet = b.fleet.items }) };
+    ghost invariant = { IsKept };
 }
 
 impl Base {
-    ghost use Rattle.std.specs.Prelude.{◌≡◌, ◌<◌, ◌≤◌, length};
+    ghost use Rattle.std.specs.Prelude.{◌≡◌, ◌<◌, ◌≤◌, length, IfOk, IfSome};
     ghost use Rattle.road_graph.specs.Roads.{IsRoads};
+    ghost use Rattle.restriction_log.specs.States.{base_of};
+    ghost use Rattle.route_search.specs.Heights.{AreHeights};
     ghost use Rattle.trip_analysis.specs.Bases.{AreTrains, train_of};
+    ghost use Rattle.trip_analysis.specs.Openings.{flags_at_first};
 
     /// These roads and trucks. Takes no memory.
     pub fn new(network: Network, fleet: Vec<Truck>) -> Base
@@ -47,7 +57,12 @@ impl Base {
         ensures { result ≡ record { roads = network; fleet = fleet.items } }
     {
         tell_trains(&fleet);
-        Base { network, fleet }
+        Base {
+            network,
+            fleet,
+            openings: None,
+            heights: None,
+        }
     }
 
     /// The roads. Takes no memory.
@@ -95,6 +110,51 @@ impl Base {
             return Ok(());
         }
         keep_lengths(alloc, &self.network, load)
+    }
+
+    /// Keeps which segments a truck may pass before anything is posted. Analysts then copy this, and test only what was posted
+    /// since, and else they test all segments; nothing that contracts see changes. `NoMemory` where no memory was left.
+    pub fn learn_opening(
+        &mut self,
+        alloc: Global,
+        first: &State,
+        truck: u32,
+    ) -> Result<(), NoMemory>
+        requires truck { truck < length self.old.fleet }
+        requires first { first.now ≡ base_of self.old.roads }
+        ensures { self.new ≡ self.old }
+    {
+        let flags = opening_flags(alloc, self, first, truck)?;
+        keep(alloc, &mut self.openings, Opening { truck, flags })
+    }
+
+    /// Which segments a truck may pass before anything is posted, where that is kept. Takes no memory.
+    pub(crate) fn opening(&self, truck: u32) -> Option<&[bool]>
+        ensures { IfSome result (λ flags. flags.now ≡ flags_at_first self.now truck) }
+    {
+        match &self.openings {
+            Some(openings) => flags_in(openings.as_slice(), truck),
+            None => None,
+        }
+    }
+
+    /// Keeps heights of the nodes in all columns. Analysts then copy these, and else each makes columns of its own; nothing
+    /// that contracts see changes. `NoMemory` where no memory was left.
+    pub fn learn_heights(&mut self, alloc: Global) -> Result<(), NoMemory>
+        ensures { self.new ≡ self.old }
+    {
+        self.heights = Some(Heights::all(alloc, &self.network)?);
+        Ok(())
+    }
+
+    /// The heights that are kept, or none. `NoMemory` where no memory was left.
+    pub(crate) fn own_heights(&self, alloc: Global) -> Result<Heights, NoMemory>
+        ensures { IfOk result (AreHeights self.now.roads.segments) }
+    {
+        match &self.heights {
+            Some(heights) => heights.try_clone(alloc),
+            None => Ok(Heights::none(alloc)),
+        }
     }
 }
 

@@ -84,7 +84,7 @@ impl Follower {
         go_on(base, &mut self.analyst, &self.last, &snapshot, steps);
         let found = self
             .analyst
-            .find(alloc, base, snapshot.state(), application, steps);
+            .find(alloc, base, &snapshot, application, steps);
         let seen = snapshot.version();
         self.last = Some(snapshot);
         Ok(Proposal { seen, what: found? })

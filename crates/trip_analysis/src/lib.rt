@@ -20,6 +20,7 @@ mod finding;
 mod follower;
 mod laws;
 mod node_set;
+mod opening;
 mod passing;
 mod refusal;
 

@@ -3,7 +3,6 @@ use Rattle.restriction_log.specs.States.{InForce}
 use Rattle.trip_analysis.specs.declared.analyst.Known.{Known}
 use Rattle.std.proofs.Common.{ℕ, ap, length, rules}
 use Rattle.trip_analysis.specs.Known.{IsKnown}
-use Rattle.route_search.proofs.Columns.{level_none_heights}
 use Rattle.trip_analysis.proofs.KnownAt.{below_push}
 use Rattle.trip_analysis.proofs.analyst.Analyst.new.Goals as goal
 
@@ -18,7 +17,7 @@ trucks-preserved c =
 
 pub returns : goal.returns
 returns c = λ state. let all = c.trucks.invariant in record {
-  heights = rw c.none.ensures (level_none_heights c.args.base.now.roads.segments);
+  heights = c.in_ok-own_heights.ensures;
   many = omega (arith, all.many, c.trucks-test.false, c.trucks.auto.counter-end, ap length c.fleet-count.ensures.value);
   each = λ truck d less. all.each truck d (omega (arith, less, c.trucks-test.false, ap length c.fleet-count.ensures.value)) state;
 }
