@@ -5,17 +5,30 @@ ghost use Rattle.std.specs.Prelude.{◌≡◌, IfOk};
 use day_text::{DayFile, Order};
 use names::NoMemory;
 use office_words::Command;
+use restriction_log::State;
 use std::alloc::Global;
-use trip_analysis::Base;
+use trip_analysis::{Application, Base};
 
-/// The day file, whose base keeps what each truck that applies asks of spans of each length on its roads: whoever serves the
-/// day then looks it up, and else computes it at each test. Nothing that contracts see changes. `NoMemory` where no memory was
-/// left.
+/// The most columns of heights that an analyst makes.
+const COLUMNS: u32 = 16;
+
+/// The most trucks of a fleet.
+const MOST_TRUCKS: usize = 64;
+
+/// The most actors of a day.
+const MOST_ACTORS: usize = 16;
+
+/// The day file, whose base keeps what is the same for all who serve the day: what each truck that applies asks of spans of each
+/// length on its roads, which segments each truck that seeks a way may pass before anything is posted, and heights of the nodes
+/// where trips have many goals. Whoever serves the day then looks it up, and else computes it. Nothing that contracts see
+/// changes. `NoMemory` where no memory was left.
 pub fn prepare(alloc: Global, file: DayFile) -> Result<DayFile, NoMemory>
     ensures { IfOk result (λ prepared. prepared ≡ file) }
 {
     let (mut base, day, actors, commands) = file.into_parts();
     learn_applicants(alloc, &mut base, commands.as_slice())?;
+    learn_seekers(alloc, &mut base, commands.as_slice())?;
+    learn_goals(alloc, &mut base, commands.as_slice())?;
     Ok(DayFile::of_parts(base, day, actors, commands))
 }
 
@@ -32,10 +45,73 @@ fn learn_applicants(alloc: Global, base: &mut Base, orders: &[Order]) -> Result<
     Ok(())
 }
 
+// Has the base keep which segments each truck that seeks a way may pass before anything is posted.
+fn learn_seekers(alloc: Global, base: &mut Base, orders: &[Order]) -> Result<(), NoMemory>
+    ensures { base.new ≡ base.old }
+{
+    let first = State::base(alloc, base.network())?;
+    let count = base.fleet().len() as u32;
+    'trucks: for truck in 0..count {
+        if seeks(orders, truck) {
+            base.learn_opening(alloc, &first, truck)?;
+        }
+    }
+    Ok(())
+}
+
+// Has the base keep heights, where trips have so many goals that an analyst would make each column.
+fn learn_goals(alloc: Global, base: &mut Base, orders: &[Order]) -> Result<(), NoMemory>
+    ensures { base.new ≡ base.old }
+{
+    if changes_of_goal(alloc, orders)? < COLUMNS {
+        return Ok(());
+    }
+    base.learn_heights(alloc)
+}
+
 // Whether one of the commands is an application for this truck.
 fn applies(orders: &[Order], truck: u32) -> bool {
     orders.iter().any(|order| match &order.command {
         Command::Apply(application) => application.truck() == truck,
         _ => false,
     })
+}
+
+// Whether one of them asks for no route.
+fn seeks(orders: &[Order], truck: u32) -> bool {
+    orders.iter().any(|order| match &order.command {
+        Command::Apply(application) => {
+            application.truck() == truck && application.asked().is_none()
+        }
+        _ => false,
+    })
+}
+
+// How many applications without a route have another goal than the one before of the same actor and truck.
+fn changes_of_goal(alloc: Global, orders: &[Order]) -> Result<u32, NoMemory> {
+    let mut goals = vec![in alloc; None; MOST_ACTORS * MOST_TRUCKS]?;
+    let mut changes: u32 = 0;
+    'orders: for order in orders {
+        if let Command::Apply(application) = &order.command {
+            if is_change(goals.as_mut_slice(), order.actor, application) {
+                changes = changes.saturating_add(1);
+            }
+        }
+    }
+    Ok(changes)
+}
+
+// Whether an application without a route has another goal than is noted for its actor and truck. Its own is noted then.
+fn is_change(goals: &mut [Option<u32>], actor: u32, application: &Application) -> bool {
+    let place = actor as usize * MOST_TRUCKS + application.truck() as usize;
+    if application.asked().is_some() || place >= goals.len() {
+        return false;
+    }
+    let goal = application.to();
+    let before = goals[place];
+    goals[place] = Some(goal);
+    match before {
+        Some(other) => other != goal,
+        None => false,
+    }
 }
