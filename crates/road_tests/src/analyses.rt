@@ -477,7 +477,8 @@ fn check_study(rt: &impl Abort, base: &Base, truck: u32)
     assert!(rt; !study.carries(360, 0));
 }
 
-// Asks a study that keeps nothing, and again once it keeps the lengths of the roads.
+// Asks a study that keeps nothing, and again once it keeps the lengths of the roads. Then it is kept too which segments the
+// truck may pass before anything is posted, and heights.
 fn learn_truck(rt: &impl Abort, alloc: Global, base: &mut Base, truck: u32)
     requires { truck < length base.old.fleet }
     ensures { base.new ≡ base.old }
@@ -485,11 +486,16 @@ fn learn_truck(rt: &impl Abort, alloc: Global, base: &mut Base, truck: u32)
     check_study(rt, base, truck);
     base.learn(alloc, truck).expect(rt, "memory");
     check_study(rt, base, truck);
+    let first = State::base(alloc, base.network()).expect(rt, "memory");
+    base.learn_opening(alloc, &first, truck)
+        .expect(rt, "memory");
+    base.learn_heights(alloc).expect(rt, "memory");
+    drop(first);
 }
 
 // Both trucks, and then the findings and the history of the tests above.
 #[test]
-fn finds_the_same_by_what_studies_keep(rt: HostRuntime) {
+fn finds_the_same_by_what_a_base_keeps(rt: HostRuntime) {
     let mut base = base(&rt, rt.alloc());
     assert!(rt; base.fleet().len() == 2);
     learn_truck(&rt, rt.alloc(), &mut base, 0);
