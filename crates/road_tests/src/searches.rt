@@ -1,12 +1,13 @@
 ghost use Rattle.std.specs.Prelude.{◌≡◌, ◌<◌, length};
 ghost use Rattle.route_search.specs.Founds.{IsFound};
 ghost use Rattle.route_search.specs.Heights.{AreHeights};
+ghost use Rattle.route_search.specs.Regions.{IsRegion};
 
 use crate::fixtures::{holds, named, number, part, same};
 use names::Name;
 use road_graph::Network;
 use route_search::{
-    Found, Heights, Potentials, Shortest, cuts_hold, findings_are_one, potentials,
+    Found, Heights, Potentials, Region, Shortest, cuts_hold, findings_are_one, potentials,
     potentials_certify, search, shortest_walk, shortest_walk_by,
 };
 use std::alloc::Global;
@@ -299,6 +300,60 @@ fn finds_the_first_of_the_shortest_walks_or_what_is_reached(rt: HostRuntime) {
         searches = searches.wrapping_add(find_in_group(&rt, rt.alloc(), group));
     }
     assert_eq!(rt; searches, 27);
+}
+
+// Six nodes in two rows with segments both ways, one from 2 to 6, one from 7 to 0, and segment 16 from 5 to 8.
+const ROWS: &str =
+    "0,1,1 1,0,1 1,2,1 2,1,1 3,4,1 4,3,1 4,5,1 5,4,1 0,3,1 3,0,1 1,4,1 4,1,1 2,5,1 5,2,1 2,6,1 7,0,1 5,8,1";
+
+// What the region around 0 tells with segment 16 closed: the two nodes, and what is found, or nothing. Node 6 is reached and
+// leads nowhere, 7 leads to 0 and is not reached, and 8 is neither.
+const TOLD: [&str; 9] = [
+    "/0 8/cut/0 1 2 3 4 5 6",
+    "/4 8/cut/0 1 2 3 4 5 6",
+    "/5 8/cut/0 1 2 3 4 5 6",
+    "/3 7/no road/0 1 2 3 4 5 6 8",
+    "/6 8/",
+    "/7 8/",
+    "/8 0/",
+    "/4 6/",
+    "/0 0/",
+];
+
+// Whether the region tells what a line says.
+fn tells(
+    rt: &impl Abort,
+    alloc: Global,
+    network: &Network,
+    passable: &[bool],
+    region: &Region,
+    line: &str,
+)
+    requires { IsRegion network.now passable.now 0 region.now }
+{
+    let (from, to) = ends_of(line);
+    assert!(rt; from < network.nodes() && to < network.nodes());
+    let told = region.tell(alloc, from, to).expect(rt, "memory");
+    let is_so = match &told {
+        Some(found) => is_told(parts_of_shortest(found), line),
+        None => part(line, '/', 2).is_empty(),
+    };
+    holds(rt, is_so, line);
+    drop(told);
+}
+
+#[test]
+fn tells_by_a_region_why_there_is_no_route(rt: HostRuntime) {
+    let network = network(&rt, rt.alloc(), 9, ROWS);
+    let passable = flags(&rt, rt.alloc(), &network, "16");
+    assert!(rt; passable.len() == network.segments() as usize && network.nodes() == 9);
+    let region = Region::around(rt.alloc(), &network, &passable, 0).expect(&rt, "memory");
+    for line in &TOLD {
+        tells(&rt, rt.alloc(), &network, &passable, &region, line);
+    }
+    drop(region);
+    drop(passable);
+    drop(network);
 }
 
 // Nine nodes in three rows, with segments of 1 ft to the right and down. All walks from the first node to the
