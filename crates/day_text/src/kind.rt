@@ -1,7 +1,7 @@
 // The kinds of records of a day file.
 
 ghost use Rattle.std.specs.Prelude.{◌≡◌};
-ghost use Rattle.day_text.specs.Kinds.{command_kind_of, kind_of, road_kind_of};
+ghost use Rattle.day_text.specs.Kinds.{command_kind_of, kind_of, road_kind_of, road_or_command};
 
 /// The kind of a record: its first field.
 #[derive(Clone, Copy)]
@@ -37,38 +37,35 @@ pub(crate) enum CommandKind {
 pub(crate) fn parse_kind(text: &str) -> Option<RecordKind>
     ensures { result ≡ kind_of text.now }
 {
-    if text == "day" {
-        return Some(RecordKind::Day);
+    match text {
+        "day" => Some(RecordKind::Day),
+        "truck" => Some(RecordKind::Truck),
+        "actor" => Some(RecordKind::Actor),
+        "end" => Some(RecordKind::End),
+        _ => parse_road_or_command(text),
     }
-    if text == "truck" {
-        return Some(RecordKind::Truck);
+}
+
+// The kind of a record of the road network, or else of a command, that a word means.
+fn parse_road_or_command(text: &str) -> Option<RecordKind>
+    ensures { result ≡ road_or_command text.now (road_kind_of text.now) }
+{
+    match parse_road_kind(text) {
+        Some(kind) => Some(RecordKind::Road(kind)),
+        None => Some(RecordKind::Command(parse_command_kind(text)?)),
     }
-    if text == "actor" {
-        return Some(RecordKind::Actor);
-    }
-    if text == "end" {
-        return Some(RecordKind::End);
-    }
-    if let Some(kind) = parse_road_kind(text) {
-        return Some(RecordKind::Road(kind));
-    }
-    parse_command_kind(text).map(RecordKind::Command)
 }
 
 // The kind of a record of the road network that a word means.
 fn parse_road_kind(text: &str) -> Option<RoadKind>
     ensures { result ≡ road_kind_of text.now }
 {
-    if text == "node" {
-        Some(RoadKind::Node)
-    } else if text == "segment" {
-        Some(RoadKind::Segment)
-    } else if text == "limit" {
-        Some(RoadKind::Limit)
-    } else if text == "span" {
-        Some(RoadKind::Span)
-    } else {
-        None
+    match text {
+        "node" => Some(RoadKind::Node),
+        "segment" => Some(RoadKind::Segment),
+        "limit" => Some(RoadKind::Limit),
+        "span" => Some(RoadKind::Span),
+        _ => None,
     }
 }
 
@@ -76,17 +73,12 @@ fn parse_road_kind(text: &str) -> Option<RoadKind>
 fn parse_command_kind(text: &str) -> Option<CommandKind>
     ensures { result ≡ command_kind_of text.now }
 {
-    if text == "apply" {
-        Some(CommandKind::Apply)
-    } else if text == "post" {
-        Some(CommandKind::Post)
-    } else if text == "setday" {
-        Some(CommandKind::SetDay)
-    } else if text == "surrender" {
-        Some(CommandKind::Surrender)
-    } else if text == "show" {
-        Some(CommandKind::Show)
-    } else {
-        None
+    match text {
+        "apply" => Some(CommandKind::Apply),
+        "post" => Some(CommandKind::Post),
+        "setday" => Some(CommandKind::SetDay),
+        "surrender" => Some(CommandKind::Surrender),
+        "show" => Some(CommandKind::Show),
+        _ => None,
     }
 }
