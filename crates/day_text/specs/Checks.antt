@@ -35,23 +35,34 @@ probe_of probes fields = do
   c ← limit (nat_le (length probes + 1) 64) kind.Probes
   Ok (record { inches = inches; rating = rating })
 
+-- the probes after a record of one
+abbrev pub probes_of : List Probe → Row → Result (List Probe) Cause
+probes_of probes fields = probe_of probes fields >>= (λ probe. Ok (probes ++ probe ∷ []))
+
 -- the first record: it is a truck
 unfoldable pub judge_truck : Row → Result CheckProgress Cause
 judge_truck fields =
     if has_kind (codes "truck") fields then checked_truck_of fields >>= (λ truck. Ok (so_far.Open (record { truck = truck; probes = [] })))
     else Err (why.Bad bad.Order)
 
--- a record behind the truck: a probe or the end
+-- a probe, behind which more records follow
 unfoldable pub judge_probe : CheckFile → Row → Result CheckProgress Cause
-judge_probe file fields =
+judge_probe file fields = probes_of file.probes fields >>= (λ probes. Ok (so_far.Open (record file { probes = probes })))
+
+-- the end
+unfoldable pub judge_end : CheckFile → Row → Result CheckProgress Cause
+judge_end file fields = has_only 1 fields >>= (λ rest. Ok (so_far.Ended file))
+
+-- a record behind the truck: a probe or the end
+unfoldable pub judge_later : CheckFile → Row → Result CheckProgress Cause
+judge_later file fields =
     if has_kind (codes "truck") fields then Err (why.Bad bad.Order)
-    else (if has_kind (codes "probe") fields then probe_of file.probes fields >>= (λ probe. Ok (so_far.Open (record file { probes = file.probes ++ probe ∷ [] })))
-    else has_only 1 fields >>= (λ rest. Ok (so_far.Ended file)))
+    else (if has_kind (codes "probe") fields then judge_probe file fields else judge_end file fields)
 
 -- where a record of a known kind leads; nothing follows the end
 abbrev pub judge_check_kind : CheckProgress → Row → Result CheckProgress Cause
 judge_check_kind so_far.Start fields = judge_truck fields
-judge_check_kind (so_far.Open file) fields = judge_probe file fields
+judge_check_kind (so_far.Open file) fields = judge_later file fields
 judge_check_kind (so_far.Ended file) fields = Err (why.Bad bad.Order)
 
 -- where a record of eight fields leads

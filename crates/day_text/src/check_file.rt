@@ -4,14 +4,14 @@ ghost use Rattle.std.specs.Prelude.{◌≡◌, ◌+◌, ◌++◌, ◌∷◌, [],
 ghost use Rattle.csv.specs.Records.{fields_of};
 ghost use Rattle.day_text.specs.Refusals.{IsRefusedAs};
 ghost use Rattle.day_text.specs.Spans.{AreSpans, IsSpan};
-ghost use Rattle.record_text.specs.Causes.{Judges, Tells};
-ghost use Rattle.day_text.specs.Checks.{check_of, ended_check, is_check_kind, judge_check, judge_check_kind, judge_probe, judge_truck, probe_of, checked_truck_of};
+ghost use Rattle.record_text.specs.Causes.{Grows, Judges, Tells};
+ghost use Rattle.day_text.specs.Checks.{check_of, ended_check, is_check_kind, judge_check, judge_check_kind, judge_end, judge_later, judge_probe, judge_truck, probe_of, probes_of};
 
 use crate::truck::{load_of, parse_truck};
 use csv::StringRecord;
 use record_text::{
-    Cause, FileRefusal, Kind, Progress, RecordCause, RecordRefusal, demand, field, has_only, limit,
-    number_in, read_records,
+    Cause, FileRefusal, Kind, Progress, RecordCause, RecordRefusal, demand, field, has_only,
+    is_blank_from, limit, number_in, read_records,
 };
 use std::alloc::Global;
 use std::marker::Model;
@@ -128,8 +128,7 @@ impl Progress for CheckProgress {
 fn is_check_kind(row: &StringRecord) -> bool
     ensures { result ≡ is_check_kind (fields_of row.now) }
 {
-    let kind = field(row, 0);
-    kind == "truck" || kind == "probe" || kind == "end"
+    matches!(field(row, 0), "truck" | "probe" | "end")
 }
 
 // Where a record of a known kind leads.
@@ -142,7 +141,7 @@ fn take_kind(
 {
     match progress {
         CheckProgress::Start => take_truck(alloc, row),
-        CheckProgress::Open(file) => take_probe(file, row),
+        CheckProgress::Open(file) => take_later(file, row),
         CheckProgress::Ended(file) => {
             drop(file);
             Err(RecordRefusal::bad(RecordCause::Order))
@@ -171,22 +170,54 @@ fn take_truck(alloc: Global, row: &StringRecord) -> Result<CheckProgress, Record
 }
 
 // Where a record behind the truck leads: it is a probe or the end.
+#[tactic(auto, unfolding(crate::specs::Checks::judge_later))]
+fn take_later(file: CheckFile, row: &StringRecord) -> Result<CheckProgress, RecordRefusal>
+    ensures { Judges result (judge_later file (fields_of row.now)) }
+{
+    match field(row, 0) {
+        "truck" => {
+            drop(file);
+            Err(RecordRefusal::bad(RecordCause::Order))
+        }
+        "probe" => take_probe(file, row),
+        _ => take_end(file, row),
+    }
+}
+
+// Where the record of a probe leads.
 #[tactic(auto, unfolding(crate::specs::Checks::judge_probe))]
 fn take_probe(file: CheckFile, row: &StringRecord) -> Result<CheckProgress, RecordRefusal>
     ensures { Judges result (judge_probe file (fields_of row.now)) }
 {
-    let kind = field(row, 0);
-    if kind == "truck" {
-        return Err(RecordRefusal::bad(RecordCause::Order));
+    let mut file = file;
+    match add_probe(&mut file.probes, row) {
+        Ok(()) => Ok(CheckProgress::Open(file)),
+        Err(refusal) => {
+            drop(file);
+            Err(refusal)
+        }
     }
-    let CheckFile { truck, mut probes } = file;
-    if kind == "probe" {
-        let probe = parse_probe(&probes, row)?;
-        probes.push(probe)?;
-        return Ok(CheckProgress::Open(CheckFile { truck, probes }));
+}
+
+// Adds the probe of a record.
+fn add_probe(probes: &mut Probes, row: &StringRecord) -> Result<(), RecordRefusal>
+    ensures { Grows result probes.new (probes_of probes.old (fields_of row.now)) }
+{
+    let probe = parse_probe(probes, row)?;
+    probes.push(probe)
+}
+
+// Where the end leads.
+#[tactic(auto, unfolding(crate::specs::Checks::judge_end))]
+fn take_end(file: CheckFile, row: &StringRecord) -> Result<CheckProgress, RecordRefusal>
+    ensures { Judges result (judge_end file (fields_of row.now)) }
+{
+    if is_blank_from(row, 1) {
+        Ok(CheckProgress::Ended(file))
+    } else {
+        drop(file);
+        Err(RecordRefusal::bad(RecordCause::Extra))
     }
-    has_only(row, 1)?;
-    Ok(CheckProgress::Ended(CheckFile { truck, probes }))
 }
 
 // The probe of a record, behind those that are there.
