@@ -1,5 +1,4 @@
 pub mod Naming
-pub mod Fleets
 pub mod Kept
 pub mod Commanded
 pub mod Asking

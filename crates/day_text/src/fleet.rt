@@ -65,7 +65,6 @@ impl Fleet {
     }
 
     /// Adds a truck whose name is not there.
-    #[tactic(auto, using(crate::proofs::Fleets::names_more))]
     pub(crate) fn push(&mut self, truck: Truck) -> Result<(), RecordRefusal>
         requires fresh { has_name truck.name (truck_names self.old) ≡ false }
         requires few { length self.old < 64 }
