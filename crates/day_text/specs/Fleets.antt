@@ -4,6 +4,7 @@ use Rattle.road_graph.specs.Roads.{has_name}
 use Rattle.record_text.specs.Causes.{◌>>=◌, demand, limit}
 use Rattle.record_text.specs.Records.{Row, has_only, name_in}
 use Rattle.day_text.specs.Trucks.{load_of, truck_fields_of}
+use Rattle.day_text.specs.declared.truck.TruckFields.{TruckFields}
 use Rattle.trip_analysis.specs.declared.base.Truck.{Truck}
 use Rattle.record_text.specs.declared.refusal.Cause.{Cause}
 use Rattle.record_text.specs.declared.refusal.RecordCause.TheVariants as bad
@@ -17,14 +18,17 @@ truck_names trucks = map (λ t. t.name) trucks
 abbrev pub most_actors : ℕ
 most_actors = 16
 
--- truck,NAME,CARRIER,HEIGHT,WIDTH,LENGTH,AXLES
-unfoldable pub fleet_of : List Truck → Row → Result (List Truck) Cause
-fleet_of trucks fields = do
-  t ← truck_fields_of fields
+-- one truck more, of which these are the fields
+abbrev pub fleet_with : List Truck → TruckFields → Result (List Truck) Cause
+fleet_with trucks t = do
   a ← demand (not (has_name t.name (truck_names trucks))) bad.Same
   load ← load_of t.height t.width t.length t.axles
   b ← limit (nat_lt (length trucks) 64) kind.Trucks
   Ok (trucks ++ record { name = t.name; carrier = t.carrier; load = load } ∷ [])
+
+-- truck,NAME,CARRIER,HEIGHT,WIDTH,LENGTH,AXLES
+unfoldable pub fleet_of : List Truck → Row → Result (List Truck) Cause
+fleet_of trucks fields = truck_fields_of fields >>= fleet_with trucks
 
 -- actor,NAME
 unfoldable pub actors_of : List (List ℕ) → Row → Result (List (List ℕ)) Cause

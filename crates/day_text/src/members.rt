@@ -3,11 +3,11 @@
 ghost use Rattle.std.specs.Prelude.{◌≡◌};
 ghost use Rattle.csv.specs.Records.{fields_of};
 ghost use Rattle.record_text.specs.Causes.{Grows};
-ghost use Rattle.day_text.specs.Fleets.{actors_of, fleet_of};
+ghost use Rattle.day_text.specs.Fleets.{actors_of, fleet_of, fleet_with};
 
 use crate::fleet::Fleet;
 use crate::name_set::Names;
-use crate::truck::{load_of, parse_truck};
+use crate::truck::{TruckFields, load_of, parse_truck};
 use csv::StringRecord;
 use record_text::{Kind, RecordCause, RecordRefusal, demand, has_only, limit, name_in};
 use std::alloc::Global;
@@ -29,8 +29,17 @@ pub(crate) fn add_truck(
     ensures { Grows result fleet.new (fleet_of fleet.old (fields_of row.now)) }
 {
     let truck = parse_truck(alloc, row)?;
+    let added = enter(fleet, &truck);
+    drop(truck);
+    added
+}
+
+// Adds the truck of these fields.
+fn enter(fleet: &mut Fleet, truck: &TruckFields) -> Result<(), RecordRefusal>
+    ensures { Grows result fleet.new (fleet_with fleet.old truck.now) }
+{
     demand(!fleet.has(&truck.name), RecordCause::Same)?;
-    let load = load_of(&truck)?;
+    let load = load_of(truck)?;
     limit(fleet.len() < MOST_TRUCKS, Kind::Trucks)?;
     fleet.push(Truck {
         name: truck.name,
