@@ -9,13 +9,14 @@ use crate::asked::find_asked;
 use crate::day_so_far::DaySoFar;
 use crate::kind::CommandKind;
 use crate::orders::Order;
+use crate::referred::known;
 use csv::StringRecord;
 use names::Name;
 use office_words::Command;
 use permit_days::Day;
 use record_text::{
     Cause, Posted, RecordCause, RecordRefusal, RouteField, day_in, demand, field, has_only,
-    name_in, number_in, or_bad, parse_posted, parse_routes,
+    name_in, number_in, parse_posted, parse_routes,
 };
 use restriction_log::Change;
 use road_graph::{Network, Span};
@@ -45,10 +46,10 @@ pub(crate) fn parse_order(
 {
     match kind {
         CommandKind::Apply => parse_apply(alloc, so_far, row),
-        CommandKind::Post => Ok(parse_post(so_far, row)?),
-        CommandKind::SetDay => Ok(parse_set_day(so_far, row)?),
-        CommandKind::Surrender => Ok(parse_surrender(so_far, row)?),
-        CommandKind::Show => Ok(parse_show(so_far, row)?),
+        CommandKind::Post => parse_post(so_far, row),
+        CommandKind::SetDay => parse_set_day(so_far, row),
+        CommandKind::Surrender => parse_surrender(so_far, row),
+        CommandKind::Show => parse_show(so_far, row),
     }
 }
 
@@ -67,19 +68,17 @@ fn parse_apply(alloc: Global, so_far: &DaySoFar, row: &StringRecord) -> Result<O
 fn resolve(alloc: Global, so_far: &DaySoFar, fields: &ApplyFields) -> Result<Order, RecordRefusal>
     ensures { Judges result (resolved_of so_far.now fields.now) }
 {
-    let actor = or_bad(so_far.actors.number(&fields.actor), RecordCause::Unknown(2))?;
-    let truck = or_bad(so_far.fleet.number(&fields.truck), RecordCause::Unknown(3))?;
-    let from = or_bad(
-        so_far.network.node_named(&fields.from),
-        RecordCause::Unknown(4),
-    )?;
-    let to = or_bad(
-        so_far.network.node_named(&fields.to),
-        RecordCause::Unknown(5),
-    )?;
+    let actor = known(so_far.actors.number(&fields.actor), 2)?;
+    let truck = known(so_far.fleet.number(&fields.truck), 3)?;
+    let from = known(so_far.network.node_named(&fields.from), 4)?;
+    let to = known(so_far.network.node_named(&fields.to), 5)?;
     let asked = find_asked(alloc, &so_far.network, &fields.routes)?;
-    let first = or_bad(fields.first, RecordCause::Range(7))?;
-    let last = or_bad(fields.last, RecordCause::Range(8))?;
+    let Some(first) = fields.first else {
+        return Err(RecordRefusal::bad(RecordCause::Range(7)));
+    };
+    let Some(last) = fields.last else {
+        return Err(RecordRefusal::bad(RecordCause::Range(8)));
+    };
     match Application::on(&so_far.network, truck, from, to, asked, first, last) {
         Ok(application) => Ok(Order {
             actor,
@@ -91,15 +90,17 @@ fn resolve(alloc: Global, so_far: &DaySoFar, fields: &ApplyFields) -> Result<Ord
 
 // The posting of a record, for its actor.
 #[tactic(auto, unfolding(crate::specs::Commands::post_of))]
-fn parse_post(so_far: &DaySoFar, row: &StringRecord) -> Result<Order, Cause>
-    ensures { result ≡ post_of so_far.now (fields_of row.now) }
+fn parse_post(so_far: &DaySoFar, row: &StringRecord) -> Result<Order, RecordRefusal>
+    ensures { Judges result (post_of so_far.now (fields_of row.now)) }
 {
     has_only(row, 5)?;
     let actor = name_in(row, 2)?;
     let item = name_in(row, 3)?;
-    let what = or_bad(parse_posted(field(row, 3)), RecordCause::Field(4))?;
+    let Some(what) = parse_posted(field(row, 3)) else {
+        return Err(RecordRefusal::bad(RecordCause::Field(4)));
+    };
     let value = number_in(row, 5)?;
-    let actor = or_bad(so_far.actors.number(&actor), RecordCause::Unknown(2))?;
+    let actor = known(so_far.actors.number(&actor), 2)?;
     let change = posting(&so_far.network, what, &item, value)?;
     Ok(Order {
         actor,
@@ -109,14 +110,16 @@ fn parse_post(so_far: &DaySoFar, row: &StringRecord) -> Result<Order, Cause>
 
 // The setting of the day of a record, for its actor.
 #[tactic(auto, unfolding(crate::specs::Commands::set_day_of))]
-fn parse_set_day(so_far: &DaySoFar, row: &StringRecord) -> Result<Order, Cause>
-    ensures { result ≡ set_day_of so_far.now (fields_of row.now) }
+fn parse_set_day(so_far: &DaySoFar, row: &StringRecord) -> Result<Order, RecordRefusal>
+    ensures { Judges result (set_day_of so_far.now (fields_of row.now)) }
 {
     has_only(row, 3)?;
     let actor = name_in(row, 2)?;
     let day = day_in(row, 3)?;
-    let actor = or_bad(so_far.actors.number(&actor), RecordCause::Unknown(2))?;
-    let day = or_bad(day, RecordCause::Range(3))?;
+    let actor = known(so_far.actors.number(&actor), 2)?;
+    let Some(day) = day else {
+        return Err(RecordRefusal::bad(RecordCause::Range(3)));
+    };
     Ok(Order {
         actor,
         command: Command::Day(day),
@@ -124,8 +127,8 @@ fn parse_set_day(so_far: &DaySoFar, row: &StringRecord) -> Result<Order, Cause>
 }
 
 // The surrender of a record, for its actor.
-fn parse_surrender(so_far: &DaySoFar, row: &StringRecord) -> Result<Order, Cause>
-    ensures { result ≡ surrender_of so_far.now (fields_of row.now) }
+fn parse_surrender(so_far: &DaySoFar, row: &StringRecord) -> Result<Order, RecordRefusal>
+    ensures { Judges result (surrender_of so_far.now (fields_of row.now)) }
 {
     let (actor, number) = parse_permit(so_far, row)?;
     Ok(Order {
@@ -135,8 +138,8 @@ fn parse_surrender(so_far: &DaySoFar, row: &StringRecord) -> Result<Order, Cause
 }
 
 // The showing of a record, for its actor.
-fn parse_show(so_far: &DaySoFar, row: &StringRecord) -> Result<Order, Cause>
-    ensures { result ≡ show_of so_far.now (fields_of row.now) }
+fn parse_show(so_far: &DaySoFar, row: &StringRecord) -> Result<Order, RecordRefusal>
+    ensures { Judges result (show_of so_far.now (fields_of row.now)) }
 {
     let (actor, number) = parse_permit(so_far, row)?;
     Ok(Order {
@@ -154,7 +157,9 @@ fn parse_apply_fields(row: &StringRecord) -> Result<ApplyFields<'_>, Cause>
     let truck = name_in(row, 3)?;
     let from = name_in(row, 4)?;
     let to = name_in(row, 5)?;
-    let routes = or_bad(parse_routes(field(row, 5)), RecordCause::Field(6))?;
+    let Some(routes) = parse_routes(field(row, 5)) else {
+        return Err(Cause::Bad(RecordCause::Field(6)));
+    };
     let first = day_in(row, 7)?;
     let last = day_in(row, 8)?;
     Ok(ApplyFields {
@@ -187,12 +192,12 @@ fn posting(network: &Network, what: Posted, item: &Name, value: u32) -> Result<C
 {
     match what {
         Posted::Limit(what) => {
-            let segment = or_bad(network.segment_named(item), RecordCause::Unknown(3))?;
+            let segment = known(network.segment_named(item), 3)?;
             demand(what.takes(value), RecordCause::Range(5))?;
             Ok(Change::of(segment, what, value))
         }
         Posted::Rating => {
-            let span = or_bad(network.span_named(item), RecordCause::Unknown(3))?;
+            let span = known(network.span_named(item), 3)?;
             demand(Span::takes_rating(value), RecordCause::Range(5))?;
             Ok(Change::Rating {
                 span,
@@ -210,6 +215,6 @@ fn parse_permit(so_far: &DaySoFar, row: &StringRecord) -> Result<(u32, u32), Cau
     has_only(row, 3)?;
     let actor = name_in(row, 2)?;
     let number = number_in(row, 3)?;
-    let actor = or_bad(so_far.actors.number(&actor), RecordCause::Unknown(2))?;
+    let actor = known(so_far.actors.number(&actor), 2)?;
     Ok((actor, number))
 }

@@ -22,6 +22,7 @@ mod members;
 mod name_set;
 mod orders;
 mod progress;
+mod referred;
 mod roads;
 mod scripts;
 mod truck;

@@ -19,7 +19,7 @@ use crate::roads::add_road;
 use csv::StringRecord;
 use permit_days::Day;
 use record_text::{
-    Cause, Progress, RecordCause, RecordRefusal, day_in, field, has_only, is_blank_from, or_bad,
+    Cause, Progress, RecordCause, RecordRefusal, day_in, field, has_only, is_blank_from,
 };
 use road_graph::Network;
 use std::alloc::Global;
@@ -95,8 +95,10 @@ fn parse_opening(row: &StringRecord) -> Result<Day, Cause>
     ensures { result ≡ opening_of (fields_of row.now) }
 {
     has_only(row, 2)?;
-    let day = day_in(row, 2)?;
-    or_bad(day, RecordCause::Range(2))
+    match day_in(row, 2)? {
+        Some(day) => Ok(day),
+        None => Err(Cause::Bad(RecordCause::Range(2))),
+    }
 }
 
 // Where a record behind the day leads.

@@ -2,13 +2,16 @@
 
 ghost use Rattle.std.specs.Prelude.{◌≡◌};
 ghost use Rattle.csv.specs.Records.{fields_of};
+ghost use Rattle.road_graph.specs.Roads.{has_name, segment_names, span_names};
 ghost use Rattle.record_text.specs.Causes.{Grows};
-ghost use Rattle.day_text.specs.Roads.{with_limit_of, with_node_of, roads_of, with_segment_of, with_span_of};
+ghost use Rattle.day_text.specs.Roads.{limit_on, roads_of, segment_between, span_on, with_limit_of, with_node_of, with_segment_of, with_span_of};
 
 use crate::kind::RoadKind;
+use crate::referred::known;
 use csv::StringRecord;
+use names::Name;
 use record_text::{
-    Kind, RecordCause, RecordRefusal, demand, field, has_only, limit, name_in, number_in, or_bad,
+    Kind, RecordCause, RecordRefusal, demand, field, has_only, limit, name_in, number_in,
 };
 use road_graph::{AddRefusal, Network, Span, What};
 
@@ -45,7 +48,7 @@ fn add_node(network: &mut Network, row: &StringRecord) -> Result<(), RecordRefus
 }
 
 // Adds the segment of a record.
-#[tactic(auto, using(crate::proofs::Naming::numbered_is_there), unfolding(crate::specs::Roads::with_segment_of))]
+#[tactic(auto, unfolding(crate::specs::Roads::with_segment_of))]
 fn add_segment(network: &mut Network, row: &StringRecord) -> Result<(), RecordRefusal>
     ensures { Grows result network.new (with_segment_of network.old (fields_of row.now)) }
 {
@@ -54,9 +57,22 @@ fn add_segment(network: &mut Network, row: &StringRecord) -> Result<(), RecordRe
     let from = name_in(row, 3)?;
     let to = name_in(row, 4)?;
     let feet = number_in(row, 5)?;
-    demand(network.segment_named(&name).is_none(), RecordCause::Same)?;
-    let from = or_bad(network.node_named(&from), RecordCause::Unknown(3))?;
-    let to = or_bad(network.node_named(&to), RecordCause::Unknown(4))?;
+    add_segment_between(network, name, &from, &to, feet)
+}
+
+// Adds a segment between two nodes, each by its name.
+fn add_segment_between(
+    network: &mut Network,
+    name: Name,
+    from: &Name,
+    to: &Name,
+    feet: u32,
+) -> Result<(), RecordRefusal>
+    ensures { Grows result network.new (segment_between network.old name from.now to.now feet) }
+{
+    demand(!has_segment(network, &name), RecordCause::Same)?;
+    let from = known(network.node_named(from), 3)?;
+    let to = known(network.node_named(to), 4)?;
     match network.add_segment(name, from, to, feet) {
         Ok(_) => Ok(()),
         Err(AddRefusal::Range) => Err(RecordRefusal::bad(RecordCause::Range(5))),
@@ -73,12 +89,23 @@ fn set_limit(network: &mut Network, row: &StringRecord) -> Result<(), RecordRefu
 {
     has_only(row, 4)?;
     let segment = name_in(row, 2)?;
-    let what = or_bad(
-        What::of_word(field(row, 2).as_bytes()),
-        RecordCause::Field(3),
-    )?;
+    let Some(what) = What::of_word(field(row, 2).as_bytes()) else {
+        return Err(RecordRefusal::bad(RecordCause::Field(3)));
+    };
     let value = number_in(row, 4)?;
-    let segment = or_bad(network.segment_named(&segment), RecordCause::Unknown(2))?;
+    set_limit_on(network, &segment, what, value)
+}
+
+// Sets a limit of a segment, by its name.
+fn set_limit_on(
+    network: &mut Network,
+    segment: &Name,
+    what: What,
+    value: u32,
+) -> Result<(), RecordRefusal>
+    ensures { Grows result network.new (limit_on network.old segment.now what value) }
+{
+    let segment = known(network.segment_named(segment), 2)?;
     match network.set_limit(segment, what, value) {
         Ok(()) => Ok(()),
         Err(AddRefusal::Range) => Err(RecordRefusal::bad(RecordCause::Range(4))),
@@ -87,7 +114,7 @@ fn set_limit(network: &mut Network, row: &StringRecord) -> Result<(), RecordRefu
 }
 
 // Adds the span of a record.
-#[tactic(auto, using(crate::proofs::Naming::numbered_is_there), unfolding(crate::specs::Roads::with_span_of))]
+#[tactic(auto, unfolding(crate::specs::Roads::with_span_of))]
 fn add_span(network: &mut Network, row: &StringRecord) -> Result<(), RecordRefusal>
     ensures { Grows result network.new (with_span_of network.old (fields_of row.now)) }
 {
@@ -96,8 +123,21 @@ fn add_span(network: &mut Network, row: &StringRecord) -> Result<(), RecordRefus
     let segment = name_in(row, 3)?;
     let inches = number_in(row, 4)?;
     let rating = number_in(row, 5)?;
-    demand(network.span_named(&name).is_none(), RecordCause::Same)?;
-    let segment = or_bad(network.segment_named(&segment), RecordCause::Unknown(3))?;
+    add_span_on(network, name, &segment, inches, rating)
+}
+
+// Adds a span to a segment, by its name.
+fn add_span_on(
+    network: &mut Network,
+    name: Name,
+    segment: &Name,
+    inches: u32,
+    rating: u32,
+) -> Result<(), RecordRefusal>
+    ensures { Grows result network.new (span_on network.old name segment.now inches rating) }
+{
+    demand(!has_span(network, &name), RecordCause::Same)?;
+    let segment = known(network.segment_named(segment), 3)?;
     demand(1 <= inches && inches <= 6000, RecordCause::Range(4))?;
     demand(Span::takes_rating(rating), RecordCause::Range(5))?;
     limit(network.spans() < 2048, Kind::Spans)?;
@@ -107,4 +147,20 @@ fn add_span(network: &mut Network, row: &StringRecord) -> Result<(), RecordRefus
         Err(AddRefusal::NoMemory) => Err(RecordRefusal::NoMemory),
         Err(_) => unreachable!(),
     }
+}
+
+// Whether there is a segment of this name.
+#[tactic(auto, using(crate::proofs::Naming::numbered_is_there))]
+fn has_segment(network: &Network, name: &Name) -> bool
+    ensures { result ≡ has_name name.now (segment_names network.now.segments) }
+{
+    network.segment_named(name).is_some()
+}
+
+// Whether there is a span of this name.
+#[tactic(auto, using(crate::proofs::Naming::numbered_is_there))]
+fn has_span(network: &Network, name: &Name) -> bool
+    ensures { result ≡ has_name name.now (span_names network.now.spans) }
+{
+    network.span_named(name).is_some()
 }
