@@ -2,3 +2,4 @@ pub mod Words
 pub mod Entries
 pub mod Formats
 pub mod Journals
+pub mod Parts

@@ -169,8 +169,8 @@ fn more_numbers(out: &mut Vec<u8>, numbers: &[u32]) -> Result<(), AllocError>
     Ok(())
 }
 
-// The lists of routes with slashes between them, behind a space.
-fn route_lists(out: &mut Vec<u8>, routes: &SharedRoutes) -> Result<(), AllocError>
+/// The lists of routes with slashes between them, behind a space.
+pub fn route_lists(out: &mut Vec<u8>, routes: &SharedRoutes) -> Result<(), AllocError>
     ensures { OnOk result (out.new.items ≡ out.old.items ++ (32 ∷ routes_text routes.now)) }
 {
     let count = routes.len();
