@@ -1,0 +1,151 @@
+// A line for each permit that was recalled.
+
+ghost use Rattle.std.specs.Prelude.{◌≡◌, ◌++◌, ◌∷◌, List, IfOk, OnOk};
+ghost use Rattle.std.specs.Fmt.{decimal};
+ghost use Rattle.office_words.specs.declared.entry.Reply.{Reply};
+ghost use Rattle.recall_list.specs.Issues.{recalled_in, recalled_numbers};
+ghost use Rattle.reroute_report.specs.Lines.{line_for, lines_for, refused_line, replaced_line, replies_to, reroute_text};
+
+use clearance_rules::Limit;
+use journal_text::{limit_text, routes_text};
+use names::NoMemory;
+use numerals::write_number;
+use office_words::{Entry, Reply};
+use std::alloc::{AllocError, Global};
+use trip_routes::SharedRoutes;
+
+/// A line for each permit that the history recalls, in order: what the office answered this caller when it applied for that permit
+/// once more. `NoMemory` where no memory was left.
+pub fn reroute_report(alloc: Global, caller: u32, history: &[Entry]) -> Result<Vec<u8>, NoMemory>
+    ensures { IfOk result (λ text. text.items ≡ reroute_text caller history.now) }
+{
+    let recalled = recalled(alloc, history)?;
+    let mut text = Vec::new(alloc);
+    add_lines(alloc, &mut text, recalled.as_slice(), caller, history)?;
+    Ok(text)
+}
+
+// All numbers that the history recalls, in order.
+fn recalled(alloc: Global, history: &[Entry]) -> Result<Vec<u32>, NoMemory>
+    ensures { IfOk result (λ numbers. numbers.items ≡ recalled_in history.now) }
+{
+    let mut numbers = Vec::new(alloc);
+    'entries: for entry in history {
+        add_recalled(&mut numbers, &entry.reply)?;
+    }
+    Ok(numbers)
+}
+
+// The numbers that an answer recalls.
+fn add_recalled(numbers: &mut Vec<u32>, reply: &Reply) -> Result<(), AllocError>
+    ensures { OnOk result (numbers.new.items ≡ numbers.old.items ++ recalled_numbers reply.now) }
+{
+    match reply {
+        Reply::Posted { recalled, .. } => numbers.extend_from_slice(recalled.as_slice()),
+        _ => Ok(()),
+    }
+}
+
+// A line for each of these permits, with the answers to the caller.
+fn add_lines(
+    alloc: Global,
+    text: &mut Vec<u8>,
+    permits: &[u32],
+    caller: u32,
+    history: &[Entry],
+) -> Result<(), NoMemory>
+    ensures { OnOk result
+        (text.new.items ≡ text.old.items ++ lines_for permits.now (replies_to caller history.now)) }
+{
+    let mut left = permits;
+    'entries: for entry in history {
+        if entry.caller == caller {
+            left = add_first(alloc, text, left, &entry.reply)?;
+        }
+    }
+    Ok(())
+}
+
+// The line of the first of these permits, if there is one, by the next answer; and the permits that are left.
+fn add_first<'a>(
+    alloc: Global,
+    text: &mut Vec<u8>,
+    permits: &'a [u32],
+    reply: &Reply,
+) -> Result<&'a [u32], NoMemory>
+    ensures { IfOk result (λ left. (replies : List Reply) → text.new.items ++ lines_for left.now replies
+        ≡ text.old.items ++ lines_for permits.now (reply.now ∷ replies)) }
+{
+    let Some((permit, left)) = permits.split_first() else {
+        return Ok(permits);
+    };
+    add_line(alloc, text, *permit, reply)?;
+    Ok(left)
+}
+
+// The line of a permit.
+fn add_line(alloc: Global, text: &mut Vec<u8>, permit: u32, reply: &Reply) -> Result<(), NoMemory>
+    ensures { OnOk result (text.new.items ≡ text.old.items ++ line_for permit reply.now) }
+{
+    match reply {
+        Reply::Issued {
+            number,
+            version,
+            routes,
+        } => add_replaced(alloc, text, permit, *number, *version, routes),
+        Reply::Refused { version, limit } => add_refused(alloc, text, permit, *version, limit),
+        _ => Ok(()),
+    }
+}
+
+// The line of a permit that is replaced.
+#[tactic(auto, using(crate::proofs::Lines::replaced_adds))]
+fn add_replaced(
+    alloc: Global,
+    text: &mut Vec<u8>,
+    permit: u32,
+    number: u32,
+    version: u32,
+    routes: &SharedRoutes,
+) -> Result<(), NoMemory>
+    ensures { OnOk result
+        (text.new.items ≡ text.old.items ++ replaced_line permit number version routes.now) }
+{
+    let routes = routes_text(alloc, routes)?;
+    add_number(text, "permit ", permit)?;
+    add_number(text, " replaced ", number)?;
+    add_number(text, " at ", version)?;
+    text.extend_from_slice(b" route ")?;
+    text.extend_from_slice(routes.as_slice())?;
+    text.push(b'\n')?;
+    Ok(())
+}
+
+// The line of a permit whose trip fails a limit now.
+#[tactic(auto, using(crate::proofs::Lines::refused_adds))]
+fn add_refused(
+    alloc: Global,
+    text: &mut Vec<u8>,
+    permit: u32,
+    version: u32,
+    limit: &Limit,
+) -> Result<(), NoMemory>
+    ensures { OnOk result
+        (text.new.items ≡ text.old.items ++ refused_line permit version limit.now) }
+{
+    let limit = limit_text(alloc, limit)?;
+    add_number(text, "permit ", permit)?;
+    add_number(text, " refused ", version)?;
+    text.push(b' ')?;
+    text.extend_from_slice(limit.as_slice())?;
+    text.push(b'\n')?;
+    Ok(())
+}
+
+// Some words, and a number.
+fn add_number(text: &mut Vec<u8>, words: &str, number: u32) -> Result<(), AllocError>
+    ensures { OnOk result (text.new.items ≡ text.old.items ++ (words.now ++ decimal number)) }
+{
+    text.extend_from_slice(words.as_bytes())?;
+    write_number(text, number)
+}
