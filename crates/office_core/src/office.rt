@@ -1,6 +1,6 @@
 // The office of one thread.
 
-ghost use Rattle.std.specs.Prelude.{◌≡◌, ◌<◌, ◌≤◌, All, IfOk, IfSome, false, is_some};
+ghost use Rattle.std.specs.Prelude.{◌≡◌, ◌<◌, ◌≤◌, All, IfOk, IfSome, false, is_some, length};
 ghost use Rattle.std.specs.Arc.{arc_value};
 ghost use Rattle.restriction_log.specs.States.{AreOf};
 ghost use Rattle.permit_book.specs.Permits.{is_issued, permit_of};
@@ -106,14 +106,15 @@ impl Office {
         told
     }
 
-    /// The entries so far, which keep all that every legal history promises, each of a caller below 65,536. Each number
-    /// that a posting recalls was issued by just one entry before it, for a truck that is there. Takes no memory.
+    /// The entries so far, at most 1,000,000, which keep all that every legal history promises, each of a caller below 65,536.
+    /// Each number that a posting recalls was issued by just one entry before it, for a truck that is there. Takes no memory.
     pub fn history(&self) -> &[Entry]
         ensures entries { result.now ≡ self.now.history }
         ensures legal { IsLegal self.now.base self.now.opening self.now.history }
         ensures promises { KeepsPromises self.now.base self.now.opening self.now.history }
         ensures recalled { RecalledWereIssued self.now.base self.now.history }
         ensures callers { All (λ e. e.caller < 65536) self.now.history }
+        ensures few { length self.now.history ≤ 1000000 }
     {
         self.base().lists_are_in_order();
         self.history.as_slice()
