@@ -75,7 +75,7 @@ none_outdated : (base : BaseLists) (m : Machine) (caller : ℕ) (a : Application
 none_outdated base m caller a es roads (r, is, late) legal = grind (arith, late, tried_settled base m caller a r es roads (tried base m caller a r es is legal))
 
 -- so none came before
-none_before : (base : BaseLists) (m : Machine) (caller : ℕ) (a : Application) (k : ℕ) (front : List Entry) → IsRoads base.roads → AreOutdated caller a k front → IsLegalFrom base m front → (k ≡ 0) × (front ≡ [])
+pub none_before : (base : BaseLists) (m : Machine) (caller : ℕ) (a : Application) (k : ℕ) (front : List Entry) → IsRoads base.roads → AreOutdated caller a k front → IsLegalFrom base m front → (k ≡ 0) × (front ≡ [])
 none_before base m caller a zero front roads none legal = (refl, none)
 none_before base m caller a (suc k) front roads (before, last, far, late, is) legal =
     absurd (none_outdated base (after_all base m before) caller a last roads late (legal_later base m before last (subst (IsLegalFrom base m) is legal)))

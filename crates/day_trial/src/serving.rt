@@ -34,6 +34,36 @@ pub fn serve_in_order(alloc: Global, file: DayFile) -> Result<Office, NoMemory>
     serve_orders::<Brand, Brand>(alloc, file, Blank::new(1), Blank::new(1))
 }
 
+/// Carries out one command, by the calls of its actor. The gate, which keeps nobody waiting, is told the command's place in the
+/// file.
+///
+/// The history grows by the command's entries. The reply is `Full` only where the history then holds the most entries that it
+/// may.
+pub fn carry_out_order<F: Ledger, O: Ledger>(
+    alloc: Global,
+    office: &mut CountedOffice<O>,
+    finder: &mut Finder<F>,
+    base: &Base,
+    order: &Order,
+    place: u32,
+) -> Reply
+    requires base { office.old.office.base ≡ base.now }
+    requires sound { MayCarryOut base.now order.now.command }
+    requires caller { order.now.actor < 65536 }
+    requires follows { IfSome finder.old.follower (FollowsOffice office.old.office) }
+    ensures carried { WasCarriedOut office.old.office order.now result office.new.office }
+    ensures follows { IfSome finder.new.follower (FollowsOffice office.new.office) }
+{
+    let docket = Docket {
+        base,
+        gate: &OpenGate,
+        actor: order.actor,
+        command: place,
+    };
+    let mut seat = OneSeat::new(office, order.actor);
+    carry_out(alloc, &mut seat, finder, &order.command, &docket)
+}
+
 // The same, whatever the base keeps of its trucks, with these counters.
 fn serve_orders<F: Ledger, O: Ledger>(
     alloc: Global,
@@ -108,36 +138,9 @@ fn carry_out_one<F: Ledger, O: Ledger>(
 {
     // the laws by which the history cannot be full
     unfoldings_are_short();
-    match ask(alloc, office, finder, base, order, place) {
+    match carry_out_order(alloc, office, finder, base, order, place) {
         Reply::NoMemory => Err(NoMemory),
         Reply::Full { .. } => unreachable!(),
         _ => Ok(()),
     }
-}
-
-// Carries out one command, by the calls of its actor. The gate, which keeps nobody waiting, is told the command's place in the
-// file.
-fn ask<F: Ledger, O: Ledger>(
-    alloc: Global,
-    office: &mut CountedOffice<O>,
-    finder: &mut Finder<F>,
-    base: &Base,
-    order: &Order,
-    place: u32,
-) -> Reply
-    requires base { office.old.office.base ≡ base.now }
-    requires sound { MayCarryOut base.now order.now.command }
-    requires caller { order.now.actor < 65536 }
-    requires follows { IfSome finder.old.follower (FollowsOffice office.old.office) }
-    ensures carried { WasCarriedOut office.old.office order.now result office.new.office }
-    ensures follows { IfSome finder.new.follower (FollowsOffice office.new.office) }
-{
-    let docket = Docket {
-        base,
-        gate: &OpenGate,
-        actor: order.actor,
-        command: place,
-    };
-    let mut seat = OneSeat::new(office, order.actor);
-    carry_out(alloc, &mut seat, finder, &order.command, &docket)
 }
