@@ -1,0 +1,9 @@
+pub mod Rerouted
+pub mod Serving
+pub use Rattle.office_core.specs.Machine
+pub use Rattle.office_core.specs.Promises
+pub use Rattle.recall_list.specs.Issues
+pub use Rattle.analyst_pool.specs.Unfolds
+pub use Rattle.reroute_desk.specs.Replacements
+pub use Rattle.day_text.specs.Days
+pub use Rattle.day_text.specs.Laws
