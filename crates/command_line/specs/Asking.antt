@@ -8,7 +8,7 @@ use Rattle.clap.specs.declared.parser.matches.ArgMatches.{ArgMatches}
 use Rattle.command_line.specs.declared.asked.Asked.{Asked}
 use Rattle.command_line.specs.declared.asked.Options.{Options}
 use Rattle.command_line.specs.declared.asked.Task.{Task}
-use Rattle.command_line.specs.declared.asked.Task.TheVariants.{Check, Day, Make, Trial, Audit, Design, Convoy}
+use Rattle.command_line.specs.declared.asked.Task.TheVariants.{Check, Day, Make, Trial, Audit, Design, Convoy, Reroute}
 use Rattle.command_line.specs.Office.{NumberOption, gap_option, office, seed_option, size_option, trucks_option}
 
 -- the task that a word names
@@ -21,7 +21,8 @@ task_named word =
     else (if bytes_eq word (codes "audit") then Some Audit
     else (if bytes_eq word (codes "design") then Some Design
     else (if bytes_eq word (codes "convoy") then Some Convoy
-    else None))))))
+    else (if bytes_eq word (codes "reroute") then Some Reroute
+    else None)))))))
 
 -- the task at COMMAND
 abbrev pub task_at : List Row → Option Task

@@ -3,7 +3,7 @@ use Rattle.std.specs.Prelude.{◌≡◌, ℕ, List, [], ◌∷◌, codes, Some, 
 use Rattle.command_line.specs.declared.asked.Asked.{Asked}
 use Rattle.command_line.specs.declared.asked.Options.{Options}
 use Rattle.command_line.specs.declared.asked.Task.{Task}
-use Rattle.command_line.specs.declared.asked.Task.TheVariants.{Check, Day, Make, Trial, Audit, Design, Convoy}
+use Rattle.command_line.specs.declared.asked.Task.TheVariants.{Check, Day, Make, Trial, Audit, Design, Convoy, Reroute}
 use Rattle.command_line.specs.Asking.{AreAccepted, asked_of}
 
 -- the numbers of options that are not given
@@ -14,7 +14,7 @@ default_options = record { seed = 1; size = 1; trucks = 2; gap = 360 }
 abbrev pub AsksForTask : List ℕ → Task → Type 0
 AsksForTask word task = asked_of (word ∷ []) ≡ Some (record { task = task; options = default_options })
 
--- each of the seven words asks for its task
+-- each of the eight words asks for its task
 pub record EachWordAsks : Type 0 where
   pub check : AsksForTask (codes "check") Check
   pub day : AsksForTask (codes "day") Day
@@ -23,6 +23,7 @@ pub record EachWordAsks : Type 0 where
   pub audit : AsksForTask (codes "audit") Audit
   pub design : AsksForTask (codes "design") Design
   pub convoy : AsksForTask (codes "convoy") Convoy
+  pub reroute : AsksForTask (codes "reroute") Reroute
 
 -- no words ask for nothing, and so does a call for help
 abbrev pub NoWordsAndHelpAskForNothing : Type 0

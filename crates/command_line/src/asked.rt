@@ -19,6 +19,8 @@ pub enum Task {
     Design,
     /// Trucks that follow each other are rated.
     Convoy,
+    /// An office is run for a day, and applies again for each permit that it recalls.
+    Reroute,
 }
 
 /// The numbers of the options. All are read with every task.

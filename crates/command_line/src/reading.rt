@@ -84,6 +84,7 @@ fn task_named(word: &str) -> Option<Task>
         "audit" => Some(Task::Audit),
         "design" => Some(Task::Design),
         "convoy" => Some(Task::Convoy),
+        "reroute" => Some(Task::Reroute),
         _ => None,
     }
 }

@@ -32,6 +32,7 @@ use Rattle.permit_program.specs.Audit.{JudgesHistory, JudgesParts, answer_to_ent
 use Rattle.permit_program.specs.Command.{Answer, Command, IsRefusalOf, Makes, answer_to, refusal_in}
 use Rattle.permit_program.specs.Commands.{command_by, command_of}
 use Rattle.permit_program.specs.Convoy.{answer_to_convoy, convoy_refusal}
+use Rattle.permit_program.specs.Reroute.{JudgesFile, answer_to_entries}
 use Rattle.permit_program.specs.Endings.{AnswersRefusal, AnswersText, AnswersUnread, WasUnread}
 use Rattle.permit_program.specs.Runs.{AsksForDay, CallFor, IsPlain, IsRun, IsSettled, IsStatusFor, IsStatusOr, Outside, SinkFailed, SourceAt, Told, Took, WroteLine, bytes_for, bytes_line, most_bytes, status_by}
 use Rattle.permit_program.specs.declared.refusal.Refusal.{Refusal}
@@ -59,9 +60,9 @@ pub takes_none : (left : Option (List ℕ)) → TookAtMost (most_bytes + 1) left
 takes_none None = ([], tt, omega arith)
 takes_none (Some bytes) = ([], refl, omega arith)
 
--- each refusal of a command ends with 5, 6 or 9
+-- each refusal of a command ends with 5, 6, 9 or 10
 abbrev pub IsRefusalStatus : ℕ → Type 0
-IsRefusalStatus status = (status ≡ 5) ⊎ (status ≡ 6) ⊎ (status ≡ 9)
+IsRefusalStatus status = (status ≡ 5) ⊎ (status ≡ 6) ⊎ (status ≡ 9) ⊎ (status ≡ 10)
 
 cause_status : (cause : Cause) → IsRefusalStatus (status_of cause)
 cause_status (why.Bad cause) = inl refl
@@ -86,7 +87,7 @@ convoy_status trucks gap (Err refused) answer is = file_status {T = CheckFile} (
 
 verdict_status : (verdict : Verdict) (answer : Answer) → answer_to_verdict verdict ≡ Some answer → IsRefusalStatus answer.status
 verdict_status Legal answer is = absurd cc
-verdict_status (Bad n) answer is = answers (answer_to_entry n) answer is (inr (inr refl))
+verdict_status (Bad n) answer is = answers (answer_to_entry n) answer is (inr (inr (inl refl)))
 
 history_status : (history : List Entry) (told : Result DayParts (ℕ × Cause)) (answer : Answer) → JudgesHistory history told (Some answer) → IsRefusalStatus answer.status
 history_status history (Ok file) answer (verdict, right, is) = verdict_status verdict answer is
@@ -96,6 +97,11 @@ audit_status : (journal behind : List ℕ) (answer : Answer) → JudgesParts jou
 audit_status journal behind answer (inl (row, bad, is)) = answers (answer_to_line row) answer is (inl refl)
 audit_status journal behind answer (inr (history, read, judged)) = history_status history (day_of behind) answer judged
 
+reroute_status : (told : Result DayParts (ℕ × Cause)) (answer : Answer) → JudgesFile told (Some answer) → IsRefusalStatus answer.status
+reroute_status (Ok file) answer (inl (room, is)) = absurd cc
+reroute_status (Ok file) answer (inr (long, is)) = answers answer_to_entries answer is (inr (inr (inr refl)))
+reroute_status (Err (row, cause)) answer is = answers (answer_to (row, cause)) answer is (cause_status cause)
+
 pub refusal_status : (t : Task) (options : Options) (bytes : List ℕ) (answer : Answer) → (command_by t options).Judges bytes (Some answer) → IsRefusalStatus answer.status
 refusal_status task.Check options bytes answer is = file_status (check_of bytes) answer is
 refusal_status task.Day options bytes answer is = file_status (day_of bytes) answer is
@@ -104,6 +110,7 @@ refusal_status task.Trial options bytes answer is = absurd cc
 refusal_status task.Audit options bytes answer is = audit_status is.journal is.behind answer is.judged
 refusal_status task.Design options bytes answer is = file_status (check_of bytes) answer is
 refusal_status task.Convoy options bytes answer is = convoy_status options.trucks options.gap (check_of bytes) answer is
+refusal_status task.Reroute options bytes answer is = reroute_status (day_of bytes) answer is
 
 -- none of these is plain
 away : (k : ℕ) → k ≢ 0 → k ≢ 2 → k ≢ 3 → k ≢ 4 → k ≢ 7 → k ≢ 8 → (n : ℕ) → n ≡ k → IsPlain n → ⊥
@@ -119,8 +126,10 @@ is_refusals n (inl five) plain =
     away 5 (λ e. omega (arith, e)) (λ e. omega (arith, e)) (λ e. omega (arith, e)) (λ e. omega (arith, e)) (λ e. omega (arith, e)) (λ e. omega (arith, e)) n five plain
 is_refusals n (inr (inl six)) plain =
     away 6 (λ e. omega (arith, e)) (λ e. omega (arith, e)) (λ e. omega (arith, e)) (λ e. omega (arith, e)) (λ e. omega (arith, e)) (λ e. omega (arith, e)) n six plain
-is_refusals n (inr (inr nine)) plain =
+is_refusals n (inr (inr (inl nine))) plain =
     away 9 (λ e. omega (arith, e)) (λ e. omega (arith, e)) (λ e. omega (arith, e)) (λ e. omega (arith, e)) (λ e. omega (arith, e)) (λ e. omega (arith, e)) n nine plain
+is_refusals n (inr (inr (inr ten))) plain =
+    away 10 (λ e. omega (arith, e)) (λ e. omega (arith, e)) (λ e. omega (arith, e)) (λ e. omega (arith, e)) (λ e. omega (arith, e)) (λ e. omega (arith, e)) n ten plain
 
 -- a command that is no day's tells nobody
 pub tells_nobody : (t : Task) (options : Options) → (t ≡ task.Day → ⊥) → (bytes text : List ℕ) (output : (command_by t options).IsOutput bytes text) → (command_by t options).recalls bytes text output ≡ None
@@ -131,6 +140,7 @@ tells_nobody task.Trial options other bytes text output = refl
 tells_nobody task.Audit options other bytes text output = refl
 tells_nobody task.Design options other bytes text output = refl
 tells_nobody task.Convoy options other bytes text output = refl
+tells_nobody task.Reroute options other bytes text output = refl
 
 -- a run of a day is one of whatever asks for a day
 pub of_day : {S K : Type 0} (asked : Option Asked) (before after : Outside S K) (status : ℕ) → AsksForDay asked → ((a : Asked) → a.task ≡ task.Day → IsRun (Some a) before after status) → IsRun asked before after status

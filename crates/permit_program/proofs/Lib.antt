@@ -1,6 +1,7 @@
 pub mod Lines
 pub mod Only
 pub mod Audits
+pub mod Reroutes
 pub mod Ends
 pub mod Heard
 pub mod Serial

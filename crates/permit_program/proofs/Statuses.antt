@@ -10,6 +10,7 @@ use Rattle.permit_program.specs.Laws.{CommandsJudgeOnce, EveryStatusIsNamed, IsS
 use Rattle.permit_program.specs.Runs.{IsPlain, Outside, RefusedBytes, RefusedFile, WroteUntold}
 use Rattle.permit_program.proofs.Audits.{audits_once}
 use Rattle.permit_program.proofs.Ends.{IsRefusalStatus, refusal_status}
+use Rattle.permit_program.proofs.Reroutes.{reroutes_once}
 
 plain_named : (status : ℕ) → IsPlain status → IsStatus status
 plain_named status (inl e) = inl e
@@ -22,7 +23,8 @@ plain_named status (inr (inr (inr (inr (inr e))))) = inr (inr (inr (inr (inr (in
 refusal_named : (status : ℕ) → IsRefusalStatus status → IsStatus status
 refusal_named status (inl e) = inr (inr (inr (inr (inl e))))
 refusal_named status (inr (inl e)) = inr (inr (inr (inr (inr (inl e)))))
-refusal_named status (inr (inr e)) = inr (inr (inr (inr (inr (inr (inr (inr e)))))))
+refusal_named status (inr (inr (inl e))) = inr (inr (inr (inr (inr (inr (inr (inr (inl e))))))))
+refusal_named status (inr (inr (inr e))) = inr (inr (inr (inr (inr (inr (inr (inr (inr e))))))))
 
 refused_named : {S K : Type 0} (status : ℕ) (a : Asked) (before after : Outside S K) → RefusedBytes status (command_of a) before after ⊎ RefusedFile status (command_of a) before after → IsStatus status
 refused_named status a before after (inl bytes) = refusal_named status (inr (inl bytes.is_status))
@@ -41,6 +43,7 @@ judges_once task.Trial options bytes a b so also = sym so ∙ also
 judges_once task.Audit options bytes a b so also = audits_once bytes a b so also
 judges_once task.Design options bytes a b so also = sym so ∙ also
 judges_once task.Convoy options bytes a b so also = sym so ∙ also
+judges_once task.Reroute options bytes a b so also = reroutes_once bytes a b so also
 
 pub judge_once : CommandsJudgeOnce
 judge_once asked bytes a b so also = judges_once asked.task asked.options bytes a b so also
@@ -53,6 +56,7 @@ tells task.Trial options before after untold = let none = untold.made.told in ab
 tells task.Audit options before after untold = let none = untold.made.told in absurd cc
 tells task.Design options before after untold = let none = untold.made.told in absurd cc
 tells task.Convoy options before after untold = let none = untold.made.told in absurd cc
+tells task.Reroute options before after untold = let none = untold.made.told in absurd cc
 
 pub only_days : {S K : Type 0} → OnlyDaysTell S K
 only_days None before after run = run.untold refl

@@ -10,6 +10,7 @@ use Rattle.permit_program.specs.Made.{make, trial}
 use Rattle.permit_program.specs.Audit.{audit}
 use Rattle.permit_program.specs.Design.{design}
 use Rattle.permit_program.specs.Convoy.{convoy}
+use Rattle.permit_program.specs.Reroute.{reroute}
 
 -- the command of a task; the options are read with each, and used by three
 abbrev pub command_by : Task → Options → Command
@@ -20,6 +21,7 @@ command_by task.Trial options = trial options.seed options.size
 command_by task.Audit options = audit
 command_by task.Design options = design
 command_by task.Convoy options = convoy options.trucks options.gap
+command_by task.Reroute options = reroute
 
 -- the command that the words ask for
 abbrev pub command_of : Asked → Command

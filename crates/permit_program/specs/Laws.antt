@@ -19,7 +19,7 @@ use Rattle.command_line.specs.declared.asked.Asked.{Asked}
 abbrev pub IsStatus : ℕ → Type 0
 IsStatus status =
     (status ≡ 0) ⊎ (status ≡ 2) ⊎ (status ≡ 3) ⊎ (status ≡ 4) ⊎ (status ≡ 5) ⊎ (status ≡ 6) ⊎ (status ≡ 7) ⊎ (status ≡ 8)
-    ⊎ (status ≡ 9)
+    ⊎ (status ≡ 9) ⊎ (status ≡ 10)
 
 -- No run ends with another one.
 abbrev pub EveryStatusIsNamed : Type 0 → Type 0 → Type 0

@@ -6,6 +6,7 @@ pub mod Day
 pub mod Made
 pub mod Design
 pub mod Convoy
+pub mod Reroute
 pub mod Commands
 pub mod Runs
 pub mod Endings

@@ -23,7 +23,7 @@ most_bytes = 4194304
 
 -- the line that answers words that ask for nothing
 abbrev pub usage_line : List ℕ
-usage_line = codes "usage: permit_cli check|day|make|trial|audit|design|convoy [--seed N] [--size N] [--trucks N] [--gap N]" ++ (10 ∷ [])
+usage_line = codes "usage: permit_cli check|day|make|trial|audit|design|convoy|reroute [--seed N] [--size N] [--trucks N] [--gap N]" ++ (10 ∷ [])
 
 -- the line that answers too many bytes
 abbrev pub bytes_line : List ℕ

@@ -13,6 +13,7 @@ use crate::convoy::make_convoy_report;
 use crate::design::make_design_report;
 use crate::made::{make_day_file, make_summary};
 use crate::refusal::Refusal;
+use crate::reroute::make_reroute_report;
 use command_line::{Asked, Task};
 use std::alloc::Global;
 
@@ -21,7 +22,7 @@ pub(crate) fn reads(asked: Asked) -> bool
     ensures { result ≡ (command_of asked).reads }
 {
     match asked.task {
-        Task::Check | Task::Day | Task::Audit | Task::Design | Task::Convoy => true,
+        Task::Check | Task::Day | Task::Audit | Task::Design | Task::Convoy | Task::Reroute => true,
         Task::Make | Task::Trial => false,
     }
 }
@@ -42,6 +43,7 @@ pub(crate) fn make_text(alloc: Global, asked: Asked, bytes: &[u8]) -> Result<Vec
         Task::Audit => make_audit(alloc, bytes),
         Task::Design => make_design_report(alloc, bytes),
         Task::Convoy => make_convoy_report(alloc, options, bytes),
+        Task::Reroute => make_reroute_report(alloc, bytes),
         Task::Day => unreachable!(),
     }
 }

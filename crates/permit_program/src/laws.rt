@@ -2,7 +2,7 @@
 
 ghost use Rattle.permit_program.specs.Laws.{CommandsJudgeOnce, EveryStatusIsNamed, ListenersHearAll, LoneDaysAreSerial, OnlyDaysTell};
 
-/// Every run ends with 0 or with one of 2 to 9.
+/// Every run ends with 0 or with one of 2 to 10.
 pub fn every_status_is_named<S, K>()
     ensures { EveryStatusIsNamed S K }
 {}

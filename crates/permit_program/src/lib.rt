@@ -17,6 +17,7 @@ mod laws;
 mod made;
 mod notices;
 mod refusal;
+mod reroute;
 mod runs;
 
 pub use laws::{

@@ -6,6 +6,7 @@ ghost use Rattle.std.specs.String.{string_bytes};
 ghost use Rattle.permit_program.specs.Command.{IsAnswer, IsAnswerTo};
 ghost use Rattle.permit_program.specs.Audit.{IsAnswerToText, answer_to_entry};
 ghost use Rattle.permit_program.specs.Convoy.{answer_to_convoy};
+ghost use Rattle.permit_program.specs.Reroute.{answer_to_entries};
 ghost use Rattle.permit_program.specs.declared.refusal.Refusal.TheVariants as refusal;
 
 use convoy_moves::ConvoyRefusal;
@@ -76,6 +77,16 @@ impl Refusal {
         match numbered_line(alloc, "not legal: entry", entry as u64 + 1) {
             Ok(line) => Refusal::Refused { status: 9, line },
             Err(NoMemory) => Refusal::NoMemory,
+        }
+    }
+
+    /// How a day is answered that makes more entries than a history may hold.
+    pub(crate) fn of_entries(alloc: Global) -> Refusal
+        ensures { IsAnswer answer_to_entries result }
+    {
+        match String::from_str(alloc, "refused: entries\n") {
+            Ok(line) => Refusal::Refused { status: 10, line },
+            Err(_) => Refusal::NoMemory,
         }
     }
 }

@@ -72,10 +72,10 @@ const MOST_BYTES: u32 = 4_194_304;
 /// 0 is done; 2 words that ask for nothing; 3 a fault of the source; 4 a fault of the sink while the output was written; 5 a
 /// record that is bad, trucks that are no convoy, or a text that is no journal; 6 a record that is one too many of its kind,
 /// or more than 4,194,304 bytes; 7 no memory; 8 a fault of an object that is told of recalls, after the whole journal was
-/// written; 9 a journal that is not legal for its day file.
+/// written; 9 a journal that is not legal for its day file; 10 a day that makes more entries than a history may hold.
 ///
 /// With 0 the whole text that the command promises was written, with 4 a front of it, and with 8 the whole journal. With 2 it
-/// is the usage line, and with 5, 6 and 9 the line of the refusal: whole, unless the sink failed. With 3 and 7 nothing was
+/// is the usage line, and with 5, 6, 9 and 10 the line of the refusal: whole, unless the sink failed. With 3 and 7 nothing was
 /// written. A command that reads makes its text of all bytes that the source had left, where it tells them.
 ///
 /// After a day that ends with 0 each subscriber was told its own recalls, in order and once each, and with 8 they were told as
@@ -158,7 +158,7 @@ pub fn refuse_words<K: Sink>(sink: &mut K) -> u8
 {
     refuse(
         sink,
-        b"usage: permit_cli check|day|make|trial|audit|design|convoy [--seed N] [--size N] [--trucks N] [--gap N]\n",
+        b"usage: permit_cli check|day|make|trial|audit|design|convoy|reroute [--seed N] [--size N] [--trucks N] [--gap N]\n",
         2,
     )
 }

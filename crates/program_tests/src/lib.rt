@@ -17,4 +17,6 @@ mod made_days;
 #[cfg(test)]
 mod meetings;
 #[cfg(test)]
+mod reroutes;
+#[cfg(test)]
 mod runs;

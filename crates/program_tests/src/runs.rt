@@ -22,7 +22,7 @@ const HS20: &str =
     "truck,HS20,ACME,150,102,500,0:8000 168:32000 336:32000,\nprobe,240,963,,,,,\nend,,,,,,,\n";
 
 const USAGE: &str =
-    "usage: permit_cli check|day|make|trial|audit|design|convoy [--seed N] [--size N] [--trucks N] [--gap N]\n";
+    "usage: permit_cli check|day|make|trial|audit|design|convoy|reroute [--seed N] [--size N] [--trucks N] [--gap N]\n";
 
 // One actor too many.
 const SEVENTEEN: &str = "\
@@ -231,6 +231,7 @@ fn answers_a_fault_at_each_call(rt: HostRuntime) {
         faults_at(&rt, "design", HS20, fault);
         faults_at(&rt, "convoy", HS20, fault);
         faults_at(&rt, "day", DAYS[ISSUED].0, fault);
+        faults_at(&rt, "reroute", DAYS[RECALLING].0, fault);
     }
     let refused = run_words(&rt, &["day"], b"", &[], &[1]);
     assert_eq!(rt; refused.status, 5);

@@ -19,7 +19,11 @@ mod records;
 #[cfg(test)]
 mod refusals;
 #[cfg(test)]
+mod replacements;
+#[cfg(test)]
 mod reports;
+#[cfg(test)]
+mod reroutes;
 #[cfg(test)]
 mod streams;
 #[cfg(test)]

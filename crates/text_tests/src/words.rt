@@ -17,13 +17,14 @@ fn read(rt: &impl Abort, alloc: Global, words: &[&str]) -> Result<Asked, WordsRe
 // positional (`Arg::long`); without it the default stands (`Arg::default_value`); `RangedI64ValueParser` reads as Rust's
 // `i64` does, with zeros or a plus in front, and takes its range; words after `--` are positional (`Arg::last`).
 // The words, and what they ask for: the task, and the seed, the size, the trucks and the gap.
-const ASKED: [(&[&str], Task, [u32; 4]); 22] = [
+const ASKED: [(&[&str], Task, [u32; 4]); 23] = [
     (&["check"], Task::Check, [1, 1, 2, 360]),
     (&["day"], Task::Day, [1, 1, 2, 360]),
     (&["make"], Task::Make, [1, 1, 2, 360]),
     (&["trial"], Task::Trial, [1, 1, 2, 360]),
     (&["design"], Task::Design, [1, 1, 2, 360]),
     (&["convoy"], Task::Convoy, [1, 1, 2, 360]),
+    (&["reroute"], Task::Reroute, [1, 1, 2, 360]),
     (&["--seed", "5", "make"], Task::Make, [5, 1, 2, 360]),
     (&["make", "--seed=5"], Task::Make, [5, 1, 2, 360]),
     (&["make", "--seed", "007"], Task::Make, [7, 1, 2, 360]),

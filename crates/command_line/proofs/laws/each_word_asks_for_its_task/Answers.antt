@@ -5,4 +5,4 @@ use Rattle.command_line.proofs.laws.each_word_asks_for_its_task.Goals as goal
 
 pub returns : goal.returns
 unfolding clap_on_literals asked_of
-returns c = record { check = refl; day = refl; make = refl; trial = refl; audit = refl; design = refl; convoy = refl }
+returns c = record { check = refl; day = refl; make = refl; trial = refl; audit = refl; design = refl; convoy = refl; reroute = refl }
