@@ -31,8 +31,6 @@ def ran(program: str, case: Case) -> Ran:
 
 def wanted(case: Case) -> Ran | DayFile:
     """What has to come: a run, or, for a day of several actors, the day file, whose journal has to be judged."""
-    if case.words == ["reroute"]:
-        return Ran(*rerouted(case.data))
     found = asked(case.words)
     if found is None:
         return Ran(2, USAGE)
@@ -49,6 +47,8 @@ def wanted(case: Case) -> Ran | DayFile:
             return Ran(0, trial(found.seed, found.size))
         if found.command == "audit":
             return Ran(*audited(case.data))
+        if found.command == "reroute":
+            return Ran(*rerouted(case.data))
         day = DayFile(case.data)
     except Refused as refused:
         return Ran(refused.status, refused.line)

@@ -406,17 +406,13 @@ def wrong_crowded_desk(program: str | None, name: str) -> Iterator[str]:
         yield f"{name}: reroute at {MOST_ENTRIES} entries: {at_most[0]}, {at_most[1][:100]!r}, and then {beyond}"
 
 
-def compared_reroutes(program: str) -> tuple[int, list[str]]:
-    """How many days for `reroute` were compared, and what is wrong. The model takes too long for a crowded desk."""
-    wrong = [*wrong_reroute(program, "program"), *wrong_crowded_desk(program, "program"), *wrong_reroute(None, "model")]
-    return len(REROUTED) + 2, wrong
-
-
 def compared(program: str) -> tuple[int, list[str]]:
     """How many rows were compared, and what is wrong."""
     wrong = [*wrong_spacing(), *wrong_peaks(), *wrong_convoys()]
     for tried, name in ((program, "program"), (None, "model")):
         wrong += [*wrong_formula(tried, name), *wrong_aashto(tried, name), *wrong_governing(tried, name)]
-        wrong += [*wrong_annual(tried, name), *wrong_audit(tried, name)]
+        wrong += [*wrong_annual(tried, name), *wrong_audit(tried, name), *wrong_reroute(tried, name)]
+    # (the model takes too long for a crowded desk)
+    wrong += wrong_crowded_desk(program, "program")
     printed = len(list(formula_rows())) + len(list(aashto_rows(AASHTO + LANE.lstrip())))
-    return printed + 1 + len(ANNUAL_REFUSED) + len(AUDITED), wrong
+    return printed + 1 + len(ANNUAL_REFUSED) + len(AUDITED) + len(REROUTED) + 2, wrong

@@ -17,9 +17,10 @@ TRUCK: tuple[Field, ...] = ("truck", "t", "c", 168, 110, 720, AXLES)
 SMALL_TRUCK: tuple[Field, ...] = ("c", 150, 100, 500, "0:8000 168:32000")
 DAY = "2026-03-02"
 WORDS = (
-    "check", "day", "make", "trial", "audit", "design", "convoy", "--seed", "--size", "--trucks", "--gap", "--seed=5",
-    "--size=2", "--trucks=3", "--gap=48", "7", "+5", "007", "-1", "65535", "65536", "0", "40", "41", "--help", "-h",
-    "--version", "--seeds", "--", "", "Check", "--seed=", "--size=1.5", "--seed=-0", "\u00e4", "\udcff",
+    "check", "day", "make", "trial", "audit", "design", "convoy", "reroute", "--seed", "--size", "--trucks", "--gap",
+    "--seed=5", "--size=2", "--trucks=3", "--gap=48", "7", "+5", "007", "-1", "65535", "65536", "0", "40", "41",
+    "--help", "-h", "--version", "--seeds", "--", "", "Check", "--seed=", "--size=1.5", "--seed=-0", "\u00e4",
+    "\udcff",
 )
 
 
@@ -265,28 +266,16 @@ def case(seed: int) -> Case:
 
 
 def cases(seed: int) -> list[Case]:
-    """The input of a seed, and a check file once more with each other word that reads one."""
+    """The input of a seed, and a check file or a day file once more with each other word that reads one."""
     made = case(seed)
+    if made.words == ["day"]:
+        return [made, Case(["reroute"], made.data)]
     if made.words != ["check"]:
         return [made]
     rng = Random(seed)
     trucks, gap = rng.choice((2, 2, 2, 3, 16)), rng.choice((1, 48, 360, 3000, rng.randint(1, 3000)))
     convoy = ["convoy", "--trucks", str(trucks), "--gap", str(gap)]
     return [Case(words, made.data) for words in (made.words, ["design"], ["convoy"], convoy)]
-
-
-def reroute_cases(seed: int) -> list[Case]:
-    """A day file for `reroute`: mostly one on which permits are recalled, at times one that is broken."""
-    rng = Random(seed)
-    actors = rng.choice((1, 1, 2, 5))
-    ways: tuple[Callable[[], bytes], ...] = (
-        lambda: plain(annual_file(rng, actors, rng.choice((30, 60, 200)))),
-        lambda: plain(annual_file(rng, actors, rng.choice((30, 60, 200)))),
-        lambda: plain(day_file(rng, actors, rng.choice((10, 60, 150)))),
-        lambda: grid_day(rng).data,
-        lambda: rng.choice((broken_day, broken_annual))(rng).data,
-    )
-    return [Case(["reroute"], rng.choice(ways)())]
 
 
 def family(seed: int) -> str:

@@ -3,9 +3,9 @@ import re
 from collections.abc import Sequence
 from dataclasses import dataclass
 
-COMMANDS = ("check", "day", "make", "trial", "audit", "design", "convoy")
+COMMANDS = ("check", "day", "make", "trial", "audit", "design", "convoy", "reroute")
 RANGES = {"--seed": (0, 65535), "--size": (1, 40), "--trucks": (2, 16), "--gap": (1, 3000)}
-USAGE = "usage: permit_cli check|day|make|trial|audit|design|convoy [--seed N] [--size N] [--trucks N] [--gap N]\n"
+USAGE = f"usage: permit_cli {'|'.join(COMMANDS)} [--seed N] [--size N] [--trucks N] [--gap N]\n"
 
 
 @dataclass(frozen=True)
