@@ -233,6 +233,17 @@ def many_recalls(permits: int = 4000, length: int = 1000) -> bytes:
     return text([*rows, record("post", "a0", f"s{length // 2}", "closed", 1)])
 
 
+def recalled_again(permits: int = 1000, rounds: int = 996) -> bytes:
+    """So many permits on one of two ways, which are closed in turn while the other is open, so many times."""
+    rows = [record("day", "2026-01-01"), record("node", "n0"), record("node", "n1")]
+    rows += [record("segment", f"s{way}", "n0", "n1", 1000 + way) for way in (0, 1)]
+    rows += [record("truck", "t", "acme", 168, 102, 720, "0:12000 180:17000 228:17000"), record("actor", "a0")]
+    rows += [applies(0, 0, 1) for _ in range(permits)]
+    for turn in range(rounds):
+        rows += [record("post", "a0", f"s{turn % 2}", "closed", value) for value in (1, 0)]
+    return text(rows[:-1])
+
+
 def shut_goal(count: int = COMMANDS) -> bytes:
     """So many trips to a node that only closed segments reach, in a grid of as many nodes as there may be."""
     goal = SIDE * SIDE - 1

@@ -4,7 +4,7 @@ _permit_cli() {
     COMPREPLY=()
     for other in "${COMP_WORDS[@]:1:COMP_CWORD-1}"; do
         case $other in
-            check | day | make | trial | audit | design | convoy) command=$other ;;
+            check | day | make | trial | audit | design | convoy | reroute) command=$other ;;
         esac
     done
     case $before in
@@ -18,7 +18,7 @@ _permit_cli() {
             ;;
     esac
     case $command in
-        '') COMPREPLY=($(compgen -W 'check day make trial audit design convoy' -- "$word")) ;;
+        '') COMPREPLY=($(compgen -W 'check day make trial audit design convoy reroute' -- "$word")) ;;
         make | trial) COMPREPLY=($(compgen -W '--seed --size' -- "$word")) ;;
         convoy) COMPREPLY=($(compgen -W '--trucks --gap' -- "$word")) ;;
     esac

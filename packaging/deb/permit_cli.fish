@@ -7,6 +7,7 @@ complete -c permit_cli -n __fish_use_subcommand -a trial -d 'run that day on one
 complete -c permit_cli -n __fish_use_subcommand -a audit -d 'check a journal against its day file'
 complete -c permit_cli -n __fish_use_subcommand -a design -d 'rate one truck by three design loads'
 complete -c permit_cli -n __fish_use_subcommand -a convoy -d 'rate trucks that follow each other'
+complete -c permit_cli -n __fish_use_subcommand -a reroute -d 'run a day, and apply again for each recalled permit'
 complete -c permit_cli -l seed -x -d 'the number that a day is made from, 0 to 65535'
 complete -c permit_cli -l size -x -d 'the size of a day that is made, 1 to 40'
 complete -c permit_cli -l trucks -x -d 'how many trucks follow each other, 2 to 16'

@@ -5,4 +5,4 @@ _arguments \
     '--size=[the size of a day that is made]:a number from 1 to 40: ' \
     '--trucks=[how many trucks follow each other]:a number from 2 to 16: ' \
     '--gap=[the least inches between two of them]:a number from 1 to 3000: ' \
-    '1:command:((check\:"judge one truck" day\:"run an office for a day" make\:"make a day file from a number" trial\:"run that day on one thread" audit\:"check a journal against its day file" design\:"rate one truck by three design loads" convoy\:"rate trucks that follow each other"))'
+    '1:command:((check\:"judge one truck" day\:"run an office for a day" make\:"make a day file from a number" trial\:"run that day on one thread" audit\:"check a journal against its day file" design\:"rate one truck by three design loads" convoy\:"rate trucks that follow each other" reroute\:"run a day, and apply again for each recalled permit"))'
