@@ -25,7 +25,8 @@ use Rattle.office_words.specs.declared.entry.Entry.{Entry}
 use Rattle.office_core.specs.Offices.{entry}
 use Rattle.office_core.specs.Clearances.{MeetsTruck}
 use Rattle.office_core.specs.Happened.{day_after, issued_in, version_after}
-use Rattle.office_core.specs.Became.{IsInForce, IsMarkOf, RecallsAt, SurrendersAt}
+use Rattle.office_core.specs.Became.{IsInForce, RecallsAt, SurrendersAt}
+use Rattle.office_core.specs.Holdings.{IsMarkOf}
 use Rattle.office_core.specs.Passages.{IsPassableWalk}
 use Rattle.office_core.specs.Retests.{changed_on}
 use Rattle.office_core.specs.Users.{users_of}

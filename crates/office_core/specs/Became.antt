@@ -1,8 +1,8 @@
 -- What became of permits, in words of the entries.
 use Rattle.std.specs.Prelude.{◌≡◌, ℕ, true, false, Some}
 use Rattle.permit_days.specs.Days.{is_before}
-use Rattle.permit_book.specs.declared.permit.Mark.{Mark}
-use Rattle.permit_book.specs.declared.permit.Mark.TheVariants as mark
+use Rattle.permit_book.specs.declared.permit.Status.{Status}
+use Rattle.permit_book.specs.declared.permit.Status.TheVariants as status
 use Rattle.trip_analysis.specs.declared.application.Application.{Application}
 use Rattle.trip_analysis.specs.Findings.{is_in}
 use Rattle.office_words.specs.declared.entry.Call.{Call}
@@ -53,9 +53,10 @@ pub record IsInForce (day : Day) (es : History) (n : ℕ) : Type 0 where
   pub stands : IsNotEnded es n
   pub not_expired : is_before trip.last (day_after day es) ≡ false
 
--- the mark of a permit says what became of it: nothing yet, or that the posting of a version recalled it, or
--- that it was given back
-abbrev pub IsMarkOf : History → ℕ → Mark → Type 0
-IsMarkOf es n mark.Live = IsNotEnded es n
-IsMarkOf es n (mark.Recalled v) = (at : History) × RecallsAs es n at v
-IsMarkOf es n mark.Surrendered = (at : History) × SurrendersAt es n at
+-- the status of a permit for this trip, behind these entries, on this day: it is in force, or expired where its last day is
+-- before the day, as long as no entry ended it; or the posting of a version recalled it, or it was given back
+abbrev pub IsStatusOf : Day → History → ℕ → Application → Status → Type 0
+IsStatusOf today es n trip status.InForce = IsNotEnded es n × (is_before trip.last today ≡ false)
+IsStatusOf today es n trip status.Expired = IsNotEnded es n × (is_before trip.last today ≡ true)
+IsStatusOf today es n trip (status.Recalled v) = (at : History) × RecallsAs es n at v
+IsStatusOf today es n trip status.Surrendered = (at : History) × SurrendersAt es n at

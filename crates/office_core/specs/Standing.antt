@@ -1,19 +1,19 @@
--- What is so of permits once they are issued: their recall, their return, and how the office holds them.
+-- What is so of permits once they are issued: their recall, their return, their end, and what a look at them tells.
 use Rattle.std.specs.Prelude.{◌≡◌, ◌↔◌, ℕ, ◌+◌, true, Some}
 use Rattle.std.specs.List.{concat}
 use Rattle.restriction_log.specs.States.{InForce}
-use Rattle.permit_book.specs.declared.permit.Permit.{Permit}
-use Rattle.permit_book.specs.Permits.{permit_of, status_of}
+use Rattle.permit_book.specs.declared.permit.Status.{Status}
 use Rattle.trip_analysis.specs.Bases.{BaseLists}
 use Rattle.trip_analysis.specs.declared.application.Application.{Application}
 use Rattle.trip_analysis.specs.Findings.{AreRising, is_in}
 use Rattle.office_words.specs.declared.entry.Call.{Call}
 use Rattle.office_words.specs.declared.entry.Call.TheVariants as call
-use Rattle.office_core.specs.Machine.{machine_of, trip_for}
+use Rattle.office_words.specs.declared.entry.Reply.TheVariants as reply
+use Rattle.office_core.specs.Offices.{entry}
 use Rattle.office_core.specs.Clearances.{MeetsTruck}
-use Rattle.office_core.specs.Happened.{Day, History, Numbers, Routes}
+use Rattle.office_core.specs.Happened.{Day, History, Numbers, Routes, Stands}
 use Rattle.office_core.specs.Happened.{application_in, day_after, seen_by, state_after, version_after}
-use Rattle.office_core.specs.Became.{IsInForce, IsMarkOf, IssuesAt, RecallsAt, WasIssuedTo}
+use Rattle.office_core.specs.Became.{IsInForce, IsStatusOf, IssuesAt, RecallsAt, WasIssuedFor, WasIssuedTo}
 
 -- some segment of one of the routes fails the truck
 abbrev pub FailsOn : BaseLists → InForce → ℕ → Routes → Type 0
@@ -42,27 +42,26 @@ pub record TrueSurrender (day : Day) (front : History) (by : ℕ) (c : Call) : T
   pub own : WasIssuedTo front number by
   pub in_force : IsInForce day front number
 
--- the permit of a number as the office holds it behind these entries
-abbrev pub permit_after : BaseLists → Day → History → ℕ → Permit
-permit_after base day es n = permit_of (machine_of base day es).permits n
-
--- a permit that ended is never in force again; the office holds it as it was, and what it is stays the same
-pub record HasEnded (base : BaseLists) (day : Day) (front now : History) (n : ℕ) : Type 0 where
+-- a permit that ended is never in force again, and its status stays what it was
+pub record HasEnded (day : Day) (front now : History) (n : ℕ) : Type 0 where
   pub never : IsInForce day now n → ⊥
-  pub permit : permit_after base day now n ≡ permit_after base day front n
-  pub status : status_of (permit_after base day now n) (day_after day now)
-      ≡ status_of (permit_after base day front n) (day_after day front)
+  pub status : (trip : Application) (routes : Routes) (s : Status) → WasIssuedFor front n trip routes
+      → IsStatusOf (day_after day front) front n trip s → IsStatusOf (day_after day now) now n trip s
 
--- the permit is that of the entry that issued it, behind these, and its mark says what became of it
-pub record IsAsIssued (at front : History) (by : ℕ) (c : Call) (n v : ℕ) (routes : Routes) (p : Permit) : Type 0
+-- what a look at a permit tells is so: to whom an earlier entry issued it, for which trip and at which version, for which
+-- version it was found, and its status now
+pub record TrueShown (day : Day) (front : History) (c : Call) (n by truck : ℕ) (first last : Day) (v seen : ℕ) (s : Status)
+    : Type 0
   where
+    pub asked : c ≡ call.Show n
+    pub at : History
+    pub issue : Call
+    pub routes : Routes
+    pub issued : Stands front at (entry by issue (reply.Issued n v routes))
     pub trip : Application
-    pub asked : application_in c ≡ Some trip
-    pub same : p ≡ record {
-      number = n;
-      trip = trip_for by trip routes;
-      version = v;
-      seen = seen_by at c;
-      mark = p.mark;
-    }
-    pub mark : IsMarkOf front n p.mark
+    pub of_trip : application_in issue ≡ Some trip
+    pub same_truck : truck ≡ trip.truck
+    pub same_first : first ≡ trip.first
+    pub same_last : last ≡ trip.last
+    pub found : seen ≡ seen_by at issue
+    pub status : IsStatusOf (day_after day front) front n trip s
