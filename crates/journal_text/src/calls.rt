@@ -2,19 +2,27 @@
 
 ghost use Rattle.std.specs.Prelude.{◌≡◌, ◌∷◌, OnOk, codes};
 ghost use Rattle.std.specs.Fmt.{decimal};
+ghost use Rattle.journal_text.specs.Lists.{IsListText};
 ghost use Rattle.journal_text.specs.Words.{Adds, index, list_text};
 ghost use Rattle.journal_text.specs.Entries.{application_words, asked_words, call_words, days_words, what_words};
 
 use crate::limits::change;
-use crate::words::{day, named, named_place, named_places, named_routes, word};
+use crate::lists::LastList;
+use crate::words::{day, named, named_place, named_routes, word};
 use office_words::Call;
 use permit_days::Day;
 use std::alloc::AllocError;
 use trip_analysis::{Application, What};
 
-/// A call.
-pub fn call(out: &mut Vec<u8>, call: &Call) -> Result<(), AllocError>
-    ensures { OnOk result (Adds out.old.items out.new.items (call_words call.now)) }
+/// A call. The text of a list is that of the last one, where it has the same places.
+pub fn call<'a>(
+    out: &mut Vec<u8>,
+    last: &mut LastList<'a>,
+    call: &'a Call,
+) -> Result<(), AllocError>
+    requires { IsListText last.old }
+    ensures words { OnOk result (Adds out.old.items out.new.items (call_words call.now)) }
+    ensures kept { OnOk result (IsListText last.new) }
 {
     match call {
         Call::Snapshot => word(out, "snapshot"),
@@ -23,13 +31,13 @@ pub fn call(out: &mut Vec<u8>, call: &Call) -> Result<(), AllocError>
             proposal,
         } => {
             word(out, "submit")?;
-            application(out, asked)?;
+            application(out, last, asked)?;
             named(out, "seen", proposal.seen)?;
-            what(out, &proposal.what)
+            what(out, last, &proposal.what)
         }
         Call::Held { application: asked } => {
             word(out, "held")?;
-            application(out, asked)
+            application(out, last, asked)
         }
         Call::Post { change: posted } => {
             word(out, "post")?;
@@ -54,37 +62,54 @@ pub fn days(out: &mut Vec<u8>, first: Day, last: Day) -> Result<(), AllocError>
 }
 
 // An application.
-fn application(out: &mut Vec<u8>, application: &Application) -> Result<(), AllocError>
-    ensures { OnOk result (Adds out.old.items out.new.items (application_words application.now)) }
+fn application<'a>(
+    out: &mut Vec<u8>,
+    last: &mut LastList<'a>,
+    application: &'a Application,
+) -> Result<(), AllocError>
+    requires { IsListText last.old }
+    ensures words { OnOk result (Adds out.old.items out.new.items (application_words application.now)) }
+    ensures kept { OnOk result (IsListText last.new) }
 {
     named_place(out, "truck", application.truck())?;
     named_place(out, "from", application.from())?;
     named_place(out, "to", application.to())?;
-    asked(out, application)?;
+    asked(out, last, application)?;
     days(out, application.first(), application.last())
 }
 
 // The asked routes, if any are asked for.
-fn asked(out: &mut Vec<u8>, application: &Application) -> Result<(), AllocError>
-    ensures { OnOk result (Adds out.old.items out.new.items (asked_words application.now.asked)) }
+fn asked<'a>(
+    out: &mut Vec<u8>,
+    last: &mut LastList<'a>,
+    application: &'a Application,
+) -> Result<(), AllocError>
+    requires { IsListText last.old }
+    ensures words { OnOk result (Adds out.old.items out.new.items (asked_words application.now.asked)) }
+    ensures kept { OnOk result (IsListText last.new) }
 {
     match application.asked() {
         None => {
             word(out, "asked")?;
             word(out, "none")
         }
-        Some(routes) => named_routes(out, "asked", routes),
+        Some(routes) => named_routes(out, last, "asked", routes),
     }
 }
 
 // What was found.
-fn what(out: &mut Vec<u8>, what: &What) -> Result<(), AllocError>
-    ensures { OnOk result (Adds out.old.items out.new.items (what_words what.now)) }
+fn what<'a>(out: &mut Vec<u8>, last: &mut LastList<'a>, what: &'a What) -> Result<(), AllocError>
+    requires { IsListText last.old }
+    ensures words { OnOk result (Adds out.old.items out.new.items (what_words what.now)) }
+    ensures kept { OnOk result (IsListText last.new) }
 {
     match what {
         What::NotNeeded => word(out, "none"),
-        What::Route(routes) => named_routes(out, "route", routes),
+        What::Route(routes) => named_routes(out, last, "route", routes),
         What::Fails { segment } => named_place(out, "fails", *segment),
-        What::Cut(nodes) => named_places(out, "cut", nodes.as_slice()),
+        What::Cut(nodes) => {
+            word(out, "cut")?;
+            last.print(out, b' ', nodes.as_slice())
+        }
     }
 }

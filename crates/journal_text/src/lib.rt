@@ -11,6 +11,7 @@
 mod calls;
 mod format;
 mod limits;
+mod lists;
 mod parts;
 mod printing;
 mod replies;

@@ -5,6 +5,7 @@ ghost use Rattle.journal_text.specs.Parts.{BeginsWithSpace, limit_text};
 ghost use Rattle.journal_text.specs.Words.{routes_text};
 
 use crate::limits::limit;
+use crate::lists::LastList;
 use crate::words::route_lists;
 use clearance_rules::Limit;
 use names::NoMemory;
@@ -26,7 +27,8 @@ pub fn routes_text(alloc: Global, routes: &SharedRoutes) -> Result<Vec<u8>, NoMe
     ensures { IfOk result (λ text. text.items ≡ routes_text routes.now) }
 {
     let mut text = Vec::new(alloc);
-    route_lists(&mut text, routes)?;
+    let mut last = LastList::none(alloc)?;
+    route_lists(&mut text, &mut last, routes)?;
     drop_space(&mut text);
     Ok(text)
 }

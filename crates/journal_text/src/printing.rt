@@ -1,10 +1,12 @@
 // The text of a history.
 
 ghost use Rattle.std.specs.Prelude.{◌≡◌, ◌∷◌, ◌++◌, codes, flat_map, IfOk, OnOk};
+ghost use Rattle.journal_text.specs.Lists.{IsListText};
 ghost use Rattle.journal_text.specs.Journals.{ended, journal_of, line_of};
 
 use crate::calls::call;
 use crate::format::Format;
+use crate::lists::LastList;
 use crate::replies::reply;
 use crate::words::{digits, index_digits, word};
 use names::NoMemory;
@@ -26,7 +28,7 @@ fn text(alloc: Global, history: &[Entry]) -> Result<Vec<u8>, AllocError>
     let mut out = Vec::new(alloc);
     out.extend_from_slice(Format::Three.first_line().as_bytes())?;
     out.push(b'\n')?;
-    lines(&mut out, history)?;
+    lines(&mut out, LastList::none(alloc)?, history)?;
     out.extend_from_slice(b"end ")?;
     digits(&mut out, history.len() as u64)?;
     out.push(b'\n')?;
@@ -34,24 +36,28 @@ fn text(alloc: Global, history: &[Entry]) -> Result<Vec<u8>, AllocError>
 }
 
 // A line for each entry.
-fn lines(out: &mut Vec<u8>, history: &[Entry]) -> Result<(), AllocError>
+fn lines<'a>(out: &mut Vec<u8>, last: LastList<'a>, history: &'a [Entry]) -> Result<(), AllocError>
+    requires { IsListText last }
     ensures { OnOk result (out.new.items ≡ out.old.items ++ flat_map (λ e. ended (line_of e)) history.now) }
 {
+    let mut last = last;
     'history: for entry in history {
-        line(out, entry)?;
+        line(out, &mut last, entry)?;
     }
     Ok(())
 }
 
 // The line of an entry.
 #[tactic(auto, using(crate::proofs::Pieces::line_adds))]
-fn line(out: &mut Vec<u8>, entry: &Entry) -> Result<(), AllocError>
-    ensures { OnOk result (out.new.items ≡ out.old.items ++ ended (line_of entry.now)) }
+fn line<'a>(out: &mut Vec<u8>, last: &mut LastList<'a>, entry: &'a Entry) -> Result<(), AllocError>
+    requires { IsListText last.old }
+    ensures line { OnOk result (out.new.items ≡ out.old.items ++ ended (line_of entry.now)) }
+    ensures kept { OnOk result (IsListText last.new) }
 {
     index_digits(out, entry.caller)?;
-    call(out, &entry.call)?;
+    call(out, last, &entry.call)?;
     word(out, "=")?;
-    reply(out, &entry.reply)?;
+    reply(out, last, &entry.reply)?;
     out.push(b'\n')?;
     Ok(())
 }

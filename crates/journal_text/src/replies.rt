@@ -2,11 +2,13 @@
 
 ghost use Rattle.std.specs.Prelude.{◌≡◌, ◌∷◌, OnOk, codes};
 ghost use Rattle.std.specs.Fmt.{decimal};
+ghost use Rattle.journal_text.specs.Lists.{IsListText};
 ghost use Rattle.journal_text.specs.Words.{Adds, index, list_text};
 ghost use Rattle.journal_text.specs.Entries.{reply_words, shown_words, standing_words, status_words};
 
 use crate::calls::days;
 use crate::limits::{cause, limit};
+use crate::lists::LastList;
 use crate::words::{named, named_day, named_numbers, named_place, named_routes, word};
 use clearance_rules::Limit;
 use office_words::{Cause, Reply};
@@ -14,9 +16,15 @@ use permit_book::Status;
 use std::alloc::AllocError;
 use trip_routes::SharedRoutes;
 
-/// A reply.
-pub fn reply(out: &mut Vec<u8>, reply: &Reply) -> Result<(), AllocError>
-    ensures { OnOk result (Adds out.old.items out.new.items (reply_words reply.now)) }
+/// A reply. The text of a list is that of the last one, where it has the same places.
+pub fn reply<'a>(
+    out: &mut Vec<u8>,
+    last: &mut LastList<'a>,
+    reply: &'a Reply,
+) -> Result<(), AllocError>
+    requires { IsListText last.old }
+    ensures words { OnOk result (Adds out.old.items out.new.items (reply_words reply.now)) }
+    ensures kept { OnOk result (IsListText last.new) }
 {
     match reply {
         Reply::SnapshotAt { version } => named(out, "at", *version),
@@ -24,7 +32,7 @@ pub fn reply(out: &mut Vec<u8>, reply: &Reply) -> Result<(), AllocError>
             number,
             version,
             routes,
-        } => issued(out, *number, *version, routes),
+        } => issued(out, last, *number, *version, routes),
         Reply::Refused {
             version,
             limit: why,
@@ -64,18 +72,21 @@ pub fn reply(out: &mut Vec<u8>, reply: &Reply) -> Result<(), AllocError>
 }
 
 // That a permit is issued.
-fn issued(
+fn issued<'a>(
     out: &mut Vec<u8>,
+    last: &mut LastList<'a>,
     number: u32,
     version: u32,
-    routes: &SharedRoutes,
+    routes: &'a SharedRoutes,
 ) -> Result<(), AllocError>
-    ensures { OnOk result (Adds out.old.items out.new.items
+    requires { IsListText last.old }
+    ensures kept { OnOk result (IsListText last.new) }
+    ensures words { OnOk result (Adds out.old.items out.new.items
         (reply_words (Reply.Issued number version routes.now))) }
 {
     named(out, "issued", number)?;
     named(out, "at", version)?;
-    named_routes(out, "route", routes)
+    named_routes(out, last, "route", routes)
 }
 
 // That a limit fails.

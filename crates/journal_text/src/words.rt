@@ -3,8 +3,10 @@
 ghost use Rattle.std.specs.Prelude.{◌≡◌, ◌<◌, ◌+◌, ◌∷◌, ◌++◌, ◌%◌, OnOk, codes, flat_map};
 ghost use Rattle.std.specs.Fmt.{decimal};
 ghost use Rattle.influence_line.specs.Fractions.{ratio_text};
-ghost use Rattle.journal_text.specs.Words.{Adds, group, index, list_text, numbers_words, places_words, routes_text, routes_words};
+ghost use Rattle.journal_text.specs.Lists.{IsListText};
+ghost use Rattle.journal_text.specs.Words.{Adds, group, index, list_text, numbers_words, routes_text, routes_words};
 
+use crate::lists::LastList;
 use influence_line::Frac;
 use numerals::write_number;
 use permit_days::Day;
@@ -115,20 +117,19 @@ pub fn named_numbers(out: &mut Vec<u8>, text: &str, numbers: &[u32]) -> Result<(
     number_list(out, numbers)
 }
 
-/// A word and a list of indices, counted from 1.
-pub fn named_places(out: &mut Vec<u8>, text: &str, places: &[u32]) -> Result<(), AllocError>
-    ensures { OnOk result (Adds out.old.items out.new.items (places_words text.now places.now)) }
-{
-    word(out, text)?;
-    place_list(out, b' ', places)
-}
-
 /// A word and routes.
-pub fn named_routes(out: &mut Vec<u8>, text: &str, routes: &SharedRoutes) -> Result<(), AllocError>
-    ensures { OnOk result (Adds out.old.items out.new.items (routes_words text.now routes.now)) }
+pub fn named_routes<'a>(
+    out: &mut Vec<u8>,
+    last: &mut LastList<'a>,
+    text: &str,
+    routes: &'a SharedRoutes,
+) -> Result<(), AllocError>
+    requires { IsListText last.old }
+    ensures kept { OnOk result (IsListText last.new) }
+    ensures words { OnOk result (Adds out.old.items out.new.items (routes_words text.now routes.now)) }
 {
     word(out, text)?;
-    route_lists(out, routes)
+    route_lists(out, last, routes)
 }
 
 // The text of a fraction, behind a space.
@@ -170,19 +171,25 @@ fn more_numbers(out: &mut Vec<u8>, numbers: &[u32]) -> Result<(), AllocError>
 }
 
 /// The lists of routes with slashes between them, behind a space.
-pub fn route_lists(out: &mut Vec<u8>, routes: &SharedRoutes) -> Result<(), AllocError>
-    ensures { OnOk result (out.new.items ≡ out.old.items ++ (32 ∷ routes_text routes.now)) }
+pub fn route_lists<'a>(
+    out: &mut Vec<u8>,
+    last: &mut LastList<'a>,
+    routes: &'a SharedRoutes,
+) -> Result<(), AllocError>
+    requires { IsListText last.old }
+    ensures kept { OnOk result (IsListText last.new) }
+    ensures text { OnOk result (out.new.items ≡ out.old.items ++ (32 ∷ routes_text routes.now)) }
 {
     let count = routes.len();
-    place_list(out, b' ', routes.route(0))?;
+    last.print(out, b' ', routes.route(0))?;
     'routes: for i in 1..count {
-        place_list(out, b'/', routes.route(i))?;
+        last.print(out, b'/', routes.route(i))?;
     }
     Ok(())
 }
 
-// A byte, and the indices of a list, counted from 1.
-fn place_list(out: &mut Vec<u8>, before: u8, places: &[u32]) -> Result<(), AllocError>
+/// A byte, and the indices of a list, counted from 1.
+pub fn place_list(out: &mut Vec<u8>, before: u8, places: &[u32]) -> Result<(), AllocError>
     ensures { OnOk result (out.new.items ≡ out.old.items ++ (before ∷ list_text index places.now)) }
 {
     let Some((first, rest)) = places.split_first() else {
