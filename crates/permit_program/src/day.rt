@@ -1,6 +1,8 @@
 // What `day` makes: the journal of an office's day, and its recalls.
 
 ghost use Rattle.std.specs.Prelude.{◌≡◌, ◌<◌, IfErr, IfOk};
+ghost use Rattle.journal_text.specs.Journals.{journal_of};
+ghost use Rattle.recall_list.specs.RecallLists.{recalls_in};
 ghost use Rattle.permit_program.specs.Command.{IsRefusalOf, MakesAndTells};
 ghost use Rattle.permit_program.specs.Day.{day};
 ghost use Rattle.permit_program.specs.Headline.{CountedHeadline};
@@ -13,6 +15,7 @@ use day_text::{DayFile, read_day};
 use journal_text::print;
 use names::NoMemory;
 use notice_desk::Recall;
+use office_core::Office;
 use recall_list::recalls;
 use std::alloc::Global;
 use std::sync::Wait;
@@ -55,11 +58,30 @@ pub(crate) fn make_journal<
     let (office, tests) = serve::<R, G, L>(rt, file, gate, blank)?;
     // the law by which no other history serves a day of one actor
     lone_actors_are_one();
-    let journal = print(alloc, office.history())?;
-    let recalls = recalls(alloc, office.base(), office.history())?;
+    let told = tell(alloc, &office);
+    // an office has many parts, so it is let go in one place
+    drop(office);
+    let told = told?;
     Ok(DayOutput {
-        journal,
-        recalls,
+        journal: told.journal,
+        recalls: told.recalls,
         tests,
     })
+}
+
+// What is told of a history: its journal and its recalls.
+#[derive(Drop)]
+struct Told {
+    journal: Vec<u8>,
+    recalls: Vec<Recall>,
+}
+
+// The journal of an office's history, and all its recalls, in order.
+fn tell(alloc: Global, office: &Office) -> Result<Told, NoMemory>
+    ensures journal { IfOk result (λ told. told.journal.items ≡ journal_of office.now.history) }
+    ensures recalls { IfOk result (λ told. told.recalls.items ≡ recalls_in office.now.base office.now.history) }
+{
+    let journal = print(alloc, office.history())?;
+    let recalls = recalls(alloc, office.base(), office.history())?;
+    Ok(Told { journal, recalls })
 }
