@@ -33,5 +33,8 @@ pub(crate) fn make_reroute_report(alloc: Global, bytes: &[u8]) -> Result<Vec<u8>
     };
     // the law by which a day file has one such history
     rerouted_histories_are_one();
-    Ok(reroute_report(alloc, caller, office.history())?)
+    let text = reroute_report(alloc, caller, office.history());
+    // an office has many parts, so it is let go in one place
+    drop(office);
+    Ok(text?)
 }
