@@ -34,7 +34,7 @@ use Rattle.permit_program.specs.Commands.{command_by, command_of}
 use Rattle.permit_program.specs.Convoy.{answer_to_convoy, convoy_refusal}
 use Rattle.permit_program.specs.Reroute.{JudgesFile, answer_to_entries}
 use Rattle.permit_program.specs.Endings.{AnswersRefusal, AnswersText, AnswersUnread, WasUnread}
-use Rattle.permit_program.specs.Runs.{AsksForDay, CallFor, IsPlain, IsRun, IsSettled, IsStatusFor, IsStatusOr, Outside, SinkFailed, SourceAt, Told, Took, WroteLine, bytes_for, bytes_line, most_bytes, status_by}
+use Rattle.permit_program.specs.Runs.{AsksForDay, CallFor, CountedDay, CountsItsDay, IsPlain, IsRun, IsSettled, IsStatusFor, IsStatusOr, Outside, SinkFailed, SourceAt, Told, Took, WroteLine, bytes_for, bytes_line, most_bytes, status_by}
 use Rattle.permit_program.specs.declared.refusal.Refusal.{Refusal}
 use Rattle.permit_program.specs.declared.refusal.Refusal.TheVariants.{NoMemory, Refused}
 
@@ -142,10 +142,18 @@ tells_nobody task.Design options other bytes text output = refl
 tells_nobody task.Convoy options other bytes text output = refl
 tells_nobody task.Reroute options other bytes text output = refl
 
--- a run of a day is one of whatever asks for a day
-pub of_day : {S K : Type 0} (asked : Option Asked) (before after : Outside S K) (status : ℕ) → AsksForDay asked → ((a : Asked) → a.task ≡ task.Day → IsRun (Some a) before after status) → IsRun asked before after status
-of_day None before after status is run = absurd is
-of_day (Some a) before after status is run = run a is
+-- a run of a day is one of whatever asks for a day, from where nothing was done before it
+pub of_day : {S K : Type 0} (asked : Option Asked) (before from after : Outside S K) (status : ℕ) → AsksForDay asked → from ≡ before → ((a : Asked) → a.task ≡ task.Day → IsRun (Some a) from after status)
+    → IsRun asked before after status
+of_day None before from after status is same run = absurd is
+of_day (Some a) before from after status is same run = subst (λ (o : Outside _ _). IsRun (Some a) o after status) same (run a is)
+
+pub counts_day : {S K : Type 0} (asked : Option Asked) (before from after : Outside S K) (status : ℕ) (tests : Option ℕ) → from ≡ before → (status ≡ 0 → CountedDay tests from after) → CountsItsDay asked before after status tests
+counts_day asked before from after status tests same counted is zero = subst (λ (o : Outside _ _). CountedDay tests o after) same (counted zero)
+
+-- where a day that is asked for ends with 7, nothing is counted of it
+pub none_counted : {S K : Type 0} (asked : Option Asked) (before after : Outside S K) (status : ℕ) (tests : Option ℕ) → (AsksForDay asked → status ≡ 7) → CountsItsDay asked before after status tests
+none_counted asked before after status tests lacks is zero = absurd (omega (arith, lacks is, zero))
 
 -- the status that bytes call for which were taken
 module _ (c : Command) (bytes : List ℕ) (few : length bytes ≤ most_bytes) (judgement : Option Answer) (judges : c.Judges bytes judgement)

@@ -1,10 +1,10 @@
-use Rattle.std.proofs.Common.{◌≡◌, ℕ, Some, arith, map, subst, sym}
+use Rattle.std.proofs.Common.{◌≡◌, ◌∙◌, ℕ, Some, map, subst, sym}
 use Rattle.std.specs.String.{string_bytes}
 use Rattle.command_line.specs.Asking.{asked_of}
 use Rattle.command_line.specs.declared.asked.Asked.{Asked}
 use Rattle.command_line.specs.declared.asked.Task.TheVariants as task
 use Rattle.permit_program.specs.Runs.{CountedDay, IsRun, Outside, desk_at, outside_of}
-use Rattle.permit_program.proofs.Ends.{of_day}
+use Rattle.permit_program.proofs.Ends.{counts_day, none_counted, of_day}
 use Rattle.permit_program.proofs.runs.run.Goals as goal
 
 pub returns-in-Status-clause-run : goal.returns-in-Status-clause-run
@@ -17,9 +17,13 @@ returns-in-Status-clause-run g c =
     (c.in-Status.ensures (desk_now c.args.notices.now)).1
 
 pub returns-in-Status-clause-counted : goal.returns-in-Status-clause-counted
-returns-in-Status-clause-counted g c = λ is zero.
+returns-in-Status-clause-counted g c =
     let desk_now = desk_at (λ n. (g.dyn-1.0.entry n.vtable).1.list n.value) (λ n. (g.dyn-1.0.entry n.vtable).1.faults n.value) (λ n. (g.dyn-1.0.entry n.vtable).1.text n.value) in
-    absurd (omega (arith, (c.in-Status.ensures (desk_now c.args.notices.now)).0 is, c.uncounted.ensures.status, zero))
+    let outside = outside_of g.S.Source.left g.S.Source.faults g.K.Sink.held g.K.Sink.faults in
+    let before = outside c.args.source.now c.args.sink.now (desk_now c.args.notices.now) in
+    let after = outside c.run_alone.new.source c.run_alone.new.sink (desk_now c.args.notices.now) in
+    none_counted (asked_of (map string_bytes c.args.words.now)) before after c.uncounted.result.status c.uncounted.result.tests
+    (λ is. c.uncounted.ensures.status ∙ (c.in-Status.ensures (desk_now c.args.notices.now)).0 is)
 
 pub returns-in-Day-clause-run : goal.returns-in-Day-clause-run
 returns-in-Day-clause-run g c =
@@ -27,14 +31,16 @@ returns-in-Day-clause-run g c =
     let outside = outside_of g.S.Source.left g.S.Source.faults g.K.Sink.held g.K.Sink.faults in
     let alone = c.in-Day.ensures (desk_now c.args.notices.now) in
     let before = outside c.args.source.now c.args.sink.now (desk_now c.args.notices.now) in
+    let from = outside c.run_alone.new.source c.run_alone.new.sink (desk_now c.args.notices.now) in
     let after = outside c.perform_day.new.source c.perform_day.new.sink (desk_now c.perform_day.new.notices) in
-    of_day (asked_of (map string_bytes c.args.words.now)) before after c.perform_day.result.status alone.0
-    (subst (λ (o : Outside _ _). (a : Asked) → a.task ≡ task.Day → IsRun (Some a) o after c.perform_day.result.status) alone.1 c.perform_day.ensures.run)
+    of_day (asked_of (map string_bytes c.args.words.now)) before from after c.perform_day.result.status alone.0 alone.1 c.perform_day.ensures.run
 
 pub returns-in-Day-clause-counted : goal.returns-in-Day-clause-counted
-returns-in-Day-clause-counted g c = λ is.
+returns-in-Day-clause-counted g c =
     let desk_now = desk_at (λ n. (g.dyn-1.0.entry n.vtable).1.list n.value) (λ n. (g.dyn-1.0.entry n.vtable).1.faults n.value) (λ n. (g.dyn-1.0.entry n.vtable).1.text n.value) in
     let outside = outside_of g.S.Source.left g.S.Source.faults g.K.Sink.held g.K.Sink.faults in
     let alone = c.in-Day.ensures (desk_now c.args.notices.now) in
+    let before = outside c.args.source.now c.args.sink.now (desk_now c.args.notices.now) in
+    let from = outside c.run_alone.new.source c.run_alone.new.sink (desk_now c.args.notices.now) in
     let after = outside c.perform_day.new.source c.perform_day.new.sink (desk_now c.perform_day.new.notices) in
-    subst (λ (o : Outside _ _). c.perform_day.result.status ≡ 0 → CountedDay c.perform_day.result.tests o after) alone.1 c.perform_day.ensures.counted
+    counts_day (asked_of (map string_bytes c.args.words.now)) before from after c.perform_day.result.status c.perform_day.result.tests alone.1 c.perform_day.ensures.counted
