@@ -1,3 +1,2 @@
 pub mod Carrying
 pub mod One
-pub mod Lines

@@ -1,6 +1,5 @@
 pub mod Serial
 pub mod Serving
-pub mod Summaries
 pub use Rattle.office_core.specs.Machine
 pub use Rattle.office_core.specs.Promises
 pub use Rattle.analyst_pool.specs.Unfolds

@@ -23,7 +23,7 @@ use Rattle.notice_desk.specs.declared.notice.Recall.{Recall}
 use Rattle.recall_list.specs.RecallLists.{recalls_in}
 use Rattle.day_maker.specs.Made.{made_day}
 use Rattle.day_trial.specs.Serial.{IsSerial, SerialHistoriesAreOne}
-use Rattle.day_trial.specs.Summaries.{summary_of}
+use Rattle.trial_report.specs.Summaries.{summary_of}
 use Rattle.permit_program.specs.Headline.{Headline}
 use Rattle.permit_program.specs.Check.{check}
 use Rattle.permit_program.specs.Command.{IsAnswer, IsAnswerTo, IsRefusalOf, Makes, MakesAndTells, refusal_in}

@@ -1,9 +1,9 @@
 use Rattle.std.proofs.Common.{◌++◌, ap, ◌∙◌, ℕ, length}
 use Rattle.std.specs.Prelude.{codes, count_by, sum_by}
 use Rattle.office_words.specs.declared.entry.Entry.{Entry}
-use Rattle.day_trial.specs.Summaries.{is_no_road, is_not_needed, is_permit, is_refusal, recalled_count, told, last_version_from}
-use Rattle.day_trial.proofs.Lines.{seven_add}
-use Rattle.day_trial.proofs.telling.text.Goals as goal
+use Rattle.trial_report.specs.Summaries.{is_no_road, is_not_needed, is_permit, is_refusal, recalled_count, told, last_version_from}
+use Rattle.trial_report.proofs.Lines.{seven_add}
+use Rattle.trial_report.proofs.telling.text.Goals as goal
 
 pub returns : goal.returns
 returns c =

@@ -1,7 +1,7 @@
 use Rattle.std.proofs.Common.{◌≡◌, ◌≤◌, ◌*◌, take}
 use Rattle.std.specs.Prelude.{sum_by}
-use Rattle.day_trial.specs.Summaries.{recalled_count}
-use Rattle.day_trial.proofs.telling.recalled.Given as goal
+use Rattle.trial_report.specs.Summaries.{recalled_count}
+use Rattle.trial_report.proofs.telling.recalled.Given as goal
 
 abbrev pub invariant-history : goal.invariant-history
 invariant-history l = record {

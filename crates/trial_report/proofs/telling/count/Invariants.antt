@@ -1,7 +1,7 @@
 use Rattle.std.proofs.Common.{◌≡◌, ◌≤◌, take}
 use Rattle.std.specs.Prelude.{count_by}
-use Rattle.day_trial.specs.Summaries.{is_of}
-use Rattle.day_trial.proofs.telling.count.Given as goal
+use Rattle.trial_report.specs.Summaries.{is_of}
+use Rattle.trial_report.proofs.telling.count.Given as goal
 
 abbrev pub invariant-history : goal.invariant-history
 invariant-history l = record {

@@ -4,8 +4,8 @@ use Rattle.std.specs.Fmt.{decimal}
 use Rattle.office_words.specs.declared.entry.Entry.{Entry}
 use Rattle.office_words.specs.declared.entry.Reply.{Reply}
 use Rattle.office_words.specs.declared.entry.Reply.TheVariants as reply
-use Rattle.day_trial.specs.declared.telling.Kind.{Kind}
-use Rattle.day_trial.specs.declared.telling.Kind.TheVariants.{Issued, NoRoad, NotNeeded, Refused}
+use Rattle.trial_report.specs.declared.telling.Kind.{Kind}
+use Rattle.trial_report.specs.declared.telling.Kind.TheVariants.{Issued, NoRoad, NotNeeded, Refused}
 
 -- the reply is a permit
 abbrev pub is_permit : Reply → Bool

@@ -1,7 +1,7 @@
 // The summary of a history.
 
 ghost use Rattle.std.specs.Prelude.{◌≡◌, ◌≤◌, ◌++◌, ◌*◌, ◌^◌, count_by, length, sum_by, IfOk, OnOk};
-ghost use Rattle.day_trial.specs.Summaries.{is_of, is_no_road, is_not_needed, is_permit, is_refusal, recalled_count, summary_of, told, last_version_from, version_behind};
+ghost use Rattle.trial_report.specs.Summaries.{is_of, is_no_road, is_not_needed, is_permit, is_refusal, recalled_count, summary_of, told, last_version_from, version_behind};
 
 use names::NoMemory;
 use numerals::write_number;

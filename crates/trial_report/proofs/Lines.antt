@@ -1,6 +1,6 @@
 -- Lines that are added to a text.
 use Rattle.std.proofs.Common.{◌≡◌, ◌∙◌, ◌<◌, ◌+◌, ◌∷◌, ◌++◌, [], ℕ, suc, List, add-one, ap, append_assoc, drop, drop-cons, get_or, length, sym}
-use Rattle.day_trial.specs.Summaries.{last_version_from, version_behind}
+use Rattle.trial_report.specs.Summaries.{last_version_from, version_behind}
 use Rattle.office_words.specs.declared.entry.Entry.{Entry}
 
 pub line_adds : (old a b c new word digits : List ℕ) → a ≡ old ++ word → b ≡ a ++ (32 ∷ []) → c ≡ b ++ digits → new ≡ c ++ (10 ∷ []) → new ≡ old ++ (word ++ (32 ∷ (digits ++ (10 ∷ []))))

@@ -1,6 +1,6 @@
 use Rattle.std.proofs.Common.{◌≡◌, drop}
-use Rattle.day_trial.specs.Summaries.{last_version_from}
-use Rattle.day_trial.proofs.telling.last_version.Given as goal
+use Rattle.trial_report.specs.Summaries.{last_version_from}
+use Rattle.trial_report.proofs.telling.last_version.Given as goal
 
 abbrev pub invariant-history : goal.invariant-history
 invariant-history l = last_version_from l.version (drop l.entry-index l.history) ≡ last_version_from 0 l.history
