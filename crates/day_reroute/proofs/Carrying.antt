@@ -1,5 +1,5 @@
 -- One command more, with the applications of the desk for what it recalled.
-use Rattle.std.proofs.Common.{◌≡◌, ◌≢◌, ◌∙◌, ap, sym, refl, subst, ℕ, ◌<◌, List, [], ◌∷◌, ◌++◌, length, true, false, None, Option, IfErr, IfSome, is_some, Ok, Err, Result, append_assoc, arith}
+use Rattle.std.proofs.Common.{◌≡◌, ◌≢◌, ◌∙◌, ap, sym, refl, subst, ℕ, ◌<◌, List, [], ◌∷◌, ◌++◌, length, true, false, IfErr, is_some, Ok, Err, Result, append_assoc, arith}
 use Rattle.std.proofs.lemmas.List.{append_cancel_left, length-append, length-map, map-append}
 use Rattle.std.proofs.lemmas.List.Elements.{All-append, filter-append}
 use Rattle.std.proofs.lemmas.List.Sums.{fold-append}
@@ -7,12 +7,10 @@ use Rattle.road_graph.specs.Roads.{IsRoads}
 use Rattle.permit_days.specs.Days.{is_before}
 use Rattle.trip_analysis.specs.declared.application.Application.{Application}
 use Rattle.trip_analysis.specs.Findings.{is_in}
-use Rattle.trip_analysis.specs.Followers.{Followed}
 use Rattle.day_text.specs.declared.orders.Order.{Order}
 use Rattle.office_words.specs.declared.entry.Entry.{Entry}
 use Rattle.office_words.specs.declared.entry.Reply.TheVariants as reply
 use Rattle.office_core.specs.Became.{IsInForce, RecallsAt, WasIssuedFor}
-use Rattle.office_core.specs.Calls.{Calling}
 use Rattle.office_core.specs.Happened.{Day, History, Numbers, Stands, day_after, day_by}
 use Rattle.office_core.specs.Machine.{IsLegal, opened}
 use Rattle.office_core.specs.Offices.{IsFull, Opened, entry, machine_in}
@@ -21,7 +19,6 @@ use Rattle.office_core.proofs.Prefixes.{legal_front, legal_later}
 use Rattle.recall_list.specs.Issues.{recalled_in}
 use Rattle.analyst_pool.specs.Laws.{FinishedAreOne, FoundMemory}
 use Rattle.analyst_pool.specs.Unfolds.{IsFinished}
-use Rattle.analyst_pool.proofs.Followings.{follows_grown}
 use Rattle.reroute_desk.specs.declared.handled.Handled.{Handled}
 use Rattle.reroute_desk.specs.declared.refusal.RerouteRefusal.{RerouteRefusal}
 use Rattle.reroute_desk.specs.declared.refusal.RerouteRefusal.TheVariants as refusal
@@ -29,7 +26,7 @@ use Rattle.reroute_desk.specs.Desks.{AreFirst, AskAgain, Desk, HasGoneOn, HasHan
 use Rattle.reroute_desk.specs.Laws.{CallsOfOthersKeepUp}
 use Rattle.reroute_desk.proofs.Keeping.{recalled_more}
 use Rattle.reroute_desk.proofs.Recalls.{issued_stays, recalls_at}
-use Rattle.day_trial.specs.Serving.{FollowsOffice, grown_by}
+use Rattle.day_trial.specs.Serving.{grown_by}
 use Rattle.day_reroute.specs.Rerouted.{AreRenewed}
 use Rattle.day_reroute.specs.declared.refusal.ServingRefusal.{ServingRefusal}
 use Rattle.day_reroute.specs.declared.refusal.ServingRefusal.TheVariants.{TooMany}
@@ -42,19 +39,6 @@ seam : (before at more own : History) (e : Entry) → (before ++ (at ++ e ∷ mo
 seam before at more own e =
     append_assoc before (at ++ e ∷ more) own
     ∙ (ap (λ l. before ++ l) (append_assoc at (e ∷ more) own) ∙ sym (append_assoc before at (e ∷ (more ++ own))))
-
--- the calls of one who is alone at an office, of which these are the caller's own
-abbrev alone_at : Opened → List Entry → Calling (Unit {0})
-alone_at o own = record {
-  who = record { place = None; reference = None; caller = 0; base = o.base; opening = o.opening; most = o.most };
-  seen = o.history;
-  own = own;
-  full = None;
-}
-
--- whoever follows an office can go on to what it has become
-pub follows_on : (f : Option Followed) (o : Opened) (es : List Entry) → IfSome f (FollowsOffice o) → IfSome f (FollowsOffice (grown_by o es))
-follows_on f o es h = follows_grown f (alone_at o []) (alone_at (grown_by o es) es) es (record { who = refl; own = refl; sees = record { more = es; seen = refl; alone = λ _. refl } }) h
 
 -- what a desk that keeps up behind a command has done
 module _ (d : Desk) (o : Opened) (es : List Entry) (all : HasHandledAll d o) (keeps : KeepsUp d (grown_by o es)) (r : Result (Unit {0}) RerouteRefusal) (next : Desk) (now : Opened) (gone : HasGoneOn d (grown_by o es) r next now) (enough : is_wanting r ≡ false) where

@@ -49,7 +49,3 @@ where_too_many (Err q) on h = λ is. on (h is)
 pub where_done : {A B C : Type 0} (r : Result (Unit {0}) ServingRefusal) → (A → B → C) → OnOk r A → OnOk r B → OnOk r C
 where_done (Ok done) on h k = on h k
 where_done (Err q) on h k = tt
-
-pub full_reply : (r : Reply) → is_full r ≡ true → (most : ℕ) × (r ≡ reply.Full most)
-full_reply (reply.Full most) is = (most, refl)
-full_reply _ is = cc

@@ -1,7 +1,8 @@
 -- A day file that was served, or was refused for its length.
-use Rattle.std.proofs.Common.{◌≡◌, ◌<◌, sym, refl, subst, ℕ, List, length, Result, Ok, Err, IfErr}
+use Rattle.std.proofs.Common.{◌≡◌, ◌∙◌, ◌<◌, ap, sym, refl, subst, ℕ, List, length, Result, Ok, Err, IfErr}
 use Rattle.std.specs.List.{All}
 use Rattle.std.specs.Result.{IsErrAnd}
+use Rattle.road_graph.specs.Roads.{IsRoads}
 use Rattle.trip_analysis.specs.Bases.{BaseLists}
 use Rattle.day_text.specs.declared.orders.Order.{Order}
 use Rattle.day_text.specs.Days.{DayParts}
@@ -34,14 +35,21 @@ module _ (file : DayParts) (o : Opened) (caller : ℕ) (orders : List Order) (is
       }
 
   -- a file whose commands make the history too long is too long
-  pub too_long : (base : BaseLists) → base ≡ file.base → AreLong base o.opening o.most caller orders → IsTooLong file
-  too_long base same long history h =
+  pub too_long : AreLong o.base o.opening o.most caller orders → IsTooLong file
+  too_long long history h =
       let all : AreLong file.base file.day 1000000 (length file.actors) file.commands =
       subst (λ (l : List Order). AreLong file.base file.day 1000000 (length file.actors) l) are
       (subst (λ (k : ℕ). AreLong file.base file.day 1000000 k orders) actors
-      (subst (λ (x : Opened). AreLong file.base x.opening x.most caller orders) is
-      (subst (λ (b : BaseLists). AreLong b o.opening o.most caller orders) same long))) in
+      (subst (λ (x : Opened). AreLong x.base x.opening x.most caller orders) is long)) in
       all history h.legal h.commands h.memory
+
+-- the roads that an office tells of
+pub roads_in : (o seen : Opened) (base : BaseLists) → seen ≡ o → base ≡ seen.base → IsRoads base.roads → IsRoads o.base.roads
+roads_in o seen base same told roads = subst (λ (b : BaseLists). IsRoads b.roads) (told ∙ ap (λ (n : Opened). n.base) same) roads
+
+-- and those of the file that it opened on
+pub roads_for : (file : DayParts) (o : Opened) → o ≡ newly_opened file.base file.day 1000000 → (seen : Opened) (base : BaseLists) → seen ≡ o → base ≡ seen.base → IsRoads base.roads → IsRoads file.base.roads
+roads_for file o is seen base same told roads = subst (λ (n : Opened). IsRoads n.base.roads) is (roads_in o seen base same told roads)
 
 -- the cause of a refusal
 pub where_refused : {A : Type 0} (file : DayParts) (q : ServingRefusal) → (A → IsTooLong file) → (q ≡ TooMany → A) → IsServingCause file q

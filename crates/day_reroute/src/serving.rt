@@ -1,34 +1,28 @@
 // An office that carries out the commands of a day file, with a desk that applies again for what they recall.
 
-ghost use Rattle.std.specs.Prelude.{◌≡◌, ◌≢◌, ◌<◌, ◌≤◌, [], false, length, true, All, IfErr, IfOk, IfSome, OnOk};
-ghost use Rattle.std.specs.Arc.{arc_value};
+ghost use Rattle.std.specs.Prelude.{◌≡◌, ◌≢◌, ◌<◌, ◌≤◌, [], false, length, true, All, IfErr, IfOk, OnOk};
 ghost use Rattle.road_graph.specs.Roads.{IsRoads};
 ghost use Rattle.office_words.specs.Commands.{MayCarryOut};
 ghost use Rattle.office_words.specs.declared.entry.Reply.TheVariants as answer;
-ghost use Rattle.office_core.specs.Offices.{newly_opened};
 ghost use Rattle.office_core.specs.Replies.{is_full};
 ghost use Rattle.day_text.specs.Laws.{IsDayFile};
-ghost use Rattle.reroute_desk.specs.Desks.{new_desk};
-ghost use Rattle.day_trial.specs.Serving.{FollowsOffice};
+ghost use Rattle.reroute_desk.specs.Desks.{HasGoneOn, HasHandledAll, IsRerouteCause, KeepsUp, new_desk};
+ghost use Rattle.day_trial.specs.Blanks.{AreBlanks};
 ghost use Rattle.day_reroute.specs.declared.refusal.ServingRefusal.TheVariants.{TooMany};
 ghost use Rattle.day_reroute.specs.Rerouted.{IsRerouted};
 ghost use Rattle.day_reroute.specs.Serving.{AreLong, HasFinished, HasRerouted, HasReroutedOne, IsCaughtUp, IsLongAlone, IsLongWith, IsServingCause};
 
 use crate::refusal::ServingRefusal;
-use analyst_pool::{Finder, runs_are_one, scripts_are_short};
+use analyst_pool::{runs_are_one, scripts_are_short};
 use day_start::prepare;
 use day_text::{DayFile, Order};
-use day_trial::carry_out_order;
-use names::NoMemory;
-use office_core::{CountedOffice, Office, answers_are_one};
+use day_trial::{Blanks, LoneOffice};
+use office_core::{Office, answers_are_one};
 use office_words::Reply;
-use permit_days::Day;
-use reroute_desk::{Rerouter, calls_of_others_keep_up, new_desks_keep_up};
+use reroute_desk::{RerouteRefusal, Rerouter, calls_of_others_keep_up, new_desks_keep_up};
 use std::alloc::Global;
 use std::marker::Brand;
-use std::sync::Arc;
-use std::sync::ledger::{Blank, Ledger};
-use trip_analysis::Base;
+use std::sync::ledger::Ledger;
 
 // The most entries that an office may have.
 const MOST_ENTRIES: u32 = 1000000;
@@ -50,22 +44,16 @@ pub fn serve_rerouted(alloc: Global, file: DayFile) -> Result<Office, ServingRef
     ensures long_roads { IfErr result (λ refusal. refusal ≡ TooMany → IsRoads file.base.roads) }
 {
     let file = prepare(alloc, file)?;
-    serve_orders::<Brand, Brand>(alloc, file, Blank::new(1), Blank::new(1))
+    serve_orders::<Brand, Brand>(alloc, file, Blanks::new())
 }
 
-// The same, whatever the base keeps of its trucks, with these counters.
+// The same, whatever the base keeps of its trucks, with the counters of these blanks.
 fn serve_orders<F: Ledger, O: Ledger>(
     alloc: Global,
     file: DayFile,
-    finder: Blank,
-    tests: Blank,
+    blanks: Blanks,
 ) -> Result<Office, ServingRefusal>
-    requires finder_name { finder.name ≡ F.name }
-    requires finder_parts { finder.parts ≡ F.parts }
-    requires finder_some { 0 < finder.parts }
-    requires office_name { tests.name ≡ O.name }
-    requires office_parts { tests.parts ≡ O.parts }
-    requires office_some { 0 < tests.parts }
+    requires blanks { AreBlanks F.name F.parts O.name O.parts blanks }
     requires file { IsDayFile file }
     ensures served { IfOk result (λ office. IsRerouted file office.history) }
     ensures short { IfOk result (λ office. length office.history ≤ 1000000) }
@@ -75,55 +63,32 @@ fn serve_orders<F: Ledger, O: Ledger>(
 {
     let (base, day, actors, orders) = file.into_parts();
     let desk = Rerouter::new(alloc, actors.as_slice().len() as u32);
-    let (base, office) = start(alloc, base, day)?;
-    base.lists_are_in_order();
-    let mut office = CountedOffice::<O>::new(office, tests);
-    let mut finder = Finder::<F>::new(finder);
-    carry_out_all(
-        alloc,
-        &mut office,
-        &mut finder,
-        desk,
-        &base,
-        orders.as_slice(),
-    )?;
-    let (office, _tests) = office.into_parts();
+    let mut lone = LoneOffice::<F, O>::start(alloc, base, day, MOST_ENTRIES, blanks)?;
+    lone.office().base().lists_are_in_order();
+    carry_out_all(alloc, &mut lone, desk, orders.as_slice())?;
+    let office = lone.into_office();
     // an office tells that its history is legal and keeps its promises
     let _history = office.history();
     Ok(office)
 }
 
-// A base, and an office about it that opens on this day.
-fn start(alloc: Global, base: Base, day: Day) -> Result<(Arc<Base, Global>, Office), NoMemory>
-    ensures base { IfOk result (λ both. arc_value both.0 ≡ base) }
-    ensures office { IfOk result (λ both. both.1 ≡ newly_opened base day 1000000) }
-{
-    let base = Arc::new(alloc, base)?;
-    let office = Office::start(alloc, Arc::try_clone(&base)?, day, MOST_ENTRIES)?;
-    Ok((base, office))
-}
-
 // Carries out each command in turn, and has the desk, which is new, catch up after each.
 fn carry_out_all<F: Ledger, O: Ledger>(
     alloc: Global,
-    office: &mut CountedOffice<O>,
-    finder: &mut Finder<F>,
+    lone: &mut LoneOffice<F, O>,
     desk: Rerouter,
-    base: &Base,
     orders: &[Order],
 ) -> Result<(), ServingRefusal>
-    requires base { office.old.office.base ≡ base.now }
-    requires roads { IsRoads base.now.roads }
-    requires sound { All (λ o. MayCarryOut base.now o.command) orders.now }
+    requires roads { IsRoads lone.old.base.roads }
+    requires sound { All (λ o. MayCarryOut lone.old.base o.command) orders.now }
     requires callers { All (λ o. o.actor < desk.caller) orders.now }
     requires caller { desk.caller ≤ 16 }
     requires few { length orders.now ≤ 4096 }
-    requires new { office.old.office.history ≡ [] }
+    requires new { lone.old.history ≡ [] }
     requires new_desk { desk ≡ new_desk desk.caller }
-    requires follows { IfSome finder.old.follower (FollowsOffice office.old.office) }
-    ensures served { OnOk result (HasRerouted office.old.office office.new.office desk.caller orders.now) }
+    ensures served { OnOk result (HasRerouted lone.old lone.new desk.caller orders.now) }
     ensures refused { IfErr result (λ refusal. refusal ≡ TooMany
-        → AreLong base.now office.old.office.opening office.old.office.most desk.caller orders.now) }
+        → AreLong lone.old.base lone.old.opening lone.old.most desk.caller orders.now) }
 {
     // a new desk keeps up with an office that has no entry, and the entries of commands are determined
     new_desks_keep_up();
@@ -132,8 +97,8 @@ fn carry_out_all<F: Ledger, O: Ledger>(
     let mut desk = desk;
     'orders: for i in 0..orders.len() {
         // an office tells that its history is legal
-        let _history = office.office().history();
-        carry_out_one(alloc, office, finder, &mut desk, base, &orders[i], i as u32)?;
+        let _history = lone.office().history();
+        carry_out_one(alloc, lone, &mut desk, &orders[i], i as u32)?;
     }
     Ok(())
 }
@@ -141,60 +106,63 @@ fn carry_out_all<F: Ledger, O: Ledger>(
 // Carries out one command, which has this place in the file, and has the desk catch up.
 fn carry_out_one<F: Ledger, O: Ledger>(
     alloc: Global,
-    office: &mut CountedOffice<O>,
-    finder: &mut Finder<F>,
+    lone: &mut LoneOffice<F, O>,
     desk: &mut Rerouter,
-    base: &Base,
     order: &Order,
     place: u32,
 ) -> Result<(), ServingRefusal>
-    requires base { office.old.office.base ≡ base.now }
-    requires roads { IsRoads base.now.roads }
-    requires sound { MayCarryOut base.now order.now.command }
+    requires roads { IsRoads lone.old.base.roads }
+    requires sound { MayCarryOut lone.old.base order.now.command }
     requires caller { order.now.actor < desk.old.caller }
     requires few { desk.old.caller ≤ 16 }
-    requires caught_up { IsCaughtUp desk.old office.old.office }
-    requires follows { IfSome finder.old.follower (FollowsOffice office.old.office) }
-    ensures carried { OnOk result (HasReroutedOne office.old.office desk.old.caller order.now office.new.office) }
-    ensures caught_up { OnOk result (IsCaughtUp desk.new office.new.office) }
+    requires caught_up { IsCaughtUp desk.old lone.old }
+    ensures carried { OnOk result (HasReroutedOne lone.old desk.old.caller order.now lone.new) }
+    ensures caught_up { OnOk result (IsCaughtUp desk.new lone.new) }
     ensures caller { OnOk result (desk.new.caller ≡ desk.old.caller) }
-    ensures follows { OnOk result (IfSome finder.new.follower (FollowsOffice office.new.office)) }
-    ensures refused { IfErr result (λ refusal. refusal ≡ TooMany → IsLongWith office.old.office desk.old.caller order.now) }
+    ensures refused { IfErr result (λ refusal. refusal ≡ TooMany → IsLongWith lone.old desk.old.caller order.now) }
 {
     // the entries of a command are determined, and the desk keeps up with the office after each entry of others
     runs_are_one();
     calls_of_others_keep_up();
-    finish(alloc, office, finder, base, order, place)?;
-    let caught_up = desk.catch_up(office);
+    finish(alloc, lone, order, place)?;
+    let caught_up = catch_up(lone, desk);
     // what the office promises of its history
-    let _history = office.office().history();
+    let _history = lone.office().history();
     Ok(caught_up?)
+}
+
+// Has the desk catch up with the office.
+fn catch_up<F: Ledger, O: Ledger>(
+    lone: &mut LoneOffice<F, O>,
+    desk: &mut Rerouter,
+) -> Result<(), RerouteRefusal>
+    requires { KeepsUp desk.old lone.old }
+    ensures gone { HasGoneOn desk.old lone.old result desk.new lone.new }
+    ensures all { OnOk result (HasHandledAll desk.new lone.new) }
+    ensures refused { IfErr result (IsRerouteCause desk.new lone.new) }
+{
+    desk.catch_up(&mut lone.office)
 }
 
 // Carries out one command, which has this place in the file.
 fn finish<F: Ledger, O: Ledger>(
     alloc: Global,
-    office: &mut CountedOffice<O>,
-    finder: &mut Finder<F>,
-    base: &Base,
+    lone: &mut LoneOffice<F, O>,
     order: &Order,
     place: u32,
 ) -> Result<(), ServingRefusal>
-    requires base { office.old.office.base ≡ base.now }
-    requires roads { IsRoads base.now.roads }
-    requires sound { MayCarryOut base.now order.now.command }
+    requires roads { IsRoads lone.old.base.roads }
+    requires sound { MayCarryOut lone.old.base order.now.command }
     requires caller { order.now.actor < 65536 }
-    requires follows { IfSome finder.old.follower (FollowsOffice office.old.office) }
-    ensures finished { OnOk result (HasFinished office.old.office order.now office.new.office) }
-    ensures follows { IfSome finder.new.follower (FollowsOffice office.new.office) }
-    ensures refused { IfErr result (λ refusal. refusal ≡ TooMany → IsLongAlone office.old.office order.now) }
+    ensures finished { OnOk result (HasFinished lone.old order.now lone.new) }
+    ensures refused { IfErr result (λ refusal. refusal ≡ TooMany → IsLongAlone lone.old order.now) }
 {
     // where nobody else calls, a command is finished at once; and finished commands found memory
     runs_are_one();
     scripts_are_short();
-    let reply = carry_out_order(alloc, office, finder, base, order, place);
+    let reply = lone.carry_out(alloc, order, place);
     // what the office promises of its history
-    let _history = office.office().history();
+    let _history = lone.office().history();
     outcome(&reply)
 }
 

@@ -1,11 +1,13 @@
 -- An office that carries out one command after another.
-use Rattle.std.proofs.Common.{◌≡◌, ◌≢◌, ◌+◌, ◌<◌, ◌≤◌, ◌++◌, ◌∷◌, [], ℕ, List, Some, None, Bool, true, false, length, refl, ap, sym, ◌∙◌, subst, arith, append_assoc}
+use Rattle.std.proofs.Common.{◌≡◌, ◌≢◌, ◌+◌, ◌<◌, ◌≤◌, ◌++◌, ◌∷◌, [], ℕ, List, Some, None, Bool, true, false, length, Result, Ok, Err, OnOk, refl, ap, sym, ◌∙◌, subst, arith, append_assoc}
 use Rattle.std.specs.Prelude.{nat_le, if◌then◌else◌}
 use Rattle.std.specs.Borrow.{GName}
 use Rattle.std.specs.List.{All}
 use Rattle.std.proofs.lemmas.Bool.{leb-true}
 use Rattle.std.proofs.lemmas.List.{append-nil, length-append}
 use Rattle.std.proofs.lemmas.List.Elements.{All-append, All-nil, All-weaker}
+use Rattle.names.specs.declared.refusal.NoMemory.{NoMemory}
+use Rattle.road_graph.specs.Roads.{IsRoads}
 use Rattle.trip_analysis.specs.Bases.{BaseLists}
 use Rattle.day_text.specs.declared.orders.Order.{Order}
 use Rattle.day_text.specs.Days.{DayParts}
@@ -15,7 +17,7 @@ use Rattle.office_words.specs.declared.entry.Reply.{Reply}
 use Rattle.office_words.specs.declared.entry.Reply.TheVariants as reply
 use Rattle.office_core.specs.Calls.{Calling, Who, full_in, one_seat}
 use Rattle.office_core.specs.Machine.{IsLegal}
-use Rattle.office_core.specs.Offices.{IsFull, Opened}
+use Rattle.office_core.specs.Offices.{IsFull, Opened, newly_opened}
 use Rattle.office_core.specs.Promises.{KeepsPromises}
 use Rattle.office_core.specs.Replies.{is_full}
 use Rattle.analyst_pool.specs.Laws.{FinishedFoundMemory, StoppedAreShorter, UnfoldingsAreShort}
@@ -65,12 +67,27 @@ finishes short o next order r h room memory = record {
   grown = h.grown;
 }
 
+-- the reply that the history is full
+pub full_reply : (r : Reply) → is_full r ≡ true → (most : ℕ) × (r ≡ reply.Full most)
+full_reply (reply.Full most) is = (most, refl)
+full_reply _ is = cc
+
 -- the history is not full where it has 17 places left
-pub never_full : StoppedAreShorter → (o next : Opened) (order : Order) (r : Reply) (most : ℕ) → WasCarriedOut o order r next → r ≡ reply.Full most → length o.history + 17 ≤ o.most → ⊥
-never_full short o next order r most h is room =
-    let few = short order.actor order.command h.entries most (subst (λ (q : Reply). Unfolds order.actor order.command h.entries q) is h.unfolds) in
-    let all : next.most ≤ length next.history = h.full most is in
-    omega (arith, all, few, room, ap (λ (n : Opened). length n.history) h.grown, ap (λ (n : Opened). n.most) h.grown, length-append o.history h.entries)
+pub not_full : StoppedAreShorter → (o next : Opened) (order : Order) (r : Reply) → WasCarriedOut o order r next → length o.history + 17 ≤ o.most → is_full r ≡ false
+not_full short o next order r h room = by (is_full r) refl
+  where
+    by : (b : Bool) → is_full r ≡ b → is_full r ≡ false
+    by false is = is
+    by true is =
+        let (most, full) = full_reply r is in
+        let few = short order.actor order.command h.entries most (subst (λ (q : Reply). Unfolds order.actor order.command h.entries q) full h.unfolds) in
+        let all : next.most ≤ length next.history = h.full most full in
+        absurd (omega (arith, all, few, room, ap (λ (n : Opened). length n.history) h.grown, ap (λ (n : Opened). n.most) h.grown, length-append o.history h.entries))
+
+-- what is so where a command is finished
+pub where_done : {A B : Type 0} (r : Result (Unit {0}) NoMemory) → (A → B) → OnOk r A → OnOk r B
+where_done (Ok done) on h = on h
+where_done (Err e) on h = tt
 
 carries_more : (orders : List Order) (history es : List Entry) (order : Order) → CarriesOut orders history → IsFinished order.actor order.command es → CarriesOut (orders ++ order ∷ []) (history ++ es)
 carries_more [] history es order h f = record {
@@ -98,16 +115,6 @@ served_more o now next orders order h more = record {
   few = omega (arith, h.few, more.short, ap (λ (p : Opened). length p.history) more.grown, length-append now.history more.entries, length-append orders (order ∷ []));
 }
 
--- the commands of a file are sound for the roads and trucks that an office opened with
-pub sound_for : (base there : BaseLists) (orders told : List Order) → base ≡ there → orders ≡ told → All (λ o. MayCarryOut there o.command) told → All (λ o. MayCarryOut base o.command) orders
-sound_for base there orders told is are h =
-    subst (λ (b : BaseLists). All (λ o. MayCarryOut b o.command) orders) (sym is) (subst (λ (l : List Order). All (λ o. MayCarryOut there o.command) l) (sym are) h)
-
--- the callers of a file are few
-pub callers_for : (orders told : List Order) (n : ℕ) → orders ≡ told → n ≤ 16 → All (λ o. o.actor < n) told → All (λ o. o.actor < 65536) orders
-callers_for orders told n are few h =
-    All-weaker (λ (o : Order). o.actor < n) (λ (o : Order). o.actor < 65536) (λ o low. omega arith) orders (subst (λ (l : List Order). All (λ o. o.actor < n) l) (sym are) h)
-
 -- finished commands found memory
 found_memory : FinishedFoundMemory → (orders : List Order) (history : List Entry) → CarriesOut orders history → All (λ (e : Entry). e.reply ≢ reply.NoMemory) history
 found_memory found [] history h = subst (λ (l : List Entry). All (λ (e : Entry). e.reply ≢ reply.NoMemory) l) (sym h) (All-nil (λ (e : Entry). e.reply ≢ reply.NoMemory))
@@ -116,11 +123,42 @@ found_memory found (o ∷ os) history h =
     (All-append (λ (e : Entry). e.reply ≢ reply.NoMemory) h.front h.back
     (found o.actor (o.command ∷ []) h.front (h.front, [], h.finished, refl, sym (append-nil h.front))) (found_memory found os h.back h.behind))
 
--- an office of the file that carried out all its commands has served it
-pub served : FinishedFoundMemory → (file : DayParts) (o now : Opened) (orders : List Order) → o.base ≡ file.base → o.opening ≡ file.day → orders ≡ file.commands → HasServed o now orders → IsLegal now.base now.opening now.history → KeepsPromises now.base now.opening now.history → IsSerial file now.history
-served found file o now orders base day are h legal promises = record {
-  legal = subst (λ (b : BaseLists). IsLegal b file.day now.history) (h.base ∙ base) (subst (λ (d : List ℕ). IsLegal now.base d now.history) (h.opening ∙ day) legal);
-  promises = subst (λ (b : BaseLists). KeepsPromises b file.day now.history) (h.base ∙ base) (subst (λ (d : List ℕ). KeepsPromises now.base d now.history) (h.opening ∙ day) promises);
-  commands = subst (λ (l : List Order). CarriesOut l now.history) are h.commands;
-  memory = found_memory found orders now.history h.commands;
-}
+-- an office that opened on the parts of a file
+pub opened_for : (file : DayParts) (o : Opened) (base : BaseLists) (day : List ℕ) (most : ℕ) → o ≡ newly_opened base day most → base ≡ file.base → day ≡ file.day → o ≡ newly_opened file.base file.day most
+opened_for file o base day most is same_base same_day = is ∙ (ap (λ (b : BaseLists). newly_opened b day most) same_base ∙ ap (λ (d : List ℕ). newly_opened file.base d most) same_day)
+
+-- the commands of a file, as they were handed on
+pub orders_of : (file : DayParts) (orders items : List Order) → orders ≡ items → items ≡ file.commands → orders ≡ file.commands
+orders_of file orders items are told = are ∙ told
+
+module _ (file : DayParts) (orders : List Order) (are : orders ≡ file.commands) where
+  -- the callers of a file are few
+  pub callers_for : length file.actors ≤ 16 → All (λ o. o.actor < length file.actors) file.commands → All (λ o. o.actor < 65536) orders
+  callers_for few h =
+      All-weaker (λ (o : Order). o.actor < length file.actors) (λ (o : Order). o.actor < 65536) (λ o low. omega (arith, few)) orders (subst (λ (l : List Order). All (λ o. o.actor < length file.actors) l) (sym are) h)
+
+  module _ (o : Opened) (most : ℕ) (is : o ≡ newly_opened file.base file.day most) where
+    -- its commands are sound for the roads and trucks that the office opened with
+    pub sound_for : All (λ k. MayCarryOut file.base k.command) file.commands → All (λ k. MayCarryOut o.base k.command) orders
+    sound_for h =
+        subst (λ (n : Opened). All (λ k. MayCarryOut n.base k.command) orders) (sym is) (subst (λ (l : List Order). All (λ k. MayCarryOut file.base k.command) l) (sym are) h)
+
+    module _ (now : Opened) (has : HasServed o now orders) where
+      base_is : now.base ≡ file.base
+      base_is = has.base ∙ ap (λ (n : Opened). n.base) is
+
+      day_is : now.opening ≡ file.day
+      day_is = has.opening ∙ ap (λ (n : Opened). n.opening) is
+
+      -- the roads that it tells of are those of the file
+      pub roads_for : (base : BaseLists) → base ≡ now.base → IsRoads base.roads → IsRoads file.base.roads
+      roads_for base same roads = subst (λ (b : BaseLists). IsRoads b.roads) (same ∙ base_is) roads
+
+      -- where it carried out all the file's commands, it has served it
+      pub served : FinishedFoundMemory → IsLegal now.base now.opening now.history → KeepsPromises now.base now.opening now.history → IsSerial file now.history
+      served found legal promises = record {
+        legal = subst (λ (b : BaseLists). IsLegal b file.day now.history) base_is (subst (λ (d : List ℕ). IsLegal now.base d now.history) day_is legal);
+        promises = subst (λ (b : BaseLists). KeepsPromises b file.day now.history) base_is (subst (λ (d : List ℕ). KeepsPromises now.base d now.history) day_is promises);
+        commands = subst (λ (l : List Order). CarriesOut l now.history) are has.commands;
+        memory = found_memory found orders now.history has.commands;
+      }

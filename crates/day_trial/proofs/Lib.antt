@@ -1,2 +1,3 @@
 pub mod Carrying
 pub mod One
+pub mod Following

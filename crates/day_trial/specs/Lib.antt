@@ -1,5 +1,7 @@
 pub mod Serial
 pub mod Serving
+pub mod Blanks
+pub mod LoneOffices
 pub use Rattle.office_core.specs.Machine
 pub use Rattle.office_core.specs.Promises
 pub use Rattle.analyst_pool.specs.Unfolds

@@ -5,8 +5,12 @@
 //! its own entries and no others.
 #![tactic(auto)]
 
+mod blanks;
 mod laws;
+mod lone;
 mod serving;
 
+pub use blanks::Blanks;
 pub use laws::serial_histories_are_one;
-pub use serving::{carry_out_order, serve_in_order};
+pub use lone::LoneOffice;
+pub use serving::serve_in_order;

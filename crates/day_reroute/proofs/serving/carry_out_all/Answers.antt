@@ -1,7 +1,5 @@
 use Rattle.std.proofs.Common.{List, ◌≡◌, ◌++◌, ◌∷◌, [], ℕ, suc, take, drop, drop-cons, ap, rules, sym, subst, ◌∙◌, IfErr, Result}
 use Rattle.std.proofs.lemmas.List.{take-append-drop, take_more}
-use Rattle.road_graph.specs.Roads.{IsRoads}
-use Rattle.trip_analysis.specs.Bases.{BaseLists}
 use Rattle.day_text.specs.declared.orders.Order.{Order}
 use Rattle.office_core.specs.Machine.{IsLegal}
 use Rattle.office_core.specs.Offices.{Opened}
@@ -14,35 +12,32 @@ use Rattle.day_reroute.proofs.serving.carry_out_all.Goals as goal
 
 pub returns-in_err-carry_out_one-clause-refused : goal.returns-in_err-carry_out_one-clause-refused
 returns-in_err-carry_out_one-clause-refused g c =
-    let o = c.args.office.now.office in
-    let now = c.orders.office.office in
+    let o = c.args.lone.now in
+    let now = c.orders.lone in
     let orders = c.args.orders.now in
     let i = c.orders.i in
     let order = c.index-orders-i.result in
     let inv = c.orders.invariant in
     let legal = subst (λ (x : Opened). IsLegal x.base x.opening x.history) c.office.ensures c.history-history.ensures.legal in
-    let roads = subst (λ (b : BaseLists). IsRoads b.roads) (sym c.requires.base) c.requires.roads in
     let whole : take i orders ++ order ∷ drop (suc i) orders ≡ orders =
     ap (λ (x : Order). take i orders ++ x ∷ drop (suc i) orders) c.index-orders-i.is
     ∙ (ap (λ (l : List Order). take i orders ++ l) (sym (drop-cons orders i order c.orders-test.true)) ∙ take-append-drop i orders) in
-    subst (λ (r : Result (Unit {0}) ServingRefusal). IfErr r (λ q. q ≡ TooMany → AreLong c.args.base.now o.opening o.most c.args.desk.caller orders)) (search rules)
-    (where_too_many c.carry_out_one.result (λ long. subst (λ (b : BaseLists). AreLong b o.opening o.most c.args.desk.caller orders) c.requires.base
-    (subst (λ (l : List Order). AreLong o.base o.opening o.most c.args.desk.caller l) whole
-    (long_at c.runs_are_one.ensures.command c.answers_are_one.ensures o now c.args.desk.caller (take i orders) order (drop (suc i) orders) roads inv.served legal
-    (subst (λ (k : ℕ). IsLongWith now k order) inv.caller long)))) c.carry_out_one.ensures.refused)
+    subst (λ (r : Result (Unit {0}) ServingRefusal). IfErr r (λ q. q ≡ TooMany → AreLong o.base o.opening o.most c.args.desk.caller orders)) (search rules)
+    (where_too_many c.carry_out_one.result (λ long. subst (λ (l : List Order). AreLong o.base o.opening o.most c.args.desk.caller l) whole
+    (long_at c.runs_are_one.ensures.command c.answers_are_one.ensures o now c.args.desk.caller (take i orders) order (drop (suc i) orders) c.requires.roads inv.served legal
+    (subst (λ (k : ℕ). IsLongWith now k order) inv.caller long))) c.carry_out_one.ensures.refused)
 
 pub orders-preserved : goal.orders-preserved
 orders-preserved g c =
     let orders = c.args.orders.now in
     let order = c.index-orders-i.result in
     let inv = c.orders.invariant in
-    let next = c.carry_out_one.new.office.office in
-    let more = served_more c.args.office.now.office c.orders.office.office next c.args.desk.caller (take c.orders.i orders) order inv.served
-    (subst (λ (k : ℕ). HasReroutedOne c.orders.office.office k order next) inv.caller c.in_ok-carry_out_one.ensures.carried) in
+    let next = c.carry_out_one.new.lone in
+    let more = served_more c.args.lone.now c.orders.lone next c.args.desk.caller (take c.orders.i orders) order inv.served
+    (subst (λ (k : ℕ). HasReroutedOne c.orders.lone k order next) inv.caller c.in_ok-carry_out_one.ensures.carried) in
     let front = take_more orders c.orders.i order c.orders-test.true ∙ ap (λ (o : Order). take c.orders.i orders ++ o ∷ []) (sym c.index-orders-i.is) in
     record {
-      served = subst (λ (l : List Order). HasRerouted c.args.office.now.office next c.args.desk.caller l) (sym front) more;
+      served = subst (λ (l : List Order). HasRerouted c.args.lone.now next c.args.desk.caller l) (sym front) more;
       caught_up = c.in_ok-carry_out_one.ensures.caught_up;
       caller = c.in_ok-carry_out_one.ensures.caller ∙ inv.caller;
-      follows = c.in_ok-carry_out_one.ensures.follows;
     }
