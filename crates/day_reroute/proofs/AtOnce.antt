@@ -1,6 +1,5 @@
 -- The entries of a command between which nobody else calls.
 use Rattle.std.proofs.Common.{◌≡◌, ◌≢◌, ◌∷◌, ◌++◌, [], List, ℕ, ◌<◌, length, ap, sym, subst, refl, ◌∙◌, append_assoc, arith}
-use Rattle.std.proofs.lemmas.List.{length-append}
 use Rattle.road_graph.specs.Roads.{IsRoads}
 use Rattle.trip_analysis.specs.declared.application.Application.{Application}
 use Rattle.trip_analysis.specs.Bases.{BaseLists}
@@ -22,6 +21,7 @@ use Rattle.reroute_desk.specs.Desks.{Desk, KeepsUp}
 use Rattle.reroute_desk.specs.Laws.{CallsOfOthersKeepUp}
 use Rattle.day_trial.specs.Serving.{grown_by}
 use Rattle.day_reroute.specs.Serving.{IsAtOnce, attempted, called}
+use Rattle.day_reroute.proofs.Lengths.{of_two, shorter}
 
 -- a command that is finished where nobody else calls
 pub at_once : FirstAttemptsDecide → (base : BaseLists) (m : Machine) (caller : ℕ) (c : Command) (es : List Entry) → IsRoads base.roads → IsFinished caller c es → IsLegalFrom base m es → IsAtOnce caller es
@@ -95,7 +95,7 @@ module _ (caller : ℕ) (most : ℕ) where
   stopped_shorter first base m (command.Apply a) es own roads h legal done whole =
       let before = none_before base m caller a h.tries h.front roads h.outdated (legal_front base m h.front h.last (subst (IsLegalFrom base m) h.whole legal)) in
       let (r, (version, w, is)) = first base m caller a own roads done whole in
-      omega (arith, ends_shorter a h.tries h.last before.0 h.ends, ap length h.whole, length-append h.front h.last, ap length before.1, ap length is)
+      shorter (length es) (length (h.front ++ h.last)) (length h.front) (length h.last) (length own) (ends_shorter a h.tries h.last before.0 h.ends) (ap length h.whole) (of_two h.front h.last) (ap length before.1) (ap length is)
   stopped_shorter first base m (command.Post change) es own roads h legal done whole = called_shorter (call.Post change) done.last es own h (done.unfolds.answered done.room)
   stopped_shorter first base m (command.Day day) es own roads h legal done whole = called_shorter (call.Day day) done.last es own h (done.unfolds.answered done.room)
   stopped_shorter first base m (command.Surrender number) es own roads h legal done whole = called_shorter (call.Surrender number) done.last es own h (done.unfolds.answered done.room)

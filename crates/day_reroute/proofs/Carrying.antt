@@ -1,6 +1,6 @@
 -- One command more, with the applications of the desk for what it recalled.
-use Rattle.std.proofs.Common.{◌≡◌, ◌≢◌, ◌∙◌, ap, sym, refl, subst, ℕ, ◌<◌, List, [], ◌∷◌, ◌++◌, length, true, false, IfErr, is_some, Ok, Err, Result, append_assoc, arith}
-use Rattle.std.proofs.lemmas.List.{append_cancel_left, length-append, length-map, map-append}
+use Rattle.std.proofs.Common.{◌≡◌, ◌≢◌, ◌∙◌, ap, sym, refl, subst, ℕ, ◌<◌, List, ◌∷◌, ◌++◌, length, true, false, IfErr, is_some, Ok, Err, Result, append_assoc}
+use Rattle.std.proofs.lemmas.List.{append_cancel_left, length-map, map-append}
 use Rattle.std.proofs.lemmas.List.Elements.{All-append, filter-append}
 use Rattle.std.proofs.lemmas.List.Sums.{fold-append}
 use Rattle.road_graph.specs.Roads.{IsRoads}
@@ -32,6 +32,7 @@ use Rattle.day_reroute.specs.declared.refusal.ServingRefusal.{ServingRefusal}
 use Rattle.day_reroute.specs.declared.refusal.ServingRefusal.TheVariants.{TooMany}
 use Rattle.day_reroute.specs.Serving.{HasFinished, HasReroutedOne, IsAtOnce, IsCaughtUp, IsLongAlone, IsLongWith, serving_refusal}
 use Rattle.day_reroute.proofs.AtOnce.{keeps_behind, same_day}
+use Rattle.day_reroute.proofs.Lengths.{apart, longer, longer_with, of_three, of_three_behind, of_two}
 use Rattle.day_reroute.proofs.Renewing.{answered_all, ask_behind, asked_many, one_trip, renewals_few, renewals_whole, renewed_by, renewed_many}
 
 -- an entry among more entries, with others before and behind them
@@ -70,28 +71,13 @@ module _ (d : Desk) (o : Opened) (es : List Entry) (all : HasHandledAll d o) (ke
       let es_legal = legal_later o.base (opened o.opening) o.history es (legal_front o.base (opened o.opening) (o.history ++ es) gone.own mine) in
       let own_legal = legal_front o.base (machine_in o) own behind (legal_later o.base (opened o.opening) o.history (own ++ behind) whole) in
       let same : own ≡ es = one o.base (machine_in o) order.actor order.command own es roads done' done own_legal es_legal in
-      omega (
-        arith,
-        full,
-        ap (λ (n : Opened). n.most) gone.grown,
-        ap length history,
-        length-append (o.history ++ es) gone.own,
-        length-append o.history es,
-        asked_many o.opening d.caller (o.history ++ es) gone.own (renewals gone.items) asked,
-        renewals_few gone.items,
-        length-map gone.items (λ (h : Handled). h.old),
-        ap length first,
-        ap length recalled,
-        ap length olds,
-        length-append (olds_of next.handled) (left ∷ rest),
-        length-append (recalled_in o.history) (recalled_in es),
-        length-append (recalled_in o.history) (olds_of gone.items),
-        length-append o.history (own ++ behind),
-        length-append own behind,
-        ap length same,
-        ap (λ (l : List Entry). length (recalled_in l)) same,
-        renewed_many o.opening d.caller (o.history ++ own) (recalled_in own) behind renewed,
-      )
+      longer_with o.most now.most (length now.history) (length (o.history ++ (own ++ behind))) (length o.history) (length es) (length gone.own) (length (renewals gone.items)) (length gone.items) (length (olds_of gone.items))
+      (length (recalled_in now.history)) (length (recalled_in o.history)) (length (recalled_in es)) (length (olds_of next.handled)) (length rest) (length own) (length (recalled_in own)) (length behind)
+      full (ap (λ (n : Opened). n.most) gone.grown) (ap length history ∙ of_three o.history es gone.own)
+      (asked_many o.opening d.caller (o.history ++ es) gone.own (renewals gone.items) asked) (renewals_few gone.items) (length-map gone.items (λ (h : Handled). h.old))
+      (ap length first ∙ of_two (olds_of next.handled) (left ∷ rest)) (ap length recalled ∙ of_two (recalled_in o.history) (recalled_in es)) (ap length olds ∙ of_two (recalled_in o.history) (olds_of gone.items))
+      (ap length same) (ap (λ (l : List Entry). length (recalled_in l)) same) (renewed_many o.opening d.caller (o.history ++ own) (recalled_in own) behind renewed)
+      (of_three_behind o.history own behind)
 
   module _ (promises : KeepsPromises now.base now.opening now.history) (caller : ℕ) (once : IsAtOnce caller es) where
     -- no permit that the command recalled has expired
@@ -142,7 +128,7 @@ module _ (d : Desk) (o : Opened) (es : List Entry) (all : HasHandledAll d o) (ke
 pub long_with : (o : Opened) (caller : ℕ) (order : Order) → IsLongAlone o order → IsLongWith o caller order
 long_with o caller order long own behind done renewed whole =
     let legal = legal_front o.base (machine_in o) own behind (legal_later o.base (opened o.opening) o.history (own ++ behind) whole) in
-    omega (arith, long own done legal, length-append o.history own, length-append o.history (own ++ behind), length-append own behind)
+    longer o.most (length o.history) (length own) (length behind) (length (o.history ++ own)) (length (o.history ++ (own ++ behind))) (long own done legal) (of_two o.history own) (of_three_behind o.history own behind)
 
 -- the refusal of a day, by what its desk answers
 abbrev pub served_as : Result (Unit {0}) RerouteRefusal → Result (Unit {0}) ServingRefusal
@@ -168,4 +154,4 @@ module _ (one : FinishedAreOne) (d : Desk) (o mid : Opened) (order : Order) (roa
 -- a desk that has caught up keeps up behind a command of another
 pub keeps_mid : CallsOfOthersKeepUp → (d : Desk) (o mid : Opened) (order : Order) → order.actor < d.caller → IsCaughtUp d o → HasFinished o order mid → KeepsUp d mid
 keeps_mid keep d o mid order less caught f =
-    subst (KeepsUp d) (sym f.grown) (keeps_behind keep d o order.actor f.own f.at_once (λ same. absurd (omega (arith, less, same))) caught.kept)
+    subst (KeepsUp d) (sym f.grown) (keeps_behind keep d o order.actor f.own f.at_once (λ same. apart order.actor d.caller less same) caught.kept)

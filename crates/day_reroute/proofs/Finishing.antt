@@ -1,6 +1,6 @@
 -- What a command leaves of the office, by its reply.
-use Rattle.std.proofs.Common.{◌≡◌, ◌≢◌, ap, sym, refl, subst, ℕ, ◌≤◌, [], ◌∷◌, length, false, true, Result, Ok, Err, IfErr, OnOk, arith}
-use Rattle.std.proofs.lemmas.List.{append-nil, length-append}
+use Rattle.std.proofs.Common.{◌≡◌, ◌≢◌, ap, sym, refl, subst, ℕ, ◌≤◌, [], ◌∷◌, ◌++◌, length, false, Result, Ok, Err, IfErr, OnOk}
+use Rattle.std.proofs.lemmas.List.{append-nil}
 use Rattle.road_graph.specs.Roads.{IsRoads}
 use Rattle.day_text.specs.declared.orders.Order.{Order}
 use Rattle.office_words.specs.declared.entry.Reply.{Reply}
@@ -16,6 +16,7 @@ use Rattle.day_reroute.specs.declared.refusal.ServingRefusal.{ServingRefusal}
 use Rattle.day_reroute.specs.declared.refusal.ServingRefusal.TheVariants.{TooMany}
 use Rattle.day_reroute.specs.Serving.{HasFinished, IsLongAlone}
 use Rattle.day_reroute.proofs.AtOnce.{at_once, stopped_shorter}
+use Rattle.day_reroute.proofs.Lengths.{longer_alone, of_two}
 
 module _ (first : FirstAttemptsDecide) (o next : Opened) (order : Order) (r : Reply) (roads : IsRoads o.base.roads) (h : WasCarriedOut o order r next) (legal : IsLegal next.base next.opening next.history) where
   own_legal : IsLegalFrom o.base (machine_in o) h.entries
@@ -38,7 +39,8 @@ module _ (first : FirstAttemptsDecide) (o next : Opened) (order : Order) (r : Re
   stops most is own done whole =
       let fewer = stopped_shorter order.actor most first o.base (machine_in o) order.command h.entries own roads (subst (λ (q : Reply). Unfolds order.actor order.command h.entries q) is h.unfolds) own_legal done whole in
       let all : next.most ≤ length next.history = h.full most is in
-      omega (arith, fewer, all, ap (λ (n : Opened). n.most) h.grown, ap (λ (n : Opened). length n.history) h.grown, length-append o.history h.entries, length-append o.history own)
+      longer_alone o.most next.most (length next.history) (length (o.history ++ h.entries)) (length (o.history ++ own)) (length o.history) (length h.entries) (length own) fewer all
+      (ap (λ (n : Opened). n.most) h.grown) (ap (λ (n : Opened). length n.history) h.grown) (of_two o.history h.entries) (of_two o.history own)
 
 -- what is so of a refusal for length
 pub where_too_many : {A B : Type 0} (r : Result (Unit {0}) ServingRefusal) → (A → B) → IfErr r (λ q. q ≡ TooMany → A) → IfErr r (λ q. q ≡ TooMany → B)

@@ -1,3 +1,4 @@
+pub mod Lengths
 pub mod AtOnce
 pub mod Finishing
 pub mod Renewing

@@ -1,6 +1,6 @@
 -- The histories of a day file on which recalled permits are replaced are one.
-use Rattle.std.proofs.Common.{◌≡◌, ◌≢◌, ◌∙◌, ap, sym, refl, subst, ℕ, ◌<◌, List, [], ◌∷◌, ◌++◌, length, Some, Option, append_assoc, arith}
-use Rattle.std.proofs.lemmas.List.{append-nil, length-append}
+use Rattle.std.proofs.Common.{◌≡◌, ◌≢◌, ◌∙◌, ap, sym, refl, subst, ℕ, ◌<◌, List, [], ◌∷◌, ◌++◌, length, Some, Option, append_assoc}
+use Rattle.std.proofs.lemmas.List.{append-nil}
 use Rattle.std.proofs.lemmas.List.Elements.{All-append, All-cons, All-head, All-nil, All-tail}
 use Rattle.road_graph.specs.Roads.{IsRoads}
 use Rattle.trip_analysis.specs.Bases.{BaseLists}
@@ -21,6 +21,7 @@ use Rattle.analyst_pool.specs.Unfolds.{IsFinished}
 use Rattle.day_trial.specs.Serving.{grown_by}
 use Rattle.day_reroute.specs.Rerouted.{AreRenewed, CarriesOutAgain, CarriesOutFirstAgain, IsRenewed, ReroutedHistoriesAreOne}
 use Rattle.day_reroute.specs.Serving.{AreLong, HasRerouted, HasReroutedOne, IsLongWith}
+use Rattle.day_reroute.proofs.Lengths.{longer_still, of_two}
 
 abbrev Answered : Entry → Type 0
 Answered e = e.reply ≢ reply.NoMemory
@@ -170,4 +171,4 @@ long_at one answers o now caller orders order more roads h so_far long history l
     goes_on n.own n.renewals n.finished
     (subst (λ (l : History). AreRenewed o.opening caller (l ++ n.own) (recalled_in n.own) n.renewals) same n.renewed)
     (legal_front o.base (opened o.opening) (now.history ++ (n.own ++ n.renewals)) n.back (subst (IsLegal o.base o.opening) parts legal)) in
-    omega (arith, more_long, ap length parts, length-append (now.history ++ (n.own ++ n.renewals)) n.back)
+    longer_still o.most (length (now.history ++ (n.own ++ n.renewals))) (length n.back) (length history) (length ((now.history ++ (n.own ++ n.renewals)) ++ n.back)) more_long (ap length parts) (of_two (now.history ++ (n.own ++ n.renewals)) n.back)
