@@ -1,9 +1,1 @@
-pub mod Growing
-pub mod Attempting
-pub mod Alone
-pub mod Lengths
-pub mod Runs
-pub mod Memory
 pub mod Scripts
-pub mod Interrupting
-pub mod Followings

@@ -1,7 +1,7 @@
 -- How a script is carried out, one command after another.
-use Rattle.std.proofs.Common.{◌≡◌, ◌≢◌, ◌<◌, ◌≤◌, ◌+◌, ◌*◌, ◌++◌, ◌∷◌, [], List, ℕ, Option, Some, length, get_or, take, false, ap, sym, refl, subst, ◌∙◌, arith}
+use Rattle.std.proofs.Common.{◌≡◌, ◌≢◌, ◌<◌, ◌≤◌, ◌+◌, ◌++◌, ◌∷◌, [], List, ℕ, Some, length, get_or, take, false, ap, sym, refl, subst, ◌∙◌, arith}
 use Rattle.std.specs.Prelude.{slice_get}
-use Rattle.std.proofs.lemmas.List.{length-append, length-take, take_all, take_more}
+use Rattle.std.proofs.lemmas.List.{take_all, take_more}
 use Rattle.std.proofs.lemmas.Option.{slice_get-get_or}
 use Rattle.office_words.specs.declared.entry.Command.{Command}
 use Rattle.office_words.specs.declared.entry.Entry.{Entry}
@@ -10,13 +10,10 @@ use Rattle.office_words.specs.declared.entry.Reply.TheVariants as reply
 use Rattle.office_core.specs.Calls.{Calling}
 use Rattle.office_core.specs.Replies.{is_full}
 use Rattle.office_core.proofs.Callings.{full_is}
-use Rattle.analyst_pool.specs.declared.worker.Outcome.TheVariants as outcome
-use Rattle.analyst_pool.specs.Leaves.{CarriedOut, Grew}
-use Rattle.analyst_pool.specs.Ran.{Adds, WentTo}
-use Rattle.analyst_pool.specs.Unfolds.{AreFinished, IsFinished, Unfolds}
-use Rattle.analyst_pool.proofs.Growing.{by_test, caller_of, grew_join, grew_nothing}
-use Rattle.analyst_pool.proofs.Lengths.{shorter}
-use Rattle.analyst_pool.proofs.Runs.{finished_by, finished_more, finished_short}
+use Rattle.command_calls.specs.Leaves.{CarriedOut, Grew}
+use Rattle.command_calls.specs.Unfolds.{AreFinished, IsFinished, Unfolds, WentTo}
+use Rattle.command_calls.proofs.Growing.{by_test, caller_of, grew_join, grew_nothing}
+use Rattle.command_calls.proofs.Runs.{finished_by, finished_more}
 
 module _ {P : Type 0} where
   -- so many commands of a script were finished
@@ -62,10 +59,3 @@ module _ {P : Type 0} where
 -- a reply that is not that the history is full
 pub has_room : (r : Reply) → ((most : ℕ) → r ≢ reply.Full most) → is_full r ≡ false
 has_room r other = by_test (is_full r) (λ all. let (most, is) = full_is r all in absurd (other most is)) (λ room. room)
-
--- a script that a full history stopped made fewer entries than 17 a command
-pub stopped_short : (caller : ℕ) (script : List Command) (k most : ℕ) (es : List Entry) (full : Option ℕ) → Adds caller script (outcome.Full k most) es full → (k < length script) × (length es ≤ 17 * k + 16)
-stopped_short caller script k most es full (went, is) = (went.inside, few)
-  where
-    few : length es ≤ 17 * k + 16
-    few = omega (arith, went.inside, ap length went.whole, length-append went.front went.last, length-take k script, finished_short caller (take k script) went.front went.finished, shorter caller went.command went.last most went.such)

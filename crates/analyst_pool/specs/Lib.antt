@@ -1,10 +1,5 @@
-pub mod Unfolds
-pub mod Leaves
-pub mod Following
-pub mod Attempts
 pub mod Ran
-pub mod Laws
 pub use Rattle.office_core.specs.Calls
 pub use Rattle.office_words.specs.Commands
-pub use Rattle.office_core.specs.Machine
-pub mod Interrupted
+pub use Rattle.command_calls.specs.Unfolds
+pub use Rattle.command_calls.specs.Leaves

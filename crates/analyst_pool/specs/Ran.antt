@@ -1,5 +1,5 @@
 -- What a worker has done.
-use Rattle.std.specs.Prelude.{◌≡◌, ◌≢◌, ◌<◌, ◌≤◌, ◌++◌, [], ℕ, List, length, slice_get, take, Option, Some, All, vec_len}
+use Rattle.std.specs.Prelude.{◌≡◌, ◌≢◌, ◌≤◌, [], ℕ, List, Option, Some, All, vec_len}
 use Rattle.trip_analysis.specs.Bases.{BaseLists}
 use Rattle.office_words.specs.declared.entry.Command.{Command}
 use Rattle.office_words.specs.declared.entry.Entry.{Entry}
@@ -8,21 +8,8 @@ use Rattle.analyst_pool.specs.declared.worker.Outcome.{Outcome}
 use Rattle.analyst_pool.specs.declared.worker.Outcome.TheVariants as outcome
 use Rattle.analyst_pool.specs.declared.worker.Worker.{Worker}
 use Rattle.office_words.specs.Commands.{MayCarryOut}
-use Rattle.analyst_pool.specs.Leaves.{Grew}
-use Rattle.analyst_pool.specs.Unfolds.{AreFinished, IsBrokenOff, IsStopped}
-
--- the entries of a script that went no further than the command at this place: those ahead of it were
--- finished, and its own entries are such as are told
-pub record WentTo (caller : ℕ) (script : List Command) (place : ℕ) (Such : Command → List Entry → Type 0)
-    (es : List Entry) : Type 0 where
-  pub command : Command
-  pub inside : place < length script
-  pub here : slice_get script place ≡ Some command
-  pub front : List Entry
-  pub last : List Entry
-  pub finished : AreFinished caller (take place script) front
-  pub such : Such command last
-  pub whole : es ≡ front ++ last
+use Rattle.command_calls.specs.Leaves.{Grew}
+use Rattle.command_calls.specs.Unfolds.{AreFinished, IsBrokenOff, IsStopped, WentTo}
 
 -- the entries that a script adds with this outcome, to the own entries of calls that are then full so
 abbrev pub Adds : ℕ → List Command → Outcome → List Entry → Option ℕ → Type 0

@@ -1,13 +1,11 @@
 // Actors who carry out their scripts, all at once.
 
-ghost use Rattle.std.specs.Prelude.{◌≡◌, ◌<◌, ◌≤◌, ℕ, length, slice_index_or, vec_len};
+ghost use Rattle.std.specs.Prelude.{◌≡◌, ◌<◌, ◌≤◌, ℕ, length, None, slice_index_or, vec_len};
 ghost use Rattle.analyst_pool.specs.declared.worker.Outcome.TheVariants as outcome;
 ghost use Rattle.analyst_pool.specs.declared.worker.Worker.{Worker};
 ghost use Rattle.analyst_pool.specs.Ran.{IsReady, Ran};
 
-use crate::deciding::{Docket, carry_out};
-use crate::finder::Finder;
-use crate::gate::Gate;
+use command_calls::{Errand, Finder, Gate, carry_out};
 use office_core::OfficeCalls;
 use office_words::{Command, Reply};
 use std::alloc::Global;
@@ -98,15 +96,30 @@ impl<C: OfficeCalls> Worker<C> {
         ensures { Ran C.view self.old self.new }
     {
         let mut finder = Finder::<L>::new(blank);
+        self.work_with(alloc, base, gate, &mut finder);
+    }
+
+    // The same, with this finder, which knows nothing yet.
+    fn work_with<L: Ledger, G: Gate>(
+        &mut self,
+        alloc: Global,
+        base: &Base,
+        gate: &G,
+        finder: &mut Finder<L>,
+    )
+        requires new { finder.old.follower ≡ None }
+        requires ready { IsReady base.now C.view self.old }
+        ensures { Ran C.view self.old self.new }
+    {
         let mut command = 0;
         for asked in &self.script {
-            let docket = Docket {
+            let errand = Errand {
                 base,
                 gate,
                 actor: self.actor,
                 command,
             };
-            match carry_out(alloc, &mut self.calls, &mut finder, asked, &docket) {
+            match carry_out(alloc, &mut self.calls, finder, asked, &errand) {
                 Reply::NoMemory => {
                     self.outcome = Outcome::NoMemory { command };
                     return;
