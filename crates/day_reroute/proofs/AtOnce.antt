@@ -14,9 +14,9 @@ use Rattle.office_core.specs.Happened.{Day, Numbers, day_after, day_by}
 use Rattle.office_core.specs.Machine.{IsLegalFrom, Machine}
 use Rattle.office_core.specs.Offices.{Opened, entry, grown}
 use Rattle.office_core.proofs.Prefixes.{legal_front}
-use Rattle.analyst_pool.proofs.Alone.{none_before}
-use Rattle.analyst_pool.specs.Laws.{FirstAttemptsDecide}
-use Rattle.analyst_pool.specs.Unfolds.{Ends, IsCalled, IsFinished, IsStopped, answered, concluded, full, full_between, held, lacks, looked_at, submitted}
+use Rattle.command_calls.proofs.Alone.{none_before}
+use Rattle.command_calls.specs.Laws.{FirstAttemptsDecide}
+use Rattle.command_calls.specs.Unfolds.{Ends, IsCalled, IsFinished, IsStopped, answered, concluded, full, full_between, held, lacks, looked_at, submitted}
 use Rattle.reroute_desk.specs.Desks.{Desk, KeepsUp}
 use Rattle.reroute_desk.specs.Laws.{CallsOfOthersKeepUp}
 use Rattle.day_trial.specs.Serving.{grown_by}

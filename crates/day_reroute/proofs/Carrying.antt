@@ -17,8 +17,8 @@ use Rattle.office_core.specs.Offices.{IsFull, Opened, entry, machine_in}
 use Rattle.office_core.specs.Promises.{KeepsPromises}
 use Rattle.office_core.proofs.Prefixes.{legal_front, legal_later}
 use Rattle.recall_list.specs.Issues.{recalled_in}
-use Rattle.analyst_pool.specs.Laws.{FinishedAreOne, FoundMemory}
-use Rattle.analyst_pool.specs.Unfolds.{IsFinished}
+use Rattle.command_calls.specs.Laws.{FinishedAreOne, FoundMemory}
+use Rattle.command_calls.specs.Unfolds.{IsFinished}
 use Rattle.reroute_desk.specs.declared.handled.Handled.{Handled}
 use Rattle.reroute_desk.specs.declared.refusal.RerouteRefusal.{RerouteRefusal}
 use Rattle.reroute_desk.specs.declared.refusal.RerouteRefusal.TheVariants as refusal

@@ -9,8 +9,8 @@ use Rattle.office_core.specs.Machine.{IsLegal, IsLegalFrom, opened}
 use Rattle.office_core.specs.Offices.{Opened, machine_in}
 use Rattle.office_core.specs.Replies.{is_full}
 use Rattle.office_core.proofs.Prefixes.{legal_later}
-use Rattle.analyst_pool.specs.Laws.{FinishedFoundMemory, FirstAttemptsDecide}
-use Rattle.analyst_pool.specs.Unfolds.{IsFinished, Unfolds}
+use Rattle.command_calls.specs.Laws.{FinishedFoundMemory, FirstAttemptsDecide}
+use Rattle.command_calls.specs.Unfolds.{IsFinished, Unfolds}
 use Rattle.day_trial.specs.Serving.{WasCarriedOut}
 use Rattle.day_reroute.specs.declared.refusal.ServingRefusal.{ServingRefusal}
 use Rattle.day_reroute.specs.declared.refusal.ServingRefusal.TheVariants.{TooMany}

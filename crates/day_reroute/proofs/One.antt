@@ -16,8 +16,8 @@ use Rattle.office_core.specs.Machine.{IsAnswer, IsLegal, IsLegalFrom, Machine, a
 use Rattle.office_core.specs.Offices.{Opened}
 use Rattle.office_core.proofs.Prefixes.{legal_front, legal_later}
 use Rattle.recall_list.specs.Issues.{recalled_in}
-use Rattle.analyst_pool.specs.Laws.{FinishedAreOne, FoundMemory}
-use Rattle.analyst_pool.specs.Unfolds.{IsFinished}
+use Rattle.command_calls.specs.Laws.{FinishedAreOne, FoundMemory}
+use Rattle.command_calls.specs.Unfolds.{IsFinished}
 use Rattle.day_trial.specs.Serving.{grown_by}
 use Rattle.day_reroute.specs.Rerouted.{AreRenewed, CarriesOutAgain, CarriesOutFirstAgain, IsRenewed, ReroutedHistoriesAreOne}
 use Rattle.day_reroute.specs.Serving.{AreLong, HasRerouted, HasReroutedOne, IsLongWith}

@@ -12,7 +12,7 @@ use Rattle.office_core.specs.Became.{RecallsAt, WasIssuedFor}
 use Rattle.office_core.specs.Happened.{Day, History, Numbers, Routes, Stands, application_in}
 use Rattle.office_core.specs.Offices.{entry}
 use Rattle.office_core.specs.Promises.{KeepsPromises}
-use Rattle.analyst_pool.specs.Laws.{FoundMemory}
+use Rattle.command_calls.specs.Laws.{FoundMemory}
 use Rattle.reroute_desk.specs.declared.handled.Handled.{Handled}
 use Rattle.reroute_desk.specs.declared.handled.HandledAs.{HandledAs}
 use Rattle.reroute_desk.specs.declared.handled.HandledAs.TheVariants.{Ended, Refused, Replaced}

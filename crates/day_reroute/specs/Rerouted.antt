@@ -11,7 +11,7 @@ use Rattle.office_core.specs.Happened.{Day, History, Numbers}
 use Rattle.office_core.specs.Machine.{IsLegal}
 use Rattle.office_core.specs.Promises.{KeepsPromises}
 use Rattle.recall_list.specs.Issues.{recalled_in}
-use Rattle.analyst_pool.specs.Unfolds.{IsFinished}
+use Rattle.command_calls.specs.Unfolds.{IsFinished}
 use Rattle.reroute_desk.specs.Replacements.{again_behind}
 
 -- behind these entries, the next asks the office to find itself what the permit of a number needs once more, by this caller

@@ -11,8 +11,8 @@ use Rattle.office_core.specs.Happened.{Day}
 use Rattle.office_core.specs.Machine.{IsLegal, IsLegalFrom}
 use Rattle.office_core.specs.Offices.{Opened, entry, machine_in}
 use Rattle.recall_list.specs.Issues.{recalled_in}
-use Rattle.analyst_pool.specs.Laws.{FoundMemory}
-use Rattle.analyst_pool.specs.Unfolds.{IsAttempt, IsFinished}
+use Rattle.command_calls.specs.Laws.{FoundMemory}
+use Rattle.command_calls.specs.Unfolds.{IsAttempt, IsFinished}
 use Rattle.reroute_desk.specs.declared.refusal.RerouteRefusal.{RerouteRefusal}
 use Rattle.reroute_desk.specs.declared.refusal.RerouteRefusal.TheVariants as desk
 use Rattle.reroute_desk.specs.Desks.{Desk, HasHandledAll, KeepsUp}

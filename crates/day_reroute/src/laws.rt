@@ -2,7 +2,7 @@
 
 ghost use Rattle.day_reroute.specs.Rerouted.{ReroutedHistoriesAreOne};
 
-use analyst_pool::runs_are_one;
+use command_calls::runs_are_one;
 use office_core::answers_are_one;
 
 /// A law, and no code: over roads within their bounds, a day file has one history in which its commands are carried out one

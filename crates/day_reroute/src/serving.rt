@@ -13,7 +13,7 @@ ghost use Rattle.day_reroute.specs.Rerouted.{IsRerouted};
 ghost use Rattle.day_reroute.specs.Serving.{AreLong, HasFinished, HasRerouted, HasReroutedOne, IsCaughtUp, IsLongAlone, IsLongWith, IsServingCause};
 
 use crate::refusal::ServingRefusal;
-use analyst_pool::{runs_are_one, scripts_are_short};
+use command_calls::{runs_are_one, scripts_are_short};
 use day_start::prepare;
 use day_text::{DayFile, Order};
 use day_trial::{Blanks, LoneOffice};

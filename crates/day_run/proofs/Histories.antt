@@ -17,12 +17,12 @@ use Rattle.office_turn.specs.Told.{Lock}
 use Rattle.office_turn.specs.declared.view.Receipt.{Receipt}
 use Rattle.office_desk.specs.Desks.{Terms}
 use Rattle.analyst_pool.specs.Ran.{Adds}
-use Rattle.analyst_pool.specs.Unfolds.{AreFinished}
+use Rattle.command_calls.specs.Unfolds.{AreFinished}
 use Rattle.analyst_pool.specs.declared.worker.Outcome.{Outcome}
 use Rattle.analyst_pool.specs.declared.worker.Outcome.TheVariants as outcome
-use Rattle.analyst_pool.proofs.Lengths.{short, shorter}
-use Rattle.analyst_pool.proofs.Memory.{finished_found}
-use Rattle.analyst_pool.proofs.Runs.{finished_short}
+use Rattle.command_calls.proofs.Lengths.{short, shorter}
+use Rattle.command_calls.proofs.Memory.{finished_found}
+use Rattle.command_calls.proofs.Runs.{finished_short}
 use Rattle.day_run.specs.Served.{IsServed}
 use Rattle.day_run.proofs.Callers.{all_by}
 use Rattle.day_run.specs.Workers.{HasRun, IsFullOutcome, full_by}

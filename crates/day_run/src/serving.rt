@@ -8,8 +8,8 @@ ghost use Rattle.day_run.specs.Served.{IsServed, LoneActorsAreOne};
 
 use crate::ended::Ended;
 use crate::workers::work_all;
-use analyst_pool::{Gate, most_entries};
 use clearance_rules::Steps;
+use command_calls::{Gate, most_entries};
 use day_start::prepare;
 use day_text::DayFile;
 use names::NoMemory;

@@ -7,7 +7,8 @@ ghost use Rattle.day_run.specs.declared.ended.Ended.TheVariants as ended;
 ghost use Rattle.day_run.specs.Workers.{AreAt, AreDoneFrom, AreFresh, AreReceivedFrom, AreShort, AreSound, HaveRun, OneIsFull};
 
 use crate::ended::Ended;
-use analyst_pool::{Gate, Worker, run_actors};
+use analyst_pool::{Worker, run_actors};
+use command_calls::Gate;
 use names::NoMemory;
 use office_desk::{Desk, Root, Seat};
 use office_words::Command;

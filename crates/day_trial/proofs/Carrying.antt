@@ -20,10 +20,10 @@ use Rattle.office_core.specs.Machine.{IsLegal}
 use Rattle.office_core.specs.Offices.{IsFull, Opened, newly_opened}
 use Rattle.office_core.specs.Promises.{KeepsPromises}
 use Rattle.office_core.specs.Replies.{is_full}
-use Rattle.analyst_pool.specs.Laws.{FinishedFoundMemory, StoppedAreShorter, UnfoldingsAreShort}
-use Rattle.analyst_pool.specs.Leaves.{CarriedOut}
+use Rattle.command_calls.specs.Laws.{FinishedFoundMemory, StoppedAreShorter, UnfoldingsAreShort}
+use Rattle.command_calls.specs.Leaves.{CarriedOut}
 use Rattle.office_words.specs.Commands.{MayCarryOut}
-use Rattle.analyst_pool.specs.Unfolds.{IsFinished, Unfolds}
+use Rattle.command_calls.specs.Unfolds.{IsFinished, Unfolds}
 use Rattle.day_trial.specs.Serial.{CarriesOut, IsSerial}
 use Rattle.day_trial.specs.Serving.{HasCarriedOut, HasServed, WasCarriedOut, grown_by}
 

@@ -5,7 +5,7 @@ use Rattle.trip_analysis.specs.Followers.{Followed}
 use Rattle.office_words.specs.declared.entry.Entry.{Entry}
 use Rattle.office_core.specs.Calls.{Calling}
 use Rattle.office_core.specs.Offices.{Opened}
-use Rattle.analyst_pool.proofs.Followings.{follows_grown}
+use Rattle.command_calls.proofs.Followings.{follows_grown}
 use Rattle.day_trial.specs.Serving.{FollowsOffice, grown_by}
 
 -- the calls of one who is alone at an office, of which these are the caller's own

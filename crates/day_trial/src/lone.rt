@@ -7,7 +7,7 @@ ghost use Rattle.day_trial.specs.Blanks.{AreBlanks};
 ghost use Rattle.day_trial.specs.Serving.{WasCarriedOut};
 
 use crate::blanks::Blanks;
-use analyst_pool::{Docket, Finder, OpenGate, carry_out};
+use command_calls::{Errand, Finder, OpenGate, carry_out};
 use day_text::Order;
 use names::NoMemory;
 use office_core::{CountedOffice, Office, OneSeat};
@@ -77,14 +77,14 @@ impl<F: Ledger, O: Ledger> LoneOffice<F, O> {
         requires caller { order.now.actor < 65536 }
         ensures { WasCarriedOut self.old order.now result self.new }
     {
-        let docket = Docket {
+        let errand = Errand {
             base: &self.base,
             gate: &OpenGate,
             actor: order.actor,
             command: place,
         };
         let mut seat = OneSeat::new(&mut self.office, order.actor);
-        carry_out(alloc, &mut seat, &mut self.finder, &order.command, &docket)
+        carry_out(alloc, &mut seat, &mut self.finder, &order.command, &errand)
     }
 
     /// The office. Takes no memory.

@@ -10,8 +10,8 @@ use Rattle.office_words.specs.declared.entry.Entry.{Entry}
 use Rattle.office_words.specs.declared.entry.Reply.{Reply}
 use Rattle.office_core.specs.Offices.{entry}
 use Rattle.office_core.specs.Replies.{is_full}
-use Rattle.analyst_pool.specs.Unfolds.{AreFinished, AreOutdated, Concludes, Ends, IsAttempt, IsCalled, IsDecided, IsLook, Unfolds, answered, concluded, full, full_between, held, lacks}
-use Rattle.analyst_pool.proofs.Growing.{by_test}
+use Rattle.command_calls.specs.Unfolds.{AreFinished, AreOutdated, Concludes, Ends, IsAttempt, IsCalled, IsDecided, IsLook, Unfolds, answered, concluded, full, full_between, held, lacks}
+use Rattle.command_calls.proofs.Growing.{by_test}
 use Rattle.journal_reader.specs.Fits.{FitsChange, FitsDay, FitsNumber}
 use Rattle.journal_laws.proofs.Fitting.{IsAsked, IsRequest}
 

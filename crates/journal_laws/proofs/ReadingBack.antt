@@ -19,7 +19,7 @@ use Rattle.office_words.specs.declared.entry.Command.TheVariants as command
 use Rattle.office_words.specs.declared.entry.Entry.{Entry}
 use Rattle.office_core.specs.Machine.{entries_by, opened}
 use Rattle.office_core.proofs.Goods.{good_opened}
-use Rattle.analyst_pool.proofs.Runs.{finished_short}
+use Rattle.command_calls.proofs.Runs.{finished_short}
 use Rattle.day_text.specs.Bounds.{IsWithin}
 use Rattle.day_text.specs.Scripts.{script_of}
 use Rattle.day_text.specs.declared.orders.Order.{Order}

@@ -4,7 +4,7 @@ use Rattle.day_text.specs.Days.{DayParts, day_of}
 use Rattle.day_text.specs.Scripts.{script_of}
 use Rattle.office_words.specs.declared.entry.Entry.{Entry}
 use Rattle.office_core.specs.Machine.{IsLegal, entries_by}
-use Rattle.analyst_pool.specs.Unfolds.{AreFinished}
+use Rattle.command_calls.specs.Unfolds.{AreFinished}
 
 -- the history is one of the day file that these bytes are: it is legal from an office that opens on the file's day, over its
 -- roads and trucks. Each actor's own entries are those of its finished commands, and nobody else has an entry

@@ -2,14 +2,13 @@ ghost use Rattle.std.specs.Prelude.{◌≡◌, ◌<◌, ◌≤◌, [], All, IfOk
 ghost use Rattle.std.specs.Arc.{arc_value};
 ghost use Rattle.office_core.specs.Replies.{is_full};
 ghost use Rattle.office_core.specs.Seats.{calls_of};
-ghost use Rattle.analyst_pool.specs.Interrupted.{Interrupts};
+ghost use Rattle.command_calls.specs.Interrupted.{Interrupts};
 ghost use Rattle.office_words.specs.Commands.{MayCarryOut};
 ghost use Rattle.analyst_pool.specs.Ran.{IsReady};
 
 use crate::fixtures::{ALONE, AROUND, application, base, day, full_at, journal_ends, office};
-use analyst_pool::{
-    Docket, Finder, Gate, OpenGate, Outcome, Worker, carry_out, decide, most_entries, run_actors,
-};
+use analyst_pool::{Outcome, Worker, run_actors};
+use command_calls::{Errand, Finder, Gate, OpenGate, carry_out, decide, most_entries};
 use office_core::{CountedOffice, Looked, Office, OfficeCalls, OneSeat};
 use office_words::{Call, Command, Reply};
 use restriction_log::Change;
@@ -93,7 +92,7 @@ fn unless_full(rt: &impl Abort, reply: Reply) -> Reply
 }
 
 impl<R: Abort, L: Ledger> OfficeCalls for Interrupted<'_, R, L> {
-    ghost use Rattle.analyst_pool.specs.Interrupted.{shared};
+    ghost use Rattle.command_calls.specs.Interrupted.{shared};
 
     type Place = ();
 
@@ -129,14 +128,14 @@ fn tell<C: OfficeCalls, L: Ledger>(
     requires sound { MayCarryOut base.now command.now }
 {
     let gate = Digits { told: Cell::new(1) };
-    let docket = Docket {
+    let errand = Errand {
         base,
         gate: &gate,
         actor: 2,
         command: 5,
     };
     let mut finder = Finder::<L>::new(blank);
-    let reply = carry_out(alloc, calls, &mut finder, command, &docket);
+    let reply = carry_out(alloc, calls, &mut finder, command, &errand);
     drop(finder);
     assert_eq!(rt; gate.told.get(), told);
     full_at(reply)
@@ -374,7 +373,7 @@ fn decided<L: Ledger, F: Ledger>(
     requires opened { office.history ≡ [] }
 {
     let wanted = application(rt, base, 0, 1, "2026-03-02");
-    let docket = Docket {
+    let errand = Errand {
         base,
         gate: &OpenGate,
         actor: 0,
@@ -382,7 +381,7 @@ fn decided<L: Ledger, F: Ledger>(
     };
     let mut office = CountedOffice::<L>::new(office, tests);
     let mut seat = OneSeat::new(&mut office, 0);
-    let reply = decide::<OneSeat<'_, L>, OpenGate, F>(alloc, &mut seat, wanted, &docket, found);
+    let reply = decide::<OneSeat<'_, L>, OpenGate, F>(alloc, &mut seat, wanted, &errand, found);
     let full = full_at(reply);
     journal_ends(
         rt,

@@ -5,7 +5,7 @@
 ghost use Rattle.std.specs.Prelude.{◌≡◌, ◌<◌};
 ghost use Rattle.notice_desk.specs.Standings.{AreNew, standings};
 
-use analyst_pool::OpenGate;
+use command_calls::OpenGate;
 use notice_desk::{Notice, Subscribers};
 use office_io::{Sink, Source, StdSink, StdSource};
 use permit_program::{Ended, LineNotice, add_listener, refuse_words, run};

@@ -8,8 +8,8 @@ ghost use Rattle.permit_program.specs.Day.{day};
 ghost use Rattle.permit_program.specs.Headline.{CountedHeadline};
 
 use crate::refusal::Refusal;
-use analyst_pool::Gate;
 use clearance_rules::Steps;
+use command_calls::Gate;
 use day_run::{lone_actors_are_one, serve};
 use day_text::{DayFile, read_day};
 use journal_text::print;

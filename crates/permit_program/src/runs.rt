@@ -14,8 +14,8 @@ ghost use Rattle.permit_program.specs.Endings.{AnswersRefusal, AnswersText, Answ
 use crate::commands::{make_text, reads};
 use crate::day::make_journal;
 use crate::refusal::Refusal;
-use analyst_pool::Gate;
 use clearance_rules::Steps;
+use command_calls::Gate;
 use command_line::{Asked, Task, WordsRefusal, read_words};
 use notice_desk::{Notice, NoticeFault, Subscribers};
 use office_io::{ReadRefusal, Sink, Source, read_all, write_all};

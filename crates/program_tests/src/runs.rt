@@ -3,7 +3,7 @@
 ghost use Rattle.std.specs.Prelude.{◌≡◌, ◌<◌};
 
 use crate::days::{DAYS, ISSUED, MEETING, NO_LEAP_DAY, RECALLING, TWO_RECALLS};
-use analyst_pool::{Gate, OpenGate};
+use command_calls::{Gate, OpenGate};
 use notice_desk::{MemoryNotice, Notice, Recall, Subscribers};
 use office_io::{MemorySink, MemorySource};
 use permit_program::{Alone, Ended, LineNotice, add_listener, run, run_alone};

@@ -20,8 +20,8 @@ use Rattle.office_core.proofs.Cases.{apply_cases}
 use Rattle.office_core.proofs.Histories.{last_step}
 use Rattle.office_core.proofs.Prefixes.{legal_front, legal_later}
 use Rattle.recall_list.specs.Issues.{recalled_in, recalled_numbers}
-use Rattle.analyst_pool.specs.Laws.{FirstAttemptsDecide, FoundMemory}
-use Rattle.analyst_pool.specs.Unfolds.{IsFinished}
+use Rattle.command_calls.specs.Laws.{FirstAttemptsDecide, FoundMemory}
+use Rattle.command_calls.specs.Unfolds.{IsFinished}
 use Rattle.reroute_desk.specs.Desks.{AnswersRenewal}
 use Rattle.reroute_desk.specs.Replacements.{renewed}
 use Rattle.reroute_desk.proofs.Keeping.{recalled_more}

@@ -5,7 +5,7 @@
 
 ghost use Rattle.reroute_laws.specs.EachLine.{EachRecallHasItsLine};
 
-use analyst_pool::runs_are_one;
+use command_calls::runs_are_one;
 
 /// A law, and no code: where the commands of a day file are carried out one after another and each recalled permit is applied for
 /// again, there is one answer for each recall, in order, and each is told by a line.
