@@ -19,6 +19,13 @@ Adds caller script (outcome.NoMemory k) es full = WentTo caller script k (IsBrok
 Adds caller script (outcome.Full k most) es full =
     WentTo caller script k (λ c last. IsStopped caller c last most) es × (full ≡ Some most)
 
+-- a script was carried out, as far as the outcome says
+pub record CarriedOutAll {P : Type 0} (v : Calling P) (script : List Command) (o : Outcome) (w : Calling P) : Type 0 where
+  pub ended : o ≢ outcome.Waiting
+  pub entries : List Entry
+  pub grew : Grew v entries w
+  pub adds : Adds v.who.caller script o entries w.full
+
 module _ {C P : Type 0} where
   -- a worker who has not begun, of an office that is about this, with a script that may be carried out
   pub record IsReady (base : BaseLists) (view : C → Calling P) (w : Worker C) : Type 0 where

@@ -1,9 +1,11 @@
 // Actors who carry out their scripts, all at once.
 
-ghost use Rattle.std.specs.Prelude.{◌≡◌, ◌<◌, ◌≤◌, ℕ, length, None, slice_index_or, vec_len};
+ghost use Rattle.std.specs.Prelude.{◌≡◌, ◌<◌, ◌≤◌, ℕ, length, slice_index_or, vec_len, All};
 ghost use Rattle.analyst_pool.specs.declared.worker.Outcome.TheVariants as outcome;
 ghost use Rattle.analyst_pool.specs.declared.worker.Worker.{Worker};
-ghost use Rattle.analyst_pool.specs.Ran.{IsReady, Ran};
+ghost use Rattle.office_words.specs.Commands.{MayCarryOut};
+ghost use Rattle.command_calls.specs.Following.{MayFollow};
+ghost use Rattle.analyst_pool.specs.Ran.{CarriedOutAll, IsReady, Ran};
 
 use command_calls::{Errand, Finder, Gate, carry_out};
 use office_core::OfficeCalls;
@@ -15,7 +17,7 @@ use std::thread::{Threads, for_each_mut};
 use trip_analysis::Base;
 
 /// How far a worker came with its script. Commands are numbered from 0.
-#[derive(Debug, Clone, Copy, PartialEq, Eq)]
+#[derive(Clone, Copy, PartialEq, Eq)]
 pub enum Outcome {
     /// It has not begun.
     Waiting,
@@ -96,42 +98,14 @@ impl<C: OfficeCalls> Worker<C> {
         ensures { Ran C.view self.old self.new }
     {
         let mut finder = Finder::<L>::new(blank);
-        self.work_with(alloc, base, gate, &mut finder);
-    }
-
-    // The same, with this finder, which knows nothing yet.
-    fn work_with<L: Ledger, G: Gate>(
-        &mut self,
-        alloc: Global,
-        base: &Base,
-        gate: &G,
-        finder: &mut Finder<L>,
-    )
-        requires new { finder.old.follower ≡ None }
-        requires ready { IsReady base.now C.view self.old }
-        ensures { Ran C.view self.old self.new }
-    {
-        let mut command = 0;
-        for asked in &self.script {
-            let errand = Errand {
-                base,
-                gate,
-                actor: self.actor,
-                command,
-            };
-            match carry_out(alloc, &mut self.calls, finder, asked, &errand) {
-                Reply::NoMemory => {
-                    self.outcome = Outcome::NoMemory { command };
-                    return;
-                }
-                Reply::Full { entries } => {
-                    self.outcome = Outcome::Full { command, entries };
-                    return;
-                }
-                _ => command += 1,
-            }
-        }
-        self.outcome = Outcome::Done;
+        let first = Errand {
+            base,
+            gate,
+            actor: self.actor,
+            command: 0,
+        };
+        self.outcome = carry_out_all(alloc, &mut self.calls, &mut finder, &self.script, &first);
+        let _tested = finder.into_steps();
     }
 }
 
@@ -162,4 +136,37 @@ pub fn run_actors<R: Threads + Sync, C: OfficeCalls + Send, G: Gate + Sync>(
         threads,
         &|_, worker| worker.work(alloc, base, gate),
     );
+}
+
+// Carries out these commands, the first of which has this errand, up to the first for which memory is wanting or the history is
+// full.
+fn carry_out_all<C: OfficeCalls, G: Gate, L: Ledger>(
+    alloc: Global,
+    calls: &mut C,
+    finder: &mut Finder<L>,
+    script: &[Command],
+    first: &Errand<G>,
+) -> Outcome
+    requires base { first.now.base.now ≡ (C.view calls.old).who.base }
+    requires first { first.now.command ≡ 0 }
+    requires sound { All (MayCarryOut first.now.base.now) script.now }
+    requires short { length script.now ≤ 4294967295 }
+    requires follows { MayFollow finder.old.follower (C.view calls.old) }
+    ensures { CarriedOutAll (C.view calls.old) script.now result (C.view calls.new) }
+{
+    let mut command = first.command;
+    for asked in script {
+        let errand = Errand {
+            base: first.base,
+            gate: first.gate,
+            actor: first.actor,
+            command,
+        };
+        match carry_out(alloc, calls, finder, asked, &errand) {
+            Reply::NoMemory => return Outcome::NoMemory { command },
+            Reply::Full { entries } => return Outcome::Full { command, entries },
+            _ => command += 1,
+        }
+    }
+    Outcome::Done
 }

@@ -37,6 +37,14 @@ impl<L: Ledger> Finder<L> {
         }
     }
 
+    /// The counter of what was tested. What is known of the trucks is let go.
+    pub fn into_steps(self) -> Steps<L>
+        ensures { result ≡ self.steps }
+    {
+        let Finder { steps, .. } = self;
+        steps
+    }
+
     // What is found for an application at a snapshot. Nothing is known before the first application.
     pub(crate) fn find(
         &mut self,
