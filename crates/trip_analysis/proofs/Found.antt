@@ -1,10 +1,9 @@
 -- What is found holds in the state in which it was found, and speaks of what is there.
 use Rattle.std.proofs.Common.{◌≡◌, ◌+◌, ◌-◌, ◌<◌, ◌≤◌, ◌∷◌, [], ◌==◌, ◌||◌, ◌&&◌, not, ℕ, zero, suc, List, Bool, cond, true, false, length, filter, get_or, refl, ap, sym, ◌∙◌, subst, inl, inr, arith, Option, Some, None, is_none}
-use Rattle.std.specs.Prelude.{slice_get}
+use Rattle.std.specs.Prelude.{slice_get, IfOk, Result, Ok, Err}
 use Rattle.std.specs.List.{All, AllByRecursion as ByRecursion, concat, range_with_len}
 use Rattle.std.proofs.lemmas.List.Elements.{All-same, recursion_from_All}
 use Rattle.std.proofs.lemmas.Bool.{cases_Bool, eq-eqb, eqb-true}
-use Rattle.std.proofs.lemmas.List.FromFn.{get_or-map-range_with_len}
 use Rattle.std.proofs.lemmas.Option.{slice_get-get_or}
 use Rattle.restriction_log.specs.States.{InForce}
 use Rattle.road_graph.specs.Roads.{IsRoads, no_segment, segment_at}
@@ -15,21 +14,20 @@ use Rattle.route_search.specs.declared.shortest.Shortest.TheVariants as shortest
 use Rattle.route_search.specs.Walks.{AreReached, IsAmong, IsWalk, every, flagged}
 use Rattle.route_search.specs.Founds.{IsShortest}
 use Rattle.route_search.proofs.Cuts.{reached_closed, shortest_in_range}
-use Rattle.trip_analysis.specs.declared.application.Application.{Application}
+use Rattle.trip_applications.specs.declared.application.Application.{Application}
 use Rattle.trip_analysis.specs.declared.finding.What.{What}
-use Rattle.trip_analysis.specs.declared.finding.Failing.{Failing}
-use Rattle.trip_analysis.specs.Bases.{BaseLists}
-use Rattle.trip_analysis.specs.Applications.{IsAskedWalk, Sound}
-use Rattle.trip_analysis.specs.Findings.{HoldsIn, InRange, IsFinding, IsFoundBy, asked_finding, first_meeting, first_on, first_or, flags_of, is_in, is_passable, leaves, leaving, limit_for, needs_none, what_of}
-use Rattle.trip_analysis.proofs.Joined.{one_joined, walks_there}
+use Rattle.fleet.specs.declared.failing.Failing.{Failing}
+use Rattle.fleet.specs.Bases.{BaseLists}
+use Rattle.trip_applications.specs.Applications.{IsAskedWalk, Sound}
+use Rattle.fleet.specs.Passing.{first_on, first_or, flags_of, is_passable, limit_for, needs_none}
+use Rattle.trip_analysis.specs.Findings.{HoldsIn, InRange, IsFinding, IsFoundBy, asked_finding, first_meeting, is_in, leaves, leaving, what_of}
+use Rattle.trip_applications.proofs.Joined.{one_joined, walks_there}
+use Rattle.fleet.proofs.Flagged.{flag_is}
+use Rattle.names.specs.declared.refusal.NoMemory.{NoMemory}
 
 pub pick : {A : Type 0} (P : A → Type 0) (b : Bool) (x y : A) → (b ≡ true → P x) → (b ≡ false → P y) → P (cond b x y)
 pick P true x y p q = p refl
 pick P false x y p q = q refl
-
--- the flag of a segment says whether it may be passed
-pub flag_is : (base : BaseLists) (state : InForce) (truck i : ℕ) → i < length base.roads.segments → flagged (flags_of base state truck) i ≡ is_passable base state truck i
-flag_is base state truck i h = get_or-map-range_with_len (is_passable base state truck) 0 (length base.roads.segments) i i false h (omega arith)
 
 -- no segment of a walk over those that may be passed fails
 pub walk_meets : (base : BaseLists) (state : InForce) (truck a b : ℕ) (path : List ℕ) → IsWalk base.roads.segments (flagged (flags_of base state truck)) a b path → first_on base state truck path ≡ None
@@ -153,3 +151,8 @@ found_in_range base state a w ok sound h = (usable base state a w ok sound h).ra
 
 pub found_holds : (base : BaseLists) (state : InForce) (a : Application) (w : What) → IsRoads base.roads → Sound base a → IsFinding base state a w → HoldsIn base state a.truck w
 found_holds base state a w ok sound h = (usable base state a w ok sound h).holds
+
+-- what a search found is found, where it is proposed
+pub found_if : (base : BaseLists) (state : InForce) (a : Application) (f : Shortest) (r : Result What NoMemory) → IsShortest base.roads (flags_of base state a.truck) a.from a.to f → IfOk r (λ w. w ≡ what_of f) → IfOk r (IsFoundBy base state a None)
+found_if base state a f (Ok w) h is = (f, h, is)
+found_if base state a f (Err e) h is = tt

@@ -4,7 +4,6 @@ use Rattle.std.proofs.lemmas.Bool.{cases_eq, cases_lt}
 use Rattle.std.proofs.lemmas.List.{ext_get_or, get_or-set_same, get_or-set_other, get_or_push, get_or_append_left}
 use Rattle.std.proofs.lemmas.List.FromFn.{length-map-range_with_len}
 use Rattle.std.proofs.lemmas.Option.{get_or_from_slice_get}
-use Rattle.std.specs.Prelude.{is_none, Option}
 use Rattle.std.proofs.Math.Bool.{beq}
 use Rattle.road_graph.specs.declared.values.Values.{Values}
 use Rattle.road_graph.specs.Roads.{AreSpansOf, Roads}
@@ -13,15 +12,14 @@ use Rattle.restriction_log.specs.States.{InForce, AgreeOn, rating_at, values_at}
 use Rattle.snapshot_store.specs.Stores.{AreKept, IsLater, Stored, state_now, version_of}
 use Rattle.snapshot_store.proofs.Changed.{agree_kept}
 use Rattle.route_search.specs.Heights.{AreHeights}
-use Rattle.clearance_rules.specs.declared.limit.Limit.{Limit}
-use Rattle.clearance_rules.proofs.Agreeing.{limits_agree}
 use Rattle.trip_analysis.specs.declared.analyst.Analyst.{Analyst}
 use Rattle.trip_analysis.specs.declared.analyst.Known.{Known}
-use Rattle.trip_analysis.specs.Bases.{BaseLists, truck_of}
-use Rattle.trip_analysis.specs.Findings.{flags_of, is_passable}
+use Rattle.fleet.specs.Bases.{BaseLists}
+use Rattle.fleet.specs.Passing.{flags_of, is_passable}
 use Rattle.trip_analysis.specs.Known.{AreJudged, AreKnown, AreOfFleet, IsJudged, IsKnown, IsKnownBelow, IsOfRoads}
-use Rattle.trip_analysis.proofs.Flags.{flags_many}
-use Rattle.trip_analysis.proofs.Found.{flag_is}
+use Rattle.fleet.proofs.Flagged.{flags_many}
+use Rattle.fleet.proofs.Flagged.{flag_is}
+use Rattle.fleet.proofs.Turning.{passes_alike}
 
 -- it holds of each truck below a number
 abbrev pub AllBelow : (ℕ → Known → Type 0) → List Known → ℕ → Type 0
@@ -33,10 +31,6 @@ below_push P known k n many below here = λ j d less. elim (cases_eq j n) [
   | inl same ↦ subst (λ (i : ℕ). P i (get_or (known ++ k ∷ []) i d)) (sym same) (subst (P n) (sym (get_or_push known k d n many)) here)
   | inr apart ↦ subst (P j) (sym (get_or_append_left known (k ∷ []) d j (omega (arith, less, apart, many)))) (below j d (omega (arith, less, apart)))
 ]
-
--- two states that agree on a segment let a truck pass it alike
-pub passes_alike : (base : BaseLists) (old new : InForce) (truck i : ℕ) → AgreeOn base.roads i old new → is_passable base old truck i ≡ is_passable base new truck i
-passes_alike base old new truck i agree = ap (λ (l : Option Limit). is_none l) (sym (limits_agree base.roads old new (truck_of base truck).load i agree))
 
 -- limits that a test finds equal are the same
 pub same_values : (v w : Values) → not ((beq v.closed w.closed) && ((v.height == w.height) && ((v.width == w.width) && ((v.length == w.length) && ((v.gross == w.gross) && ((v.allowance == w.allowance) && (v.tridem == w.tridem))))))) ≡ false → v ≡ w

@@ -6,7 +6,7 @@ use Rattle.restriction_log.specs.States.{InForce}
 use Rattle.route_search.specs.Heights.{AreHeights}
 use Rattle.trip_analysis.specs.declared.analyst.Analyst.{Analyst}
 use Rattle.trip_analysis.specs.declared.analyst.Known.{Known}
-use Rattle.trip_analysis.specs.Bases.{BaseLists}
+use Rattle.fleet.specs.Bases.{BaseLists}
 use Rattle.trip_analysis.specs.Known.{AreKnown, AreSettled, IsKnown}
 
 -- what is known of a truck stays known while its flags stay, and its potentials are settled

@@ -2,14 +2,8 @@ pub mod Crossing
 pub mod Marked
 pub mod Found
 pub mod OneFinding
-pub mod Unbroken
-pub mod Breaks
 pub mod Meanings
-pub mod Flags
 pub mod KnownAt
 pub mod Following
 pub mod Counting
-pub mod Joined
 pub mod Learning
-pub mod Turning
-pub mod Routes

@@ -1,42 +1,18 @@
 -- What is found for an application in a state of the roads.
-use Rattle.std.specs.Prelude.{◌≡◌, ℕ, ◌+◌, ◌-◌, ◌<◌, ◌≤◌, Bool, true, false, not, ◌&&◌, ◌==◌, List, [], ◌∷◌, map, filter, length, slice_get, Option, Some, None, is_none, if◌then◌else◌, All}
+use Rattle.std.specs.Prelude.{◌≡◌, ℕ, ◌+◌, ◌-◌, ◌<◌, ◌≤◌, Bool, true, false, not, ◌&&◌, ◌==◌, List, [], ◌∷◌, filter, length, slice_get, Option, Some, None, if◌then◌else◌, All}
 use Rattle.std.specs.List.{concat, list_any, range_with_len}
 use Rattle.restriction_log.specs.States.{InForce}
 use Rattle.road_graph.specs.Roads.{Roads, segment_at}
 use Rattle.snapshot_store.specs.Stores.{Stored, state_now}
-use Rattle.clearance_rules.specs.declared.limit.Limit.{Limit}
-use Rattle.clearance_rules.specs.Loads.{is_legal}
-use Rattle.clearance_rules.specs.Limits.{limit_of}
 use Rattle.route_search.specs.declared.shortest.Shortest.{Shortest}
 use Rattle.route_search.specs.declared.shortest.Shortest.TheVariants as shortest
 use Rattle.route_search.specs.Founds.{IsShortest}
-use Rattle.trip_analysis.specs.declared.application.Application.{Application}
-use Rattle.trip_analysis.specs.declared.finding.Failing.{Failing}
+use Rattle.trip_applications.specs.declared.application.Application.{Application}
+use Rattle.fleet.specs.declared.failing.Failing.{Failing}
 use Rattle.trip_analysis.specs.declared.finding.What.{What}
 use Rattle.trip_analysis.specs.declared.finding.What.TheVariants as what
-use Rattle.trip_analysis.specs.Bases.{BaseLists, truck_of}
-
--- whether a truck of the fleet is legal and needs no permit
-abbrev pub needs_none : BaseLists → ℕ → Bool
-needs_none base truck = is_legal (truck_of base truck).load
-
--- the first limit of a segment that fails a truck of the fleet
-abbrev pub limit_for : BaseLists → InForce → ℕ → ℕ → Option Limit
-limit_for base state truck s = limit_of base.roads state (truck_of base truck).load s
-
--- whether a truck of the fleet may pass a segment: no limit fails
-abbrev pub is_passable : BaseLists → InForce → ℕ → ℕ → Bool
-is_passable base state truck s = is_none (limit_for base state truck s)
-
--- the segment with its failing limit, where it has one, or else what the rest has
-abbrev pub first_or : Option Limit → ℕ → Option Failing → Option Failing
-first_or (Some limit) s rest = Some (record { segment = s; limit = limit })
-first_or None s rest = rest
-
--- the first of these segments that fails, with its first failing limit
-abbrev pub first_on : BaseLists → InForce → ℕ → List ℕ → Option Failing
-first_on base state truck [] = None
-first_on base state truck (s ∷ rest) = first_or (limit_for base state truck s) s (first_on base state truck rest)
+use Rattle.fleet.specs.Bases.{BaseLists}
+use Rattle.fleet.specs.Passing.{first_on, flags_of, is_passable, needs_none}
 
 -- the first of these segments that may be passed
 abbrev pub first_meeting : BaseLists → InForce → ℕ → List ℕ → Option ℕ
@@ -68,10 +44,6 @@ IsNextLeaving roads nodes start s =
 -- all segments that leave a set of nodes, rising
 abbrev pub leaving : Roads → List ℕ → List ℕ
 leaving roads nodes = leaving_from roads nodes 0
-
--- for each segment whether a truck may pass it
-abbrev pub flags_of : BaseLists → InForce → ℕ → List Bool
-flags_of base state truck = map (is_passable base state truck) (range_with_len 0 (length base.roads.segments))
 
 -- what a search found, as it is proposed
 abbrev pub what_of : Shortest → What

@@ -8,8 +8,8 @@ use Rattle.route_search.specs.declared.region.Region.{Region}
 use Rattle.restriction_log.specs.States.{InForce}
 use Rattle.trip_analysis.specs.declared.analyst.Known.{Known}
 use Rattle.trip_analysis.specs.declared.analyst.Analyst.{Analyst}
-use Rattle.trip_analysis.specs.Bases.{BaseLists}
-use Rattle.trip_analysis.specs.Findings.{flags_of, is_passable}
+use Rattle.fleet.specs.Bases.{BaseLists}
+use Rattle.fleet.specs.Passing.{flags_of, is_passable}
 
 -- for each node how far it is from there to a goal, which is there, over the flagged segments
 pub record IsSettled (roads : Roads) (flags : List Bool) (goal : ℕ) (potentials : List (Option ℕ)) : Type 0 where

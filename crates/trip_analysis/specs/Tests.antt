@@ -1,12 +1,7 @@
 -- How many segments are tested at the most while something is found.
-use Rattle.std.specs.Prelude.{ℕ, ◌+◌, ◌*◌, ◌≤◌, List, length, Option, Some, None}
+use Rattle.std.specs.Prelude.{ℕ, ◌*◌, List, length, Option, Some, None}
 use Rattle.std.specs.List.{concat}
-use Rattle.trip_analysis.specs.Bases.{BaseLists}
-
--- so many segments were tested before and now: the count did not fall, and rose by at most this
-pub record TestsAtMost (most before now : ℕ) : Type 0 where
-  pub no_fewer : before ≤ now
-  pub no_more : now ≤ before + most
+use Rattle.fleet.specs.Bases.{BaseLists}
 
 -- what is asked for is found by testing each segment of each asked route once, or else each segment of the roads once
 abbrev pub tests_for : BaseLists → Option (List (List ℕ)) → ℕ

@@ -4,15 +4,14 @@ ghost use Rattle.std.specs.Prelude.{◌≡◌, ◌<◌, length, None, true, All,
 ghost use Rattle.std.specs.List.{concat};
 ghost use Rattle.restriction_log.specs.States.{AreOf};
 ghost use Rattle.snapshot_store.specs.Stores.{version_of};
-ghost use Rattle.trip_analysis.specs.Applications.{Sound};
-ghost use Rattle.trip_analysis.specs.Findings.{IsFinding, IsFoundAt, IsFoundBy, IsSearched, asked_finding, first_on as first_in, needs_none, what_of};
-ghost use Rattle.trip_analysis.specs.Tests.{TestsAtMost, tests_for};
+ghost use Rattle.trip_applications.specs.Applications.{Sound};
+ghost use Rattle.fleet.specs.Passing.{TestsAtMost, first_on as first_in, needs_none};
+ghost use Rattle.trip_analysis.specs.Findings.{IsFinding, IsFoundAt, IsFoundBy, IsSearched, asked_finding, what_of};
+ghost use Rattle.trip_analysis.specs.Tests.{tests_for};
 
-use crate::application::Application;
-use crate::base::Base;
 use crate::finding::{Proposal, What};
-use crate::passing::{first_on, flags};
 use clearance_rules::Steps;
+use fleet::{Base, first_on, flags};
 use names::NoMemory;
 use restriction_log::State;
 use road_graph::Network;
@@ -20,6 +19,7 @@ use route_search::{Heights, Shortest, shortest_walk};
 use snapshot_store::Snapshot;
 use std::alloc::Global;
 use std::sync::ledger::Ledger;
+use trip_applications::Application;
 use trip_routes::SharedRoutes;
 
 /// What is found for the application in a state of the base's roads. `NoMemory` where no memory was left.

@@ -6,19 +6,17 @@ ghost use Rattle.route_search.specs.Heights.{AreHeights};
 ghost use Rattle.road_graph.specs.Roads.{IsRoads};
 ghost use Rattle.restriction_log.specs.States.{AgreeOn, AreOf, InForce};
 ghost use Rattle.snapshot_store.specs.Stores.{IsLater, state_now};
-ghost use Rattle.trip_analysis.specs.Applications.{Sound};
-ghost use Rattle.trip_analysis.specs.Bases.{BaseLists};
-ghost use Rattle.trip_analysis.specs.Findings.{IsFinding, IsFoundBy, needs_none};
-ghost use Rattle.trip_analysis.specs.Tests.{TestsAtMost, tests_for, tests_to_go_on};
+ghost use Rattle.trip_applications.specs.Applications.{Sound};
+ghost use Rattle.fleet.specs.Bases.{BaseLists};
+ghost use Rattle.fleet.specs.Passing.{TestsAtMost, needs_none};
+ghost use Rattle.trip_analysis.specs.Findings.{IsFinding, IsFoundBy};
+ghost use Rattle.trip_analysis.specs.Tests.{tests_for, tests_to_go_on};
 ghost use Rattle.trip_analysis.specs.Known.{AreJudged, AreKnown, AreOfFleet, AreSettled, IsJudged, IsKnown, IsOfRoads, IsSettled};
 
 use crate::analysis::{find_asked, proposed};
-use crate::application::Application;
-use crate::base::Base;
 use crate::finding::What;
-use crate::opening::flags_at;
-use crate::passing::is_passable;
 use clearance_rules::Steps;
+use fleet::{Base, flags_at, is_passable};
 use names::NoMemory;
 use restriction_log::State;
 use road_graph::Network;
@@ -28,6 +26,7 @@ use route_search::{
 use snapshot_store::Snapshot;
 use std::alloc::Global;
 use std::sync::ledger::Ledger;
+use trip_applications::Application;
 
 /// What is known of one truck, once it was needed: for each segment whether it may pass it, for each node how far it is from
 /// there to a goal that came twice, and what is reached from the region of a trip that had no route.

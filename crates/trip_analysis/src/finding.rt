@@ -1,15 +1,7 @@
 // What is found for an application.
 
-use clearance_rules::Limit;
 use road_graph::Numbers;
 use trip_routes::SharedRoutes;
-
-/// A segment that fails a load, with its first failing limit.
-#[derive(Clone, Copy, Drop, PartialEq, Eq)]
-pub struct Failing {
-    pub segment: u32,
-    pub limit: Limit,
-}
 
 /// What is found for an application in a state of the roads.
 #[derive(Drop)]

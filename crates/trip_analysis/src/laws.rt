@@ -1,6 +1,6 @@
 // Laws of the definitions, each on a function without code.
 
-ghost use Rattle.trip_analysis.specs.Laws.{AskedRoutesFailFirst, AskedRoutesMeet, BreaksAreFirst, CutsLetNoneThrough, FindingIsOne, FindingsAreInRange, FindingsHold, FirstBreaksAreFirst, RoutesAreFirstOfShortest, RoutesAreUnbroken, WalksAreUnbroken};
+ghost use Rattle.trip_analysis.specs.Laws.{AskedRoutesFailFirst, AskedRoutesMeet, CutsLetNoneThrough, FindingIsOne, FindingsAreInRange, FindingsHold, RoutesAreFirstOfShortest};
 
 /// A law, and no code: one thing is found for an application in a state; what it names is there, and it holds in that state.
 pub fn findings_hold()
@@ -21,14 +21,4 @@ pub fn free_findings_are_of_walks()
 pub fn asked_findings_are_of_the_routes()
     ensures route { AskedRoutesMeet }
     ensures fails { AskedRoutesFailFirst }
-{}
-
-/// A law, and no code: a list of segments is a walk between two nodes exactly where it does not break off, and it breaks off
-/// exactly behind the walk along its front, where the next segment does not begin or the trip does not end. Of several routes
-/// each is a walk exactly where none breaks off, and else the first that is none breaks off.
-pub fn routes_break_off_where_walks_do()
-    ensures walks { WalksAreUnbroken }
-    ensures breaks { BreaksAreFirst }
-    ensures routes { RoutesAreUnbroken }
-    ensures first { FirstBreaksAreFirst }
 {}

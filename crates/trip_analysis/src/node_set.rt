@@ -5,9 +5,8 @@ ghost use Rattle.restriction_log.specs.States.{AreOf};
 ghost use Rattle.trip_analysis.specs.NodeSets.{AreMarks};
 ghost use Rattle.trip_analysis.specs.Findings.{IsNextLeaving, first_meeting, leaves, leaving, leaving_from};
 
-use crate::base::Base;
-use crate::passing::is_passable;
 use clearance_rules::Steps;
+use fleet::{Base, is_passable};
 use restriction_log::State;
 use road_graph::{Network, Numbers};
 use std::marker::Model;

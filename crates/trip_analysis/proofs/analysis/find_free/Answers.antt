@@ -1,4 +1,4 @@
-use Rattle.trip_analysis.proofs.Flags.{flags_many}
+use Rattle.fleet.proofs.Flagged.{flags_many}
 use Rattle.trip_analysis.proofs.analysis.find_free.Goals as goal
 
 pub search_flagged-requires-clause-flags : goal.search_flagged-requires-clause-flags

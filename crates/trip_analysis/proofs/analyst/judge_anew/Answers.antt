@@ -1,6 +1,6 @@
 use Rattle.std.proofs.Common.{◌∙◌, Bool, length, set, ap}
 use Rattle.std.proofs.Math.ListN.{length-set}
-use Rattle.trip_analysis.specs.Findings.{is_passable}
+use Rattle.fleet.specs.Passing.{is_passable}
 use Rattle.trip_analysis.proofs.analyst.judge_anew.Goals as goal
 
 pub returns-then-known-clause-judged : goal.returns-then-known-clause-judged

@@ -1,6 +1,6 @@
 use Rattle.std.proofs.Common.{◌∙◌, sym, ap}
 use Rattle.std.specs.Prelude.{option_map}
-use Rattle.trip_analysis.proofs.Flags.{asked_there}
+use Rattle.trip_applications.proofs.Routes.{asked_there}
 use Rattle.trip_analysis.proofs.analyst.Analyst.find.Goals as goal
 
 pub find_asked-requires-clause-segments : goal.find_asked-requires-clause-segments

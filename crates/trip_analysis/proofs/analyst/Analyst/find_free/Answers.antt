@@ -1,7 +1,8 @@
 use Rattle.std.proofs.Common.{◌∙◌, ap, refl}
 use Rattle.snapshot_store.specs.Stores.{state_now}
-use Rattle.trip_analysis.specs.Findings.{flags_of}
-use Rattle.trip_analysis.proofs.Flags.{flags_many, found_if}
+use Rattle.fleet.specs.Passing.{flags_of}
+use Rattle.fleet.proofs.Flagged.{flags_many}
+use Rattle.trip_analysis.proofs.Found.{found_if}
 use Rattle.trip_analysis.proofs.Learning.{known_after, known_with}
 use Rattle.trip_analysis.proofs.analyst.Analyst.find_free.Goals as goal
 

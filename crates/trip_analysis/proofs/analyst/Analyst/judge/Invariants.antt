@@ -1,7 +1,7 @@
 use Rattle.std.proofs.Common.{◌≡◌, ◌<◌, ◌≤◌, ℕ, length, get_or}
 use Rattle.trip_analysis.specs.declared.analyst.Known.{Known}
 use Rattle.trip_analysis.specs.Known.{IsJudged}
-use Rattle.trip_analysis.specs.Tests.{TestsAtMost}
+use Rattle.fleet.specs.Passing.{TestsAtMost}
 use Rattle.trip_analysis.proofs.analyst.Analyst.judge.Given as goal
 
 abbrev pub invariant-trucks : goal.invariant-trucks

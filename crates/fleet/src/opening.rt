@@ -1,0 +1,125 @@
+// Which segments trucks may pass before anything is posted.
+
+ghost use Rattle.std.specs.Prelude.{◌≡◌, ◌<◌, length, All, IfOk, IfSome};
+ghost use Rattle.restriction_log.specs.States.{base_of};
+ghost use Rattle.snapshot_store.specs.Stores.{state_now};
+ghost use Rattle.fleet.specs.Bases.{BaseLists};
+ghost use Rattle.fleet.specs.Passing.{TestsAtMost, flags_of};
+ghost use Rattle.fleet.specs.Openings.{AreOpenings, IsOpening, flags_at_first};
+
+use crate::base::Base;
+use crate::passing::{flags, is_passable};
+use clearance_rules::{Steps, meets_at_first};
+use names::NoMemory;
+use restriction_log::State;
+use snapshot_store::Snapshot;
+use std::alloc::Global;
+use std::sync::ledger::Ledger;
+
+/// Which segments a truck may pass before anything is posted.
+#[derive(Drop)]
+pub(crate) struct Opening {
+    pub truck: u32,
+    pub flags: Vec<bool>,
+}
+
+// For each segment whether the truck may pass it before anything is posted. Nothing is counted.
+#[tactic(auto, using(crate::proofs::Flagged::flags_more))]
+pub(crate) fn opening_flags(
+    alloc: Global,
+    base: &Base,
+    first: &State,
+    truck: u32,
+) -> Result<Vec<bool>, NoMemory>
+    requires truck { truck < length base.now.fleet }
+    requires first { first.now ≡ base_of base.now.roads }
+    ensures { IfOk result (λ flags. flags.items ≡ flags_at_first base.now truck) }
+{
+    let network = base.network();
+    let load = &base.fleet()[truck as usize].load;
+    let study = base.study(truck);
+    let mut flags = Vec::new(alloc);
+    for segment in 0..network.segments() {
+        flags.push(meets_at_first(network, first, load, study, segment))?;
+    }
+    Ok(flags)
+}
+
+// Keeps what is found of one truck more.
+pub(crate) fn keep(
+    alloc: Global,
+    openings: &mut Option<Vec<Opening>>,
+    opening: Opening,
+) -> Result<(), NoMemory>
+    ensures { (base : BaseLists) → AreOpenings base openings.old → IsOpening base opening → AreOpenings base openings.new }
+{
+    match openings {
+        Some(openings) => openings.push(opening)?,
+        None => {
+            let mut list = Vec::new(alloc);
+            list.push(opening)?;
+            *openings = Some(list);
+        }
+    }
+    Ok(())
+}
+
+// What is kept of a truck, if anything is.
+pub(crate) fn flags_in(openings: &[Opening], truck: u32) -> Option<&[bool]>
+    ensures { (base : BaseLists) → All (IsOpening base) openings.now
+        → IfSome result (λ flags. flags.now ≡ flags_at_first base truck) }
+{
+    for i in 0..openings.len() {
+        let opening = &openings[i];
+        if opening.truck == truck {
+            return Some(opening.flags.as_slice());
+        }
+    }
+    None
+}
+
+/// For each segment whether the truck may pass it at a snapshot. Where the base keeps what the truck might pass before anything
+/// was posted, only the segments that postings name are tested, and else all are. `NoMemory` where no memory was left.
+pub fn flags_at<L: Ledger>(
+    alloc: Global,
+    base: &Base,
+    snapshot: &Snapshot,
+    truck: u32,
+    steps: &mut Steps<L>,
+) -> Result<Vec<bool>, NoMemory>
+    requires truck { truck < length base.now.fleet }
+    requires roads { snapshot.now.roads ≡ base.now.roads }
+    ensures flags { IfOk result (λ flags. flags.items ≡ flags_of base.now (state_now snapshot.now) truck) }
+    ensures steps { TestsAtMost (length base.now.roads.segments) steps.old steps.new }
+{
+    match base.opening(truck) {
+        Some(opening) => flags_from(alloc, base, opening, snapshot, truck, steps),
+        None => flags(alloc, base, snapshot.state(), truck, steps),
+    }
+}
+
+// For each segment whether the truck may pass it, by what it might pass before anything was posted: of the segments, those
+// that postings name are tested.
+fn flags_from<L: Ledger>(
+    alloc: Global,
+    base: &Base,
+    opening: &[bool],
+    snapshot: &Snapshot,
+    truck: u32,
+    steps: &mut Steps<L>,
+) -> Result<Vec<bool>, NoMemory>
+    requires truck { truck < length base.now.fleet }
+    requires opening { opening.now ≡ flags_at_first base.now truck }
+    requires roads { snapshot.now.roads ≡ base.now.roads }
+    ensures flags { IfOk result (λ flags. flags.items ≡ flags_of base.now (state_now snapshot.now) truck) }
+    ensures steps { TestsAtMost (length base.now.roads.segments) steps.old steps.new }
+{
+    base.lists_are_in_order();
+    let mut flags = Vec::from_slice(alloc, opening)?;
+    let mut from = 0;
+    'posted: while let Some(segment) = snapshot.next_changed(0, from) {
+        flags[segment as usize] = is_passable(base, snapshot.state(), truck, segment, steps);
+        from = segment + 1;
+    }
+    Ok(flags)
+}

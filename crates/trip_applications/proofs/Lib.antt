@@ -1,0 +1,4 @@
+pub mod Joined
+pub mod Unbroken
+pub mod Breaks
+pub mod Routes

@@ -1,0 +1,6 @@
+use Rattle.std.proofs.Common.{sym}
+use Rattle.trip_applications.proofs.Unbroken.{sound_on}
+use Rattle.trip_applications.proofs.application.Application.new.Goals as goal
+
+pub returns-clause-sound : goal.returns-clause-sound
+returns-clause-sound c = sound_on c.args.base.now c.network.result.now c.args.truck c.on.result (sym c.network.ensures) c.requires.truck c.on.ensures.sound
