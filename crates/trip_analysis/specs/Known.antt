@@ -1,68 +1,61 @@
 -- What is known of the trucks of a base in a state of its roads.
-use Rattle.std.specs.Prelude.{◌≡◌, ◌<◌, ◌≤◌, ℕ, Bool, true, false, List, Option, IfSome, length, slice_index_or, slice_set}
+use Rattle.std.specs.Prelude.{◌≡◌, ◌<◌, ℕ, Bool, List, Option, None, IfSome, IsSomeAnd, MatchOption, length, slice_index_or, slice_set}
 use Rattle.road_graph.specs.Roads.{Roads}
 use Rattle.route_search.specs.Founds.{ArePotentialsOver}
 use Rattle.route_search.specs.Heights.{AreHeights}
 use Rattle.route_search.specs.Regions.{IsRegion}
 use Rattle.route_search.specs.declared.region.Region.{Region}
 use Rattle.restriction_log.specs.States.{InForce}
-use Rattle.trip_analysis.specs.declared.analyst.Known.{Known}
+use Rattle.trip_analysis.specs.declared.known.Known.{Known}
+use Rattle.trip_analysis.specs.declared.known.Settled.{Settled}
 use Rattle.trip_analysis.specs.declared.analyst.Analyst.{Analyst}
 use Rattle.fleet.specs.Bases.{BaseLists}
 use Rattle.fleet.specs.Passing.{flags_of, is_passable}
 
--- for each node how far it is from there to a goal, which is there, over the flagged segments
-pub record IsSettled (roads : Roads) (flags : List Bool) (goal : ℕ) (potentials : List (Option ℕ)) : Type 0 where
-  pub there : goal < length roads.nodes
-  pub least : ArePotentialsOver roads flags goal potentials
+-- for each node how far it is from there to a goal, which is there, over the segments that may be passed
+pub record IsSettled (roads : Roads) (passable : List Bool) (settled : Settled) : Type 0 where
+  pub there : settled.goal < length roads.nodes
+  pub least : ArePotentialsOver roads passable settled.goal settled.potentials
 
--- a region over the flagged segments, if one is kept: some node is its root
-abbrev pub IsRegionOver : Roads → List Bool → Option Region → Type 0
-IsRegionOver roads flags kept = IfSome kept (λ region. (root : ℕ) × IsRegion roads flags root region)
+-- a region over the segments that may be passed: some node is its root
+abbrev pub IsRegionOver : Roads → List Bool → Region → Type 0
+IsRegionOver roads passable region = (root : ℕ) × IsRegion roads passable root region
 
--- what is kept beside the flags is of them: the potentials, if any are kept, are those of the kept goal, and the region, if
--- one is kept, is one over them
-pub record AreSettled (roads : Roads) (known : Known) : Type 0 where
-  pub potentials : known.is_settled ≡ true → IsSettled roads known.flags.items known.goal known.potentials
-  pub region : IsRegionOver roads known.flags.items known.region
-
--- what is known of a truck in a state: the flags, if they are kept, are those of the segments in the state, and what is kept
--- beside them is of them
-pub record IsKnown (base : BaseLists) (state : InForce) (truck : ℕ) (known : Known) : Type 0 where
-  pub flags : known.is_flagged ≡ true → known.flags.items ≡ flags_of base state truck
-  pub settled : AreSettled base.roads known
-
--- what is kept of a truck is of the roads, whatever is posted: there is a flag for each segment, if flags are kept, and what
--- is kept beside them is of them
+-- what is known of a truck is of the roads, whatever is posted: it says of each segment whether the truck may pass it, and
+-- what is kept beside this, if anything is, is over the segments that it may pass
 pub record IsOfRoads (roads : Roads) (known : Known) : Type 0 where
-  pub many : known.is_flagged ≡ true → length known.flags.items ≡ length roads.segments
-  pub settled : AreSettled roads known
+  pub many : length known.passable.items ≡ length roads.segments
+  pub settled : IfSome known.settled (IsSettled roads known.passable.items)
+  pub region : IfSome known.region (IsRegionOver roads known.passable.items)
 
--- a segment is judged anew for a truck, where flags are kept: its flag is that of the state, and the others stay
-pub record IsJudged (base : BaseLists) (state : InForce) (segment truck : ℕ) (old new : Known) : Type 0 where
-  pub is_of : IsOfRoads base.roads new
-  pub is_flagged : new.is_flagged ≡ old.is_flagged
-  pub flags : old.is_flagged ≡ true → new.flags.items ≡ slice_set old.flags.items segment (is_passable base state truck segment)
+-- what is known of a truck in a state: which segments it may pass there, and what is kept beside this
+pub record IsKnown (base : BaseLists) (state : InForce) (truck : ℕ) (known : Known) : Type 0 where
+  pub passable : known.passable.items ≡ flags_of base state truck
+  pub of_roads : IsOfRoads base.roads known
 
--- it is so of each truck of the fleet, in order
+-- a segment is judged anew for a truck of which something is known: whether the truck may pass it is as in the state, and the
+-- others stay
+pub record IsJudgedBy (base : BaseLists) (state : InForce) (segment truck : ℕ) (old new : Known) : Type 0 where
+  pub of_roads : IsOfRoads base.roads new
+  pub passable : new.passable.items ≡ slice_set old.passable.items segment (is_passable base state truck segment)
+
+-- the same for any truck: where nothing is known of it, nothing is known afterwards
+abbrev pub IsJudged : BaseLists → InForce → ℕ → ℕ → Option Known → Option Known → Type 0
+IsJudged base state segment truck old new = MatchOption old (new ≡ None) (λ was. IsSomeAnd new (IsJudgedBy base state segment truck was))
+
+-- what is known of each truck of the fleet, in order, if anything is, is of the roads
 pub record AreOfFleet (base : BaseLists) (a : Analyst) : Type 0 where
   pub many : length a.known.items ≡ length base.fleet
-  pub each : (truck : ℕ) (d : Known) → truck < length base.fleet → IsOfRoads base.roads (slice_index_or a.known.items truck d)
+  pub each : (truck : ℕ) (d : Option Known) → truck < length base.fleet → IfSome (slice_index_or a.known.items truck d) (IsOfRoads base.roads)
 
 -- the segment is judged anew for each truck of the fleet, and the heights are as before
 pub record AreJudged (base : BaseLists) (state : InForce) (segment : ℕ) (old new : Analyst) : Type 0 where
   pub heights : new.heights ≡ old.heights
   pub many : length new.known.items ≡ length base.fleet
-  pub each : (truck : ℕ) (d : Known) → truck < length base.fleet → IsJudged base state segment truck (slice_index_or old.known.items truck d) (slice_index_or new.known.items truck d)
+  pub each : (truck : ℕ) (d : Option Known) → truck < length base.fleet → IsJudged base state segment truck (slice_index_or old.known.items truck d) (slice_index_or new.known.items truck d)
 
--- the flags of the segments below a number, if any are kept, are those of the new state, and the others those of the old one
-pub record IsKnownBelow (base : BaseLists) (old new : InForce) (n truck : ℕ) (known : Known) : Type 0 where
-  pub is_of : IsOfRoads base.roads known
-  pub before : (i : ℕ) → known.is_flagged ≡ true → i < n → i < length base.roads.segments → slice_index_or known.flags.items i false ≡ is_passable base new truck i
-  pub behind : (i : ℕ) → known.is_flagged ≡ true → n ≤ i → i < length base.roads.segments → slice_index_or known.flags.items i false ≡ is_passable base old truck i
-
--- it is known of each truck of the fleet, in order, and the heights are those of the roads
+-- what is known of each truck of the fleet, in order, if anything is, is so in the state, and the heights are those of the roads
 pub record AreKnown (base : BaseLists) (state : InForce) (a : Analyst) : Type 0 where
   pub heights : AreHeights base.roads.segments a.heights
   pub many : length a.known.items ≡ length base.fleet
-  pub each : (truck : ℕ) (d : Known) → truck < length base.fleet → IsKnown base state truck (slice_index_or a.known.items truck d)
+  pub each : (truck : ℕ) (d : Option Known) → truck < length base.fleet → IfSome (slice_index_or a.known.items truck d) (IsKnown base state truck)

@@ -13,12 +13,14 @@ mod analysis;
 mod analyst;
 mod finding;
 mod follower;
+mod known;
 mod laws;
 mod node_set;
 
 pub use analysis::{analyse, find};
-pub use analyst::{Analyst, Known};
+pub use analyst::Analyst;
 pub use finding::{Proposal, What};
 pub use follower::Follower;
+pub use known::Known;
 pub use laws::{asked_findings_are_of_the_routes, findings_hold, free_findings_are_of_walks};
 pub use node_set::{NodeSet, first_meeting_out};
