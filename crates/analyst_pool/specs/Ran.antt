@@ -1,6 +1,6 @@
 -- What a worker has done.
 use Rattle.std.specs.Prelude.{◌≡◌, ◌≢◌, ◌≤◌, [], ℕ, List, Option, Some, All, vec_len}
-use Rattle.trip_analysis.specs.Bases.{BaseLists}
+use Rattle.fleet.specs.Bases.{BaseLists}
 use Rattle.office_words.specs.declared.entry.Command.{Command}
 use Rattle.office_words.specs.declared.entry.Entry.{Entry}
 use Rattle.office_core.specs.Calls.{Calling}

@@ -8,13 +8,13 @@ ghost use Rattle.command_calls.specs.Following.{MayFollow};
 ghost use Rattle.analyst_pool.specs.Ran.{CarriedOutAll, IsReady, Ran};
 
 use command_calls::{Errand, Finder, Gate, carry_out};
+use fleet::Base;
 use office_core::OfficeCalls;
 use office_words::{Command, Reply};
 use std::alloc::Global;
 use std::marker::Brand;
 use std::sync::ledger::{Blank, Ledger};
 use std::thread::{Threads, for_each_mut};
-use trip_analysis::Base;
 
 /// How far a worker came with its script. Commands are numbered from 0.
 #[derive(Clone, Copy, PartialEq, Eq)]

@@ -21,7 +21,7 @@ use Rattle.shear_peak.specs.Laws.{IsShearPeak}
 use Rattle.shear_peak.specs.declared.ShearPeak.{ShearPeak}
 use Rattle.clearance_rules.specs.Loads.{LoadParts, is_legal}
 use Rattle.day_text.specs.Spans.{AreSpans}
-use Rattle.trip_analysis.specs.declared.base.Truck.{Truck}
+use Rattle.fleet.specs.declared.base.Truck.{Truck}
 use Rattle.day_text.specs.declared.check_file.CheckFile.{CheckFile}
 use Rattle.day_text.specs.declared.check_file.Probe.{Probe}
 use Rattle.check_report.specs.Probes.{AreTexts, rating_line, span_line}

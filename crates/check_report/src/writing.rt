@@ -13,6 +13,7 @@ use axle_limits::{Finding, LEGAL_HEIGHT, LEGAL_WIDTH, Rule, findings};
 use axle_train::Train;
 use clearance_rules::Load;
 use day_text::{CheckFile, Probe};
+use fleet::Truck;
 use hs20_truck::effects;
 use influence_line::{End, Place};
 use moment_peak::MomentPeak;
@@ -20,7 +21,6 @@ use names::NoMemory;
 use shear_peak::ShearPeak;
 use span_rating::{Effects, fits};
 use std::alloc::{AllocError, Global};
-use trip_analysis::Truck;
 
 /// The report on a check file: its truck, and then its truck on each of its probes. There is no other.
 pub fn report(alloc: Global, file: &CheckFile) -> Result<String, NoMemory>

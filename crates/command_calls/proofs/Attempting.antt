@@ -3,9 +3,9 @@ use Rattle.std.proofs.Common.{◌≡◌, ◌≤◌, ◌∷◌, ◌++◌, [], Lis
 use Rattle.std.proofs.lemmas.List.{append-nil}
 use Rattle.road_graph.specs.Roads.{IsRoads}
 use Rattle.snapshot_store.specs.Stores.{Stored, version_of}
-use Rattle.trip_analysis.specs.declared.application.Application.{Application}
-use Rattle.trip_analysis.specs.Applications.{Sound}
-use Rattle.trip_analysis.specs.Bases.{BaseLists}
+use Rattle.trip_applications.specs.declared.application.Application.{Application}
+use Rattle.trip_applications.specs.Applications.{Sound}
+use Rattle.fleet.specs.Bases.{BaseLists}
 use Rattle.trip_analysis.specs.Findings.{IsFoundAt}
 use Rattle.office_core.specs.declared.calls.Looked.TheVariants as looked
 use Rattle.office_words.specs.declared.entry.Call.{Call}

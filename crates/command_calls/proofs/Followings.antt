@@ -2,7 +2,7 @@
 use Rattle.std.proofs.Common.{◌≡◌, ◌++◌, List, Option, Some, None, IfSome, refl, ap, sym, subst, ◌∙◌}
 use Rattle.snapshot_store.specs.Stores.{IsLater, Stored}
 use Rattle.snapshot_store.proofs.Later.{later_on, later_same}
-use Rattle.trip_analysis.specs.Bases.{BaseLists}
+use Rattle.fleet.specs.Bases.{BaseLists}
 use Rattle.trip_analysis.specs.Followers.{Followed, GoesOn, followed}
 use Rattle.office_core.specs.declared.calls.Looked.TheVariants as looked
 use Rattle.office_words.specs.declared.entry.Call.{Call}

@@ -1,7 +1,7 @@
 -- How many entries a command makes.
 use Rattle.std.proofs.Common.{◌≡◌, ◌≤◌, ◌+◌, ◌*◌, List, ℕ, zero, suc, length, true, ap, refl, arith}
 use Rattle.std.proofs.lemmas.List.{length-append}
-use Rattle.trip_analysis.specs.declared.application.Application.{Application}
+use Rattle.trip_applications.specs.declared.application.Application.{Application}
 use Rattle.office_words.specs.declared.entry.Call.{Call}
 use Rattle.office_words.specs.declared.entry.Command.{Command}
 use Rattle.office_words.specs.declared.entry.Command.TheVariants as command

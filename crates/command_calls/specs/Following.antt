@@ -1,7 +1,7 @@
 -- Who finds what the applications of a caller need, from one snapshot to the next.
 use Rattle.std.specs.Prelude.{◌≡◌, Option, IfSome}
 use Rattle.snapshot_store.specs.Stores.{Stored}
-use Rattle.trip_analysis.specs.Bases.{BaseLists}
+use Rattle.fleet.specs.Bases.{BaseLists}
 use Rattle.trip_analysis.specs.Followers.{Followed, GoesOn}
 use Rattle.office_core.specs.Calls.{Calling, stored_seen}
 

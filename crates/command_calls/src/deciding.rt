@@ -1,7 +1,7 @@
 // Commands that are carried out by the calls of an office.
 
 ghost use Rattle.std.specs.Prelude.{◌≡◌, ◌<◌, false, IfErr, IfOk, MatchOption};
-ghost use Rattle.trip_analysis.specs.Applications.{Sound};
+ghost use Rattle.trip_applications.specs.Applications.{Sound};
 ghost use Rattle.office_words.specs.declared.entry.Command.TheVariants as asked;
 ghost use Rattle.office_core.specs.Replies.{is_outdated};
 ghost use Rattle.command_calls.specs.Attempts.{Concluded, DecidedAfter, IsAgain};
@@ -13,12 +13,14 @@ ghost use Rattle.office_words.specs.Commands.{MayCarryOut};
 use crate::errand::Errand;
 use crate::finder::Finder;
 use crate::gate::Gate;
+use fleet::Base;
 use names::NoMemory;
 use office_core::{Looked, OfficeCalls};
 use office_words::{Command, Reply};
 use std::alloc::Global;
 use std::sync::ledger::{Blank, Ledger};
-use trip_analysis::{Application, Base, Proposal};
+use trip_analysis::Proposal;
+use trip_applications::Application;
 
 // What is submitted: a copy of an application, and what was found for it.
 #[derive(Drop)]

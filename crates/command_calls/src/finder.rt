@@ -2,16 +2,18 @@
 
 ghost use Rattle.std.specs.Prelude.{◌≡◌, ◌<◌, IfOk, IfSome, None};
 ghost use Rattle.snapshot_store.specs.Stores.{version_of};
-ghost use Rattle.trip_analysis.specs.Applications.{Sound};
+ghost use Rattle.trip_applications.specs.Applications.{Sound};
 ghost use Rattle.trip_analysis.specs.Findings.{IsFoundAt};
 ghost use Rattle.command_calls.specs.Following.{FollowsAt};
 
 use clearance_rules::Steps;
+use fleet::Base;
 use names::NoMemory;
 use snapshot_store::Snapshot;
 use std::alloc::Global;
 use std::sync::ledger::{Blank, Ledger};
-use trip_analysis::{Application, Base, Follower, Proposal};
+use trip_analysis::{Follower, Proposal};
+use trip_applications::Application;
 
 /// Who finds what the applications of a caller need: what is known of the trucks, which is nothing before the first
 /// application, and a counter of what is tested for them.

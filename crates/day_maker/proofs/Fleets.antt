@@ -9,7 +9,7 @@ use Rattle.csv.specs.Records.{field_at}
 use Rattle.axle_train.specs.declared.axle.Axle.{Axle}
 use Rattle.axle_train.specs.Refusals.{refusal_of}
 use Rattle.road_graph.specs.Roads.{has_name, segment_names}
-use Rattle.trip_analysis.specs.declared.base.Truck.{Truck}
+use Rattle.fleet.specs.declared.base.Truck.{Truck}
 use Rattle.record_text.specs.Fields.{name_of}
 use Rattle.day_text.specs.Days.{judge_day}
 use Rattle.day_text.specs.Fleets.{actors_of, fleet_of, truck_names}

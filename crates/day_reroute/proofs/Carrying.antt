@@ -5,7 +5,7 @@ use Rattle.std.proofs.lemmas.List.Elements.{All-append, filter-append}
 use Rattle.std.proofs.lemmas.List.Sums.{fold-append}
 use Rattle.road_graph.specs.Roads.{IsRoads}
 use Rattle.permit_days.specs.Days.{is_before}
-use Rattle.trip_analysis.specs.declared.application.Application.{Application}
+use Rattle.trip_applications.specs.declared.application.Application.{Application}
 use Rattle.trip_analysis.specs.Findings.{is_in}
 use Rattle.day_text.specs.declared.orders.Order.{Order}
 use Rattle.office_words.specs.declared.entry.Entry.{Entry}

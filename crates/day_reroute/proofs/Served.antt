@@ -3,7 +3,7 @@ use Rattle.std.proofs.Common.{◌≡◌, ◌∙◌, ◌<◌, ap, sym, refl, subs
 use Rattle.std.specs.List.{All}
 use Rattle.std.specs.Result.{IsErrAnd}
 use Rattle.road_graph.specs.Roads.{IsRoads}
-use Rattle.trip_analysis.specs.Bases.{BaseLists}
+use Rattle.fleet.specs.Bases.{BaseLists}
 use Rattle.day_text.specs.declared.orders.Order.{Order}
 use Rattle.day_text.specs.Days.{DayParts}
 use Rattle.office_core.specs.Machine.{IsLegal}

@@ -1,7 +1,7 @@
 -- The history of an office after a day file's commands, where each recalled permit is applied for again.
 use Rattle.std.specs.Prelude.{◌≡◌, ◌≢◌, ◌<◌, ◌++◌, [], ◌∷◌, ℕ, List, All, Some, length}
 use Rattle.road_graph.specs.Roads.{IsRoads}
-use Rattle.trip_analysis.specs.declared.application.Application.{Application}
+use Rattle.trip_applications.specs.declared.application.Application.{Application}
 use Rattle.day_text.specs.declared.orders.Order.{Order}
 use Rattle.day_text.specs.Days.{DayParts}
 use Rattle.office_words.specs.declared.entry.Call.TheVariants as call

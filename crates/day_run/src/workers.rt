@@ -9,13 +9,13 @@ ghost use Rattle.day_run.specs.Workers.{AreAt, AreDoneFrom, AreFresh, AreReceive
 use crate::ended::Ended;
 use analyst_pool::{Worker, run_actors};
 use command_calls::Gate;
+use fleet::Base;
 use names::NoMemory;
 use office_desk::{Desk, Root, Seat};
 use office_words::Command;
 use std::sync::Wait;
 use std::sync::ledger::Ledger;
 use std::thread::Threads;
-use trip_analysis::Base;
 
 /// An actor with its script and its seat at the desk.
 type Actor<'a, R, L> = Worker<Seat<'a, R, L>>;

@@ -3,11 +3,12 @@
 ghost use Rattle.std.specs.Prelude.{◌≡◌, IfOk};
 
 use day_text::{DayFile, Order};
+use fleet::Base;
 use names::NoMemory;
 use office_words::Command;
 use restriction_log::State;
 use std::alloc::Global;
-use trip_analysis::{Application, Base};
+use trip_applications::Application;
 
 /// The most columns of heights that an analyst makes.
 const COLUMNS: u32 = 16;

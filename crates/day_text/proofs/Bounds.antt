@@ -30,9 +30,9 @@ use Rattle.clearance_rules.specs.Loads.{LoadParts, is_cross_section, is_length, 
 use Rattle.permit_days.specs.Days.{has_shape, is_day, is_day_text}
 use Rattle.permit_days.specs.Days.{day_of as day_in_month, month_of, year_of}
 use Rattle.permit_days.specs.declared.refusal.DayRefusal.TheVariants.{NoSuchDay, Shape}
-use Rattle.trip_analysis.specs.declared.application.Application.{Application}
-use Rattle.trip_analysis.specs.declared.base.Truck.{Truck}
-use Rattle.trip_analysis.specs.Applications.{application_of}
+use Rattle.trip_applications.specs.declared.application.Application.{Application}
+use Rattle.fleet.specs.declared.base.Truck.{Truck}
+use Rattle.trip_applications.specs.Applications.{application_of}
 use Rattle.restriction_log.specs.Changes.{change_of, flag, replaced_by, takes, takes_replaced}
 use Rattle.restriction_log.specs.declared.change.Replaced.{Replaced}
 use Rattle.restriction_log.specs.declared.change.Replaced.TheVariants as replaced

@@ -7,12 +7,12 @@ use Rattle.std.proofs.lemmas.List.Quantifiers.{position-Some}
 use Rattle.road_graph.specs.declared.segment.Segment.{Segment}
 use Rattle.road_graph.specs.Roads.{Roads, segment_names}
 use Rattle.road_graph.specs.Roads.{number_of as number_named}
-use Rattle.trip_analysis.specs.declared.application.Application.{Application}
-use Rattle.trip_analysis.specs.declared.base.Truck.{Truck}
-use Rattle.trip_analysis.specs.Applications.{AreAskedThere, AreThere, Sound, application_of, application_refusal}
-use Rattle.trip_analysis.specs.Bases.{BaseLists}
-use Rattle.trip_analysis.proofs.Joined.{all_joined}
-use Rattle.trip_analysis.proofs.Unbroken.{sound_if}
+use Rattle.trip_applications.specs.declared.application.Application.{Application}
+use Rattle.fleet.specs.declared.base.Truck.{Truck}
+use Rattle.trip_applications.specs.Applications.{AreAskedThere, AreThere, Sound, application_of, application_refusal}
+use Rattle.fleet.specs.Bases.{BaseLists}
+use Rattle.trip_applications.proofs.Joined.{all_joined}
+use Rattle.trip_applications.proofs.Unbroken.{sound_if}
 use Rattle.day_text.specs.Commands.{applied, apply_fields_of, apply_of, asked_of, cause_of, numbers_of, order_of, asked_permit_of, post_of, posting_of, resolved_of, set_day_of}
 use Rattle.record_text.specs.Fields.{field_of, of_each, posted_of}
 use Rattle.day_text.specs.Fleets.{truck_names}

@@ -4,8 +4,8 @@ use Rattle.std.specs.Prelude.{nat_lt, not}
 use Rattle.road_graph.specs.Roads.{has_name}
 use Rattle.std.proofs.lemmas.Bool.{ltb-true}
 use Rattle.std.proofs.lemmas.List.Elements.{All-nil, All-push, All-weaker}
-use Rattle.trip_analysis.specs.Bases.{BaseLists}
-use Rattle.trip_analysis.specs.declared.base.Truck.{Truck}
+use Rattle.fleet.specs.Bases.{BaseLists}
+use Rattle.fleet.specs.declared.base.Truck.{Truck}
 use Rattle.record_text.specs.Causes.{Tells, demand, limit, or_bad}
 use Rattle.day_text.specs.Commands.{order_of, with_order}
 use Rattle.day_text.specs.Days.{DayParts, day_of, ended_day, finished_day, going_on, judge_day, judge_kind, judge_later, judge_opening, fresh_day, opening_of, file_parts_of, with_actor, with_command, with_road, with_truck}

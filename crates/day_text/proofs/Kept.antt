@@ -9,10 +9,10 @@ use Rattle.road_graph.specs.Adding.{limited}
 use Rattle.road_graph.specs.Roads.{Roads, has_name, no_segment, segment_at, segment_names, span_names, spans_of}
 use Rattle.road_graph.specs.Roads.{number_of as number_named}
 use Rattle.road_graph.proofs.Places.{get-front}
-use Rattle.trip_analysis.specs.Walks.{IsWalk, every}
-use Rattle.trip_analysis.specs.Applications.{IsAskedWalk, Sound}
-use Rattle.trip_analysis.specs.Bases.{BaseLists}
-use Rattle.trip_analysis.specs.declared.application.Application.{Application}
+use Rattle.trip_applications.specs.Walks.{IsWalk, every}
+use Rattle.trip_applications.specs.Applications.{IsAskedWalk, Sound}
+use Rattle.fleet.specs.Bases.{BaseLists}
+use Rattle.trip_applications.specs.declared.application.Application.{Application}
 use Rattle.record_text.specs.Causes.{demand, limit, or_bad}
 use Rattle.road_graph.specs.Words.{what_of}
 use Rattle.record_text.specs.Fields.{field_of}

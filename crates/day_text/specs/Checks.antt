@@ -3,7 +3,7 @@ use Rattle.std.specs.Prelude.{ℕ, ◌+◌, Bool, ◌&&◌, ◌||◌, nat_le, if
 use Rattle.record_text.specs.Causes.{◌>>=◌, demand, limit}
 use Rattle.record_text.specs.Records.{Row, has_kind, has_only, judged, number_in, rows_of}
 use Rattle.day_text.specs.Trucks.{load_of, truck_fields_of}
-use Rattle.trip_analysis.specs.declared.base.Truck.{Truck}
+use Rattle.fleet.specs.declared.base.Truck.{Truck}
 use Rattle.day_text.specs.declared.check_file.Probe.{Probe}
 use Rattle.day_text.specs.declared.check_file.CheckFile.{CheckFile}
 use Rattle.day_text.specs.declared.check_file.CheckProgress.{CheckProgress}

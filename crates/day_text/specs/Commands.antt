@@ -7,10 +7,10 @@ use Rattle.restriction_log.specs.declared.change.Change.TheVariants as change
 use Rattle.road_graph.specs.Ranges.{is_limit, is_rating}
 use Rattle.road_graph.specs.Roads.{Roads, segment_names, span_names}
 use Rattle.road_graph.specs.Roads.{number_of as number_named}
-use Rattle.trip_analysis.specs.declared.application.Application.{Application}
-use Rattle.trip_analysis.specs.declared.refusal.ApplicationRefusal.{ApplicationRefusal}
-use Rattle.trip_analysis.specs.declared.refusal.ApplicationRefusal.TheVariants.{AnnualDays, BrokenRoute, DayOrder, SamePlace}
-use Rattle.trip_analysis.specs.Applications.{application_of, application_refusal}
+use Rattle.trip_applications.specs.declared.application.Application.{Application}
+use Rattle.trip_applications.specs.declared.refusal.ApplicationRefusal.{ApplicationRefusal}
+use Rattle.trip_applications.specs.declared.refusal.ApplicationRefusal.TheVariants.{AnnualDays, BrokenRoute, DayOrder, SamePlace}
+use Rattle.trip_applications.specs.Applications.{application_of, application_refusal}
 use Rattle.record_text.specs.Causes.{◌>>=◌, demand, limit, or_bad, unless_refused}
 use Rattle.record_text.specs.Fields.{field_of, of_each, posted_of, routes_of}
 use Rattle.day_text.specs.Fleets.{truck_names}

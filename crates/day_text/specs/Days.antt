@@ -1,7 +1,7 @@
 -- What a day file says, judged over the whole list of its records.
 use Rattle.std.specs.Prelude.{ℕ, List, [], Result, Ok, Err}
 use Rattle.road_graph.specs.Roads.{no_roads}
-use Rattle.trip_analysis.specs.Bases.{BaseLists}
+use Rattle.fleet.specs.Bases.{BaseLists}
 use Rattle.record_text.specs.Causes.{◌>>=◌, or_bad}
 use Rattle.day_text.specs.Commands.{order_of, with_order}
 use Rattle.record_text.specs.Fields.{field_of}

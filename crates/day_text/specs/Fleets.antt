@@ -5,7 +5,7 @@ use Rattle.record_text.specs.Causes.{◌>>=◌, demand, limit}
 use Rattle.record_text.specs.Records.{Row, has_only, name_in}
 use Rattle.day_text.specs.Trucks.{load_of, truck_fields_of}
 use Rattle.day_text.specs.declared.truck.TruckFields.{TruckFields}
-use Rattle.trip_analysis.specs.declared.base.Truck.{Truck}
+use Rattle.fleet.specs.declared.base.Truck.{Truck}
 use Rattle.record_text.specs.declared.refusal.Cause.{Cause}
 use Rattle.record_text.specs.declared.refusal.RecordCause.TheVariants as bad
 use Rattle.record_text.specs.declared.refusal.Kind.TheVariants as kind

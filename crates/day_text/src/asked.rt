@@ -4,7 +4,7 @@ ghost use Rattle.std.specs.Prelude.{◌≡◌, ◌<◌, ◌≤◌, ◌==◌, ◌
 ghost use Rattle.std.specs.List.{slice_split};
 ghost use Rattle.road_graph.specs.Roads.{number_of as number_named};
 ghost use Rattle.road_graph.specs.Roads.{segment_names};
-ghost use Rattle.trip_analysis.specs.Applications.{AreAskedThere};
+ghost use Rattle.trip_applications.specs.Applications.{AreAskedThere};
 ghost use Rattle.record_text.specs.Causes.{Judges, or_bad};
 ghost use Rattle.record_text.specs.Fields.{name_of, of_each, route_of};
 ghost use Rattle.record_text.specs.declared.refusal.RecordCause.{RecordCause};

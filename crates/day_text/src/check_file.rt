@@ -9,13 +9,13 @@ ghost use Rattle.day_text.specs.Checks.{check_of, ended_check, is_check_kind, ju
 
 use crate::truck::{load_of, parse_truck};
 use csv::StringRecord;
+use fleet::Truck;
 use record_text::{
     Cause, FileRefusal, Kind, Progress, RecordCause, RecordRefusal, demand, field, has_only,
     is_blank_from, limit, number_in, read_records,
 };
 use std::alloc::Global;
 use std::marker::Model;
-use trip_analysis::Truck;
 
 /// A span to try the truck on: its inches (1 to 6,000), and its rating per mille of HS20-44 (at most 100,000).
 #[derive(Clone, Copy, Drop, PartialEq, Eq)]

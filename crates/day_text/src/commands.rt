@@ -21,7 +21,7 @@ use record_text::{
 use restriction_log::Change;
 use road_graph::{Network, Span};
 use std::alloc::Global;
-use trip_analysis::{Application, ApplicationRefusal};
+use trip_applications::{Application, ApplicationRefusal};
 
 /// The fields of an application's record, each in its form. A day that the calendar lacks is none.
 #[derive(Drop)]

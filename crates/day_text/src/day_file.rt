@@ -10,12 +10,12 @@ use crate::day_so_far::DaySoFar;
 use crate::name_set::Names;
 use crate::orders::Order;
 use crate::progress::DayProgress;
+use fleet::Base;
 use names::Name;
 use permit_days::Day;
 use record_text::{FileRefusal, RecordCause, RecordRefusal, read_records};
 use std::alloc::Global;
 use std::marker::Model;
-use trip_analysis::Base;
 
 /// A day file. Nodes, segments, spans, trucks, actors and commands are numbered from 0 in the order of their records.
 #[derive(Drop)]

@@ -2,9 +2,9 @@
 
 ghost use Rattle.std.specs.Prelude.{◌≡◌};
 
-use crate::fleet::Fleet;
 use crate::name_set::Names;
 use crate::orders::Orders;
+use crate::trucks::Fleet;
 use permit_days::Day;
 use road_graph::Network;
 use std::alloc::{AllocError, Global};

@@ -15,7 +15,6 @@ mod check_file;
 mod commands;
 mod day_file;
 mod day_so_far;
-mod fleet;
 mod kind;
 mod laws;
 mod members;
@@ -26,6 +25,7 @@ mod referred;
 mod roads;
 mod scripts;
 mod truck;
+mod trucks;
 
 pub use check_file::{CheckFile, Probe, Probes, read_check};
 pub use day_file::{DayFile, read_day};

@@ -10,12 +10,12 @@ ghost use Rattle.day_text.specs.Days.{going_on, judge_day, judge_kind, judge_lat
 
 use crate::commands::parse_order;
 use crate::day_so_far::{DaySoFar, Growing};
-use crate::fleet::Fleet;
 use crate::kind::{CommandKind, RecordKind, RoadKind, parse_kind};
 use crate::members::{add_actor, add_truck};
 use crate::name_set::Names;
 use crate::orders::Orders;
 use crate::roads::add_road;
+use crate::trucks::Fleet;
 use csv::StringRecord;
 use permit_days::Day;
 use record_text::{

@@ -1,6 +1,6 @@
 -- What was followed up to an office can be followed to what it has become.
 use Rattle.std.proofs.Common.{◌≡◌, [], List, Option, None, IfSome, refl, ap, sym, subst, ◌∙◌}
-use Rattle.trip_analysis.specs.Bases.{BaseLists}
+use Rattle.fleet.specs.Bases.{BaseLists}
 use Rattle.trip_analysis.specs.Followers.{Followed}
 use Rattle.office_words.specs.declared.entry.Entry.{Entry}
 use Rattle.office_core.specs.Calls.{Calling}

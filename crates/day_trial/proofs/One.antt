@@ -1,7 +1,7 @@
 -- The histories of a day file's commands are one.
 use Rattle.std.proofs.Common.{◌≡◌, ◌∷◌, [], ◌++◌, List, ap, sym, ◌∙◌, subst}
 use Rattle.road_graph.specs.Roads.{IsRoads}
-use Rattle.trip_analysis.specs.Bases.{BaseLists}
+use Rattle.fleet.specs.Bases.{BaseLists}
 use Rattle.day_text.specs.declared.orders.Order.{Order}
 use Rattle.day_text.specs.Days.{DayParts}
 use Rattle.office_words.specs.declared.entry.Entry.{Entry}

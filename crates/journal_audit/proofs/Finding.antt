@@ -1,10 +1,10 @@
 -- What is found again for a proposal.
 use Rattle.std.proofs.Common.{◌≡◌, ◌≤◌, subst}
-use Rattle.trip_analysis.specs.declared.application.Application.{Application}
+use Rattle.trip_applications.specs.declared.application.Application.{Application}
 use Rattle.trip_analysis.specs.declared.finding.Proposal.{Proposal}
 use Rattle.trip_analysis.specs.declared.finding.What.{What}
-use Rattle.trip_analysis.specs.Applications.{Sound}
-use Rattle.trip_analysis.specs.Bases.{BaseLists}
+use Rattle.trip_applications.specs.Applications.{Sound}
+use Rattle.fleet.specs.Bases.{BaseLists}
 use Rattle.trip_analysis.specs.Findings.{IsFinding}
 use Rattle.trip_analysis.proofs.OneFinding.{one_finding}
 use Rattle.office_core.specs.Machine.{IsFound, Machine, state_at, version_of}

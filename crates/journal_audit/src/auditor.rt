@@ -6,7 +6,7 @@ ghost use Rattle.office_words.specs.declared.entry.Reply.TheVariants as reply;
 ghost use Rattle.journal_audit.specs.declared.versions.Versions.{Versions};
 ghost use Rattle.journal_audit.specs.Seats.{IsSeat};
 ghost use Rattle.std.specs.Arc.{arc_value};
-ghost use Rattle.trip_analysis.specs.Applications.{Sound};
+ghost use Rattle.trip_applications.specs.Applications.{Sound};
 ghost use Rattle.office_core.specs.Machine.{HasRoom, IsFound, opened, version_of};
 ghost use Rattle.journal_audit.specs.Auditors.{HasMark, HasOpened, HasPassed, IsAuditor, IsNamedBy, IsStepOf, MayBeAsked, IsFoundThen, OnlyLooked};
 ghost use Rattle.office_core.specs.Registers.{stored_now};
@@ -16,6 +16,7 @@ use crate::sameness::{are_same_findings, are_same_replies};
 use crate::seat::Seat;
 use crate::versions::Versions;
 use clearance_rules::Steps;
+use fleet::Base;
 use names::NoMemory;
 use office_core::Replay;
 use office_words::{Call, Entry, Reply};
@@ -23,7 +24,8 @@ use permit_days::Day;
 use std::alloc::Global;
 use std::sync::Arc;
 use std::sync::ledger::Ledger;
-use trip_analysis::{Application, Base, Proposal, What};
+use trip_analysis::{Proposal, What};
+use trip_applications::Application;
 
 /// How many callers have a seat of their own: as many as a day file has actors. Further ones share these, which changes no verdict.
 const SEATS: usize = 16;

@@ -1,7 +1,7 @@
 -- The calls of the entries that commands make are those of the commands.
 use Rattle.std.proofs.Common.{◌≡◌, ◌∷◌, ◌++◌, [], List, ℕ, zero, suc, All}
 use Rattle.std.proofs.lemmas.List.Elements.{All-append, All-cons, All-head, All-nil, All-same, All-tail}
-use Rattle.trip_analysis.specs.declared.application.Application.{Application}
+use Rattle.trip_applications.specs.declared.application.Application.{Application}
 use Rattle.office_words.specs.declared.entry.Call.{Call}
 use Rattle.office_words.specs.declared.entry.Call.TheVariants as call
 use Rattle.office_words.specs.declared.entry.Command.{Command}

@@ -18,16 +18,17 @@ use Rattle.route_search.specs.declared.shortest.Shortest.{Shortest}
 use Rattle.route_search.specs.declared.shortest.Shortest.TheVariants as shortest
 use Rattle.route_search.specs.Founds.{IsShortest}
 use Rattle.route_search.proofs.Cuts.{shortest_in_range}
-use Rattle.trip_analysis.specs.declared.application.Application.{Application}
-use Rattle.trip_analysis.specs.declared.base.Truck.{Truck}
-use Rattle.trip_analysis.specs.declared.finding.Failing.{Failing}
+use Rattle.trip_applications.specs.declared.application.Application.{Application}
+use Rattle.fleet.specs.declared.base.Truck.{Truck}
+use Rattle.fleet.specs.declared.failing.Failing.{Failing}
 use Rattle.trip_analysis.specs.declared.finding.What.{What}
 use Rattle.trip_analysis.specs.declared.finding.What.TheVariants as what
-use Rattle.trip_analysis.specs.Applications.{IsAskedWalk, Sound}
-use Rattle.trip_analysis.specs.Bases.{BaseLists, IsBase, no_truck, truck_of}
-use Rattle.trip_analysis.specs.Findings.{InRange, IsFinding, IsFoundBy, asked_finding, first_meeting, first_on, first_or, flags_of, is_passable, leaves, leaving, limit_for, needs_none, what_of}
+use Rattle.trip_applications.specs.Applications.{IsAskedWalk, Sound}
+use Rattle.fleet.specs.Bases.{BaseLists, IsBase, no_truck, truck_of}
+use Rattle.fleet.specs.Passing.{first_on, first_or, flags_of, is_passable, limit_for, needs_none}
+use Rattle.trip_analysis.specs.Findings.{InRange, IsFinding, IsFoundBy, asked_finding, first_meeting, leaves, leaving, what_of}
 use Rattle.trip_analysis.proofs.Found.{found_in_range, pick}
-use Rattle.trip_analysis.proofs.Joined.{all_routes, walks_there}
+use Rattle.trip_applications.proofs.Joined.{all_routes, walks_there}
 use Rattle.trip_routes.specs.Routes.{AreRoutes}
 use Rattle.permit_book.specs.declared.permit.Mark.{Mark}
 use Rattle.permit_book.specs.declared.permit.Mark.TheVariants as mark

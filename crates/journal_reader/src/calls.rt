@@ -15,7 +15,8 @@ use crate::words::{after, day, named_number, named_place, number, place, places,
 use office_words::Call;
 use permit_days::Day;
 use std::alloc::{AllocError, Global};
-use trip_analysis::{Application, Proposal, What};
+use trip_analysis::{Proposal, What};
+use trip_applications::Application;
 use trip_routes::SharedRoutes;
 
 /// A call.

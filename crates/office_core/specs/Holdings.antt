@@ -5,8 +5,8 @@ use Rattle.permit_book.specs.declared.permit.Mark.{Mark}
 use Rattle.permit_book.specs.declared.permit.Mark.TheVariants as mark
 use Rattle.permit_book.specs.declared.permit.Permit.{Permit}
 use Rattle.permit_book.specs.Permits.{in_force, permit_of}
-use Rattle.trip_analysis.specs.Bases.{AreTrains, BaseLists}
-use Rattle.trip_analysis.specs.declared.application.Application.{Application}
+use Rattle.fleet.specs.Bases.{AreTrains, BaseLists}
+use Rattle.trip_applications.specs.declared.application.Application.{Application}
 use Rattle.office_words.specs.declared.entry.Call.{Call}
 use Rattle.office_words.specs.declared.entry.Reply.TheVariants as reply
 use Rattle.office_core.specs.Offices.{entry}

@@ -8,9 +8,9 @@ use Rattle.clearance_rules.specs.declared.limit.Limit.{Limit}
 use Rattle.clearance_rules.specs.Failing.{segment_of}
 use Rattle.clearance_rules.specs.Order.{FailsFirst}
 use Rattle.permit_days.specs.Days.{is_before}
-use Rattle.trip_analysis.specs.Applications.{Sound}
-use Rattle.trip_analysis.specs.Bases.{BaseLists, truck_of}
-use Rattle.trip_analysis.specs.declared.application.Application.{Application}
+use Rattle.trip_applications.specs.Applications.{Sound}
+use Rattle.fleet.specs.Bases.{BaseLists, truck_of}
+use Rattle.trip_applications.specs.declared.application.Application.{Application}
 use Rattle.trip_analysis.specs.declared.finding.Proposal.{Proposal}
 use Rattle.trip_analysis.specs.declared.finding.What.{What}
 use Rattle.trip_analysis.specs.declared.finding.What.TheVariants as what

@@ -3,8 +3,9 @@
 ghost use Rattle.std.specs.Prelude.{◌≡◌, ◌+◌, ◌<◌, ◌≤◌, ◌&&◌, length, All, IfOk, OnErr, None, if◌then◌else◌};
 ghost use Rattle.std.specs.List.{concat};
 ghost use Rattle.trip_analysis.specs.declared.finding.What.TheVariants as what;
-ghost use Rattle.trip_analysis.specs.Applications.{Sound};
-ghost use Rattle.trip_analysis.specs.Findings.{InRange, first_on as first_in, is_passable, leaves, limit_for};
+ghost use Rattle.trip_applications.specs.Applications.{Sound};
+ghost use Rattle.fleet.specs.Passing.{first_on as first_in, is_passable, limit_for};
+ghost use Rattle.trip_analysis.specs.Findings.{InRange, leaves};
 ghost use Rattle.office_words.specs.declared.entry.Call.TheVariants.{Held, Submit};
 ghost use Rattle.office_words.specs.declared.entry.Reply.TheVariants as reply;
 ghost use Rattle.office_core.specs.Replies.{early_reply};
@@ -15,13 +16,15 @@ ghost use Rattle.office_core.specs.Registers.{Gives, HeldAt, IsReplyTo, IsRetest
 use crate::answer::Answer;
 use crate::register::Register;
 use clearance_rules::{Limit, Steps};
+use fleet::{Base, Failing, is_passable};
 use names::NoMemory;
 use office_words::{Cause, Reply};
 use permit_book::Trip;
 use permit_days::Day;
 use road_graph::Numbers;
 use std::sync::ledger::Ledger;
-use trip_analysis::{Application, Base, Failing, NodeSet, Proposal, What, is_passable};
+use trip_analysis::{NodeSet, Proposal, What};
+use trip_applications::Application;
 use trip_routes::SharedRoutes;
 
 impl Register {

@@ -4,7 +4,8 @@ use office_words::{Call, Reply};
 use permit_days::Day;
 use restriction_log::Change;
 use snapshot_store::Snapshot;
-use trip_analysis::{Application, Proposal};
+use trip_analysis::Proposal;
+use trip_applications::Application;
 
 /// What a look at the office gives.
 #[derive(Drop)]

@@ -8,6 +8,7 @@ ghost use Rattle.office_core.specs.Registers.{Leaves, stored_now};
 
 use crate::register::Register;
 use clearance_rules::Steps;
+use fleet::{Base, first_on};
 use names::NoMemory;
 use office_words::{Call, Reply};
 use permit_days::Day;
@@ -17,7 +18,8 @@ use std::alloc::Global;
 use std::marker::Model;
 use std::sync::Arc;
 use std::sync::ledger::Ledger;
-use trip_analysis::{Application, Base, Proposal, What, first_on};
+use trip_analysis::{Proposal, What};
+use trip_applications::Application;
 
 /// What an office keeps, without its history: whoever reads a history asks its calls again, and compares.
 ///

@@ -11,6 +11,7 @@ ghost use Rattle.office_desk.specs.Desks.{MayAskWith, calls_of, terms_of};
 
 use crate::desked::Desked;
 use clearance_rules::Steps;
+use fleet::Base;
 use names::NoMemory;
 use office_core::{CountedOffice, Looked, Office};
 use office_turn::{Turn, Worn};
@@ -20,7 +21,6 @@ use std::alloc::Global;
 use std::marker::Model;
 use std::sync::ledger::{Blank, Ledger};
 use std::sync::{Arc, Wait};
-use trip_analysis::Base;
 
 /// The right to call a desk, as one caller. It must be spent, in [`Desk::leave`].
 pub type Pass<L> = office_turn::Pass<Desked<L>>;

@@ -9,6 +9,7 @@ ghost use Rattle.analyst_pool.specs.Ran.{IsReady};
 use crate::fixtures::{ALONE, AROUND, application, base, day, full_at, journal_ends, office};
 use analyst_pool::{Outcome, Worker, run_actors};
 use command_calls::{Errand, Finder, Gate, OpenGate, carry_out, decide, most_entries};
+use fleet::Base;
 use office_core::{CountedOffice, Looked, Office, OfficeCalls, OneSeat};
 use office_words::{Call, Command, Reply};
 use restriction_log::Change;
@@ -19,7 +20,6 @@ use std::process::Abort;
 use std::sync::Arc;
 use std::sync::ledger::{Blank, Ledger};
 use std::thread::Threads;
-use trip_analysis::Base;
 
 // Writes down what it is told as the digits of a number: 1 first, then 0 ahead of the command, the number
 // of each attempt, and 9 behind the reply. It forgets all where it is told of another actor or command.

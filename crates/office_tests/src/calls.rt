@@ -1,6 +1,6 @@
 ghost use Rattle.std.specs.Prelude.{◌≡◌, ◌<◌, ◌++◌, [], List, IfOk, IfSome};
 ghost use Rattle.snapshot_store.specs.Stores.{version_of as postings_of};
-ghost use Rattle.trip_analysis.specs.Applications.{Sound};
+ghost use Rattle.trip_applications.specs.Applications.{Sound};
 ghost use Rattle.trip_analysis.specs.Findings.{IsFoundAt};
 ghost use Rattle.office_words.specs.declared.entry.Call.{Call};
 ghost use Rattle.office_words.specs.declared.entry.Entry.{Entry};
@@ -10,6 +10,7 @@ ghost use Rattle.office_core.specs.Calls.{machine_seen};
 
 use crate::fixtures::{ALONE, AROUND, application, base, day, full_at, office_about, recall};
 use clearance_rules::Steps;
+use fleet::Base;
 use journal_text::print;
 use names::NoMemory;
 use notice_desk::Recall;
@@ -22,7 +23,8 @@ use std::alloc::Global;
 use std::marker::Brand;
 use std::process::Abort;
 use std::sync::ledger::{Blank, Ledger};
-use trip_analysis::{Application, Base, Proposal, analyse};
+use trip_analysis::{Proposal, analyse};
+use trip_applications::Application;
 
 // Each day is the lines of a journal: the calls that they have are made, and the journal is then these lines. What a submit
 // has is found behind the look before it. Each day is gone through twice, once by calls of the office and once by seats.

@@ -5,7 +5,8 @@ use permit_book::Status;
 use permit_days::Day;
 use restriction_log::Change;
 use road_graph::Numbers;
-use trip_analysis::{Application, Proposal};
+use trip_analysis::Proposal;
+use trip_applications::Application;
 use trip_routes::SharedRoutes;
 
 /// What is asked of the office.

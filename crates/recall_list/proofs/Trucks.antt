@@ -8,8 +8,8 @@ use Rattle.std.proofs.lemmas.List.{length-append, take-append-drop}
 use Rattle.std.proofs.lemmas.List.Elements.{All-nil}
 use Rattle.std.proofs.lemmas.List.Sums.{fold-append}
 use Rattle.std.proofs.lemmas.Option.{slice_get-get_or}
-use Rattle.trip_analysis.specs.Bases.{BaseLists}
-use Rattle.trip_analysis.specs.declared.application.Application.{Application}
+use Rattle.fleet.specs.Bases.{BaseLists}
+use Rattle.trip_applications.specs.declared.application.Application.{Application}
 use Rattle.trip_analysis.proofs.Found.{is_in_from_among}
 use Rattle.office_words.specs.declared.entry.Reply.{Reply}
 use Rattle.office_words.specs.declared.entry.Reply.TheVariants as reply

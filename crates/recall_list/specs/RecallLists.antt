@@ -2,7 +2,7 @@
 use Rattle.std.specs.Prelude.{ℕ, ◌<◌, List, [], length, map, Option, Some, None, All}
 use Rattle.std.specs.List.{flat_map}
 use Rattle.notice_desk.specs.declared.notice.Recall.{Recall}
-use Rattle.trip_analysis.specs.Bases.{BaseLists, truck_of}
+use Rattle.fleet.specs.Bases.{BaseLists, truck_of}
 use Rattle.office_words.specs.declared.entry.Call.{Call}
 use Rattle.office_words.specs.declared.entry.Reply.{Reply}
 use Rattle.office_words.specs.declared.entry.Reply.TheVariants as reply

@@ -9,12 +9,13 @@ ghost use Rattle.office_core.specs.Happened.{application_in};
 ghost use Rattle.office_core.specs.Recalled.{RecalledWereIssued};
 ghost use Rattle.recall_list.specs.RecallLists.{HasTrucks, HasTruck, recall_of, recalls_by, recalls_in, truck_by, truck_in};
 
+use fleet::Base;
 use names::NoMemory;
 use notice_desk::Recall;
 use office_words::{Call, Entry, Reply};
 use std::alloc::Global;
 use std::collections::BTreeMap;
-use trip_analysis::{Application, Base};
+use trip_applications::Application;
 
 /// Every number that a posting of the history recalled, in order, with the version of that posting and the carrier of the
 /// permit's truck.

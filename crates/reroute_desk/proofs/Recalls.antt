@@ -3,8 +3,8 @@ use Rattle.std.proofs.Common.{◌≡◌, ◌∙◌, ◌⊎◌, inl, inr, ap, sym
 use Rattle.std.specs.List.{concat}
 use Rattle.std.proofs.lemmas.List.{append_cancel_left}
 use Rattle.permit_days.specs.Days.{is_before}
-use Rattle.trip_analysis.specs.Bases.{BaseLists}
-use Rattle.trip_analysis.specs.declared.application.Application.{Application}
+use Rattle.fleet.specs.Bases.{BaseLists}
+use Rattle.trip_applications.specs.declared.application.Application.{Application}
 use Rattle.trip_analysis.specs.Findings.{is_in}
 use Rattle.office_words.specs.declared.entry.Call.{Call}
 use Rattle.office_words.specs.declared.entry.Entry.{Entry}

@@ -12,7 +12,7 @@ use office_words::{Call, Entry, Reply};
 use std::alloc::Global;
 use std::collections::BTreeMap;
 use std::marker::Model;
-use trip_analysis::Application;
+use trip_applications::Application;
 
 /// What a desk has noted of a history: how many entries it has read, the trips of the permits that these issued, and the numbers
 /// that they recalled, in order.

@@ -15,7 +15,7 @@ use permit_days::Day;
 use std::alloc::Global;
 use std::marker::Model;
 use std::sync::ledger::Ledger;
-use trip_analysis::Application;
+use trip_applications::Application;
 
 /// A desk that applies again for each permit that was recalled, once.
 ///

@@ -4,9 +4,9 @@ use Rattle.std.proofs.lemmas.Bool.Decides.{nat_tests}
 use Rattle.std.proofs.lemmas.List.{append-nil, map-append}
 use Rattle.std.proofs.lemmas.List.Elements.{All-head, All-tail, filter-append}
 use Rattle.road_graph.specs.Roads.{IsRoads}
-use Rattle.trip_analysis.specs.Bases.{AreTrains, BaseLists}
+use Rattle.fleet.specs.Bases.{AreTrains, BaseLists}
 use Rattle.trip_analysis.specs.Findings.{is_in}
-use Rattle.trip_analysis.specs.declared.application.Application.{Application}
+use Rattle.trip_applications.specs.declared.application.Application.{Application}
 use Rattle.day_text.specs.declared.orders.Order.{Order}
 use Rattle.office_words.specs.declared.entry.Call.TheVariants as call
 use Rattle.office_words.specs.declared.entry.Entry.{Entry}

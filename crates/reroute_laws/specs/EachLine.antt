@@ -1,7 +1,7 @@
 -- Each recall has its line in the text of `reroute`.
 use Rattle.std.specs.Prelude.{◌<◌, List, [], ◌∷◌, length, All}
 use Rattle.road_graph.specs.Roads.{IsRoads}
-use Rattle.trip_analysis.specs.Bases.{AreTrains}
+use Rattle.fleet.specs.Bases.{AreTrains}
 use Rattle.day_text.specs.Days.{DayParts}
 use Rattle.office_words.specs.declared.entry.Entry.{Entry}
 use Rattle.office_words.specs.declared.entry.Reply.{Reply}

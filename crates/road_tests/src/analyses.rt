@@ -1,12 +1,13 @@
 ghost use Rattle.std.specs.Prelude.{◌≡◌, ◌<◌, ◌↔◌, length, All, IfOk, IsTrue};
 ghost use Rattle.restriction_log.specs.States.{AreOf};
-ghost use Rattle.trip_analysis.specs.Applications.{AreAskedThere, Sound};
+ghost use Rattle.trip_applications.specs.Applications.{AreAskedThere, Sound};
 ghost use Rattle.snapshot_store.specs.Stores.{IsLater};
 ghost use Rattle.trip_analysis.specs.Followers.{GoesOn, followed};
 
 use crate::fixtures::{day, named, network, number, part};
 use axle_train::{Axle, Train};
 use clearance_rules::{Limit, Load, Steps};
+use fleet::{Base, Failing, Truck, failing_limit, first_on, is_passable};
 use restriction_log::{Change, State, takes};
 use road_graph::{Network, Numbers};
 use snapshot_store::Store;
@@ -16,10 +17,10 @@ use std::marker::Brand;
 use std::process::Abort;
 use std::sync::ledger::{Blank, Ledger};
 use trip_analysis::{
-    Application, ApplicationRefusal, Base, Failing, Follower, NodeSet, Proposal, Truck, What,
-    asked_findings_are_of_the_routes, failing_limit, find, findings_hold, first_meeting_out,
-    first_on, free_findings_are_of_walks, is_passable, routes_break_off_where_walks_do,
+    Follower, NodeSet, Proposal, What, asked_findings_are_of_the_routes, find, findings_hold,
+    first_meeting_out, free_findings_are_of_walks,
 };
+use trip_applications::{Application, ApplicationRefusal, routes_break_off_where_walks_do};
 use trip_routes::{Routes, SharedRoutes};
 
 // What was built is let go by a call of `drop`: where a scope lets it go, the proof of the whole function goes through

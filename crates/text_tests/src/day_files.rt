@@ -1,11 +1,11 @@
 use crate::fixtures::{holds, same};
 use day_start::prepare;
 use day_text::{Cause, DayFile, FileRefusal, Kind, Order, RecordCause, read_check, read_day};
+use fleet::Base;
 use office_words::Command;
 use std::alloc::Global;
 use std::process::Abort;
 use std::test::Fail;
-use trip_analysis::Base;
 use trip_routes::SharedRoutes;
 
 // A load as high as the one road is posted.

@@ -1,7 +1,7 @@
 use Rattle.std.proofs.Common.{rules, arith, ap, ◌∙◌, ◌≡◌, ℕ, ◌<◌, length, subst, List, All, Some, Option, true}
 use Rattle.std.specs.Arc.{arc_value}
 use Rattle.std.specs.Prelude.{unwrap_or}
-use Rattle.trip_analysis.specs.Bases.{BaseLists}
+use Rattle.fleet.specs.Bases.{BaseLists}
 use Rattle.office_core.specs.Costs.{Counts}
 use Rattle.office_desk.specs.Desks.{Terms, no_terms, terms_of}
 use Rattle.day_run.proofs.Histories.{all_served, never_full}

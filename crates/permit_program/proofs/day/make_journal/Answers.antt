@@ -1,5 +1,5 @@
 use Rattle.std.proofs.Common.{◌∙◌, ap}
-use Rattle.trip_analysis.specs.Bases.{BaseLists}
+use Rattle.fleet.specs.Bases.{BaseLists}
 use Rattle.recall_list.specs.RecallLists.{recalls_in}
 use Rattle.permit_program.proofs.Only.{headline_made, journal_made}
 use Rattle.permit_program.proofs.day.make_journal.Goals as goal

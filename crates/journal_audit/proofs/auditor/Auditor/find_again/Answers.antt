@@ -1,5 +1,5 @@
 use Rattle.std.proofs.Common.{rules, ◌≡◌, ap}
-use Rattle.trip_analysis.specs.Bases.{BaseLists}
+use Rattle.fleet.specs.Bases.{BaseLists}
 use Rattle.office_core.specs.Registers.{stored_now}
 use Rattle.journal_audit.proofs.Keeping.{in_order}
 use Rattle.journal_audit.proofs.auditor.Auditor.find_again.Goals as goal

@@ -1,5 +1,5 @@
 use Rattle.std.proofs.Common.{rules, ◌≤◌, arith}
-use Rattle.trip_analysis.specs.Applications.{Sound}
+use Rattle.trip_applications.specs.Applications.{Sound}
 use Rattle.office_core.specs.Machine.{version_of}
 use Rattle.journal_audit.proofs.Finding.{found_again, found_same}
 use Rattle.journal_audit.proofs.auditor.Auditor.is_found.Goals as goal

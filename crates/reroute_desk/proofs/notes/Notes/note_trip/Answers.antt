@@ -1,7 +1,7 @@
 use Rattle.std.proofs.Common.{◌≡◌, ◌∙◌, ap, cond, Some}
 use Rattle.std.specs.BTreeMap.{get}
 use Rattle.std.specs.Ordering.{is_eq, nat_cmp}
-use Rattle.trip_analysis.specs.declared.application.Application.{Application}
+use Rattle.trip_applications.specs.declared.application.Application.{Application}
 use Rattle.office_core.specs.Happened.{application_in}
 use Rattle.reroute_desk.specs.Notes.{Noted, trip_of}
 use Rattle.reroute_desk.specs.Replacements.{unasked}
