@@ -1,5 +1,5 @@
 -- An office that carries out one command after another.
-use Rattle.std.proofs.Common.{◌≡◌, ◌≢◌, ◌+◌, ◌<◌, ◌≤◌, ◌++◌, ◌∷◌, [], ℕ, List, Some, None, Bool, true, false, length, Result, Ok, Err, OnOk, refl, ap, sym, ◌∙◌, subst, arith, append_assoc}
+use Rattle.std.proofs.Common.{◌≡◌, ◌≢◌, ◌+◌, ◌<◌, ◌≤◌, ◌++◌, ◌∷◌, [], ℕ, List, Some, None, Bool, true, false, length, Result, Ok, Err, OnOk, refl, ap, sym, ◌∙◌, subst, append_assoc}
 use Rattle.std.specs.Prelude.{nat_le, if◌then◌else◌}
 use Rattle.std.specs.Borrow.{GName}
 use Rattle.std.specs.List.{All}
@@ -26,6 +26,7 @@ use Rattle.office_words.specs.Commands.{MayCarryOut}
 use Rattle.command_calls.specs.Unfolds.{IsFinished, Unfolds}
 use Rattle.day_trial.specs.Serial.{CarriesOut, IsSerial}
 use Rattle.day_trial.specs.Serving.{HasCarriedOut, HasServed, WasCarriedOut, grown_by}
+use Rattle.day_trial.proofs.Lengths.{few_callers, few_more, has_place}
 
 -- where an office is full with a number its history holds the most entries
 full_means : (o : Opened) (n : ℕ) → full_in o ≡ Some n → IsFull o
@@ -82,7 +83,8 @@ not_full short o next order r h room = by (is_full r) refl
         let (most, full) = full_reply r is in
         let few = short order.actor order.command h.entries most (subst (λ (q : Reply). Unfolds order.actor order.command h.entries q) full h.unfolds) in
         let all : next.most ≤ length next.history = h.full most full in
-        absurd (omega (arith, all, few, room, ap (λ (n : Opened). length n.history) h.grown, ap (λ (n : Opened). n.most) h.grown, length-append o.history h.entries))
+        absurd (has_place o.most next.most (length next.history) (length (o.history ++ h.entries)) (length o.history) (length h.entries) all few room
+        (ap (λ (n : Opened). length n.history) h.grown) (ap (λ (n : Opened). n.most) h.grown) (length-append o.history h.entries))
 
 -- what is so where a command is finished
 pub where_done : {A B : Type 0} (r : Result (Unit {0}) NoMemory) → (A → B) → OnOk r A → OnOk r B
@@ -112,7 +114,8 @@ served_more o now next orders order h more = record {
   opening = ap (λ (p : Opened). p.opening) more.grown ∙ h.opening;
   most = ap (λ (p : Opened). p.most) more.grown ∙ h.most;
   commands = subst (λ (p : Opened). CarriesOut (orders ++ order ∷ []) p.history) (sym more.grown) (carries_more orders now.history more.entries order h.commands more.finished);
-  few = omega (arith, h.few, more.short, ap (λ (p : Opened). length p.history) more.grown, length-append now.history more.entries, length-append orders (order ∷ []));
+  few = few_more (length now.history) (length more.entries) (length next.history) (length (now.history ++ more.entries)) (length orders) (length (orders ++ order ∷ [])) h.few more.short
+      (ap (λ (p : Opened). length p.history) more.grown) (length-append now.history more.entries) (length-append orders (order ∷ []));
 }
 
 -- finished commands found memory
@@ -135,7 +138,7 @@ module _ (file : DayParts) (orders : List Order) (are : orders ≡ file.commands
   -- the callers of a file are few
   pub callers_for : length file.actors ≤ 16 → All (λ o. o.actor < length file.actors) file.commands → All (λ o. o.actor < 65536) orders
   callers_for few h =
-      All-weaker (λ (o : Order). o.actor < length file.actors) (λ (o : Order). o.actor < 65536) (λ o low. omega (arith, few)) orders (subst (λ (l : List Order). All (λ o. o.actor < length file.actors) l) (sym are) h)
+      All-weaker (λ (o : Order). o.actor < length file.actors) (λ (o : Order). o.actor < 65536) (λ o low. few_callers o.actor (length file.actors) few low) orders (subst (λ (l : List Order). All (λ o. o.actor < length file.actors) l) (sym are) h)
 
   module _ (o : Opened) (most : ℕ) (is : o ≡ newly_opened file.base file.day most) where
     -- its commands are sound for the roads and trucks that the office opened with

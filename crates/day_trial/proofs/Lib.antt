@@ -1,3 +1,4 @@
+pub mod Lengths
 pub mod Carrying
 pub mod One
 pub mod Following
