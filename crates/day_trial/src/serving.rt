@@ -46,11 +46,14 @@ fn serve_orders<F: Ledger, O: Ledger>(
     ensures served { IfOk result (λ office. IsSerial file office.history) }
     ensures roads { OnOk result (IsRoads file.base.roads) }
 {
-    let (base, day, _actors, orders) = file.into_parts();
+    let (base, day, actors, orders) = file.into_parts();
+    drop(actors);
     let most = most_entries(orders.as_slice());
     let mut lone = LoneOffice::<F, O>::start(alloc, base, day, most, blanks)?;
-    carry_out_all(alloc, &mut lone, orders.as_slice())?;
+    let carried = carry_out_all(alloc, &mut lone, orders.as_slice());
+    drop(orders);
     let office = lone.into_office();
+    carried?;
     office.base().lists_are_in_order();
     // an office tells that its history is legal and keeps its promises; and finished commands found memory
     let _history = office.history();
