@@ -1,5 +1,5 @@
 -- A day file that was served, or was refused for its length.
-use Rattle.std.proofs.Common.{◌≡◌, ◌∙◌, ◌<◌, ap, sym, refl, subst, ℕ, List, length, Result, Ok, Err, IfErr}
+use Rattle.std.proofs.Common.{◌≡◌, ◌∙◌, ◌<◌, ap, sym, refl, subst, ℕ, List, length, Result, Ok, Err, IfErr, IfOk, OnOk}
 use Rattle.std.specs.List.{All}
 use Rattle.std.specs.Result.{IsErrAnd}
 use Rattle.road_graph.specs.Roads.{IsRoads}
@@ -18,6 +18,11 @@ use Rattle.day_reroute.specs.Serving.{AreLong, HasRerouted, IsServingCause}
 pub callers_below : (orders told : List Order) (n caller : ℕ) → orders ≡ told → caller ≡ n → All (λ o. o.actor < n) told → All (λ o. o.actor < caller) orders
 callers_below orders told n caller are is h =
     subst (λ (k : ℕ). All (λ o. o.actor < k) orders) (sym is) (subst (λ (l : List Order). All (λ o. o.actor < n) l) (sym are) h)
+
+-- the cause of a refusal
+pub where_refused : {A : Type 0} (file : DayParts) (q : ServingRefusal) → (A → IsTooLong file) → (q ≡ TooMany → A) → IsServingCause file q
+where_refused file TooMany on h = on (h refl)
+where_refused file NoMemory on h = tt
 
 module _ (file : DayParts) (o : Opened) (caller : ℕ) (orders : List Order) (is : o ≡ newly_opened file.base file.day 1000000) (actors : caller ≡ length file.actors) (are : orders ≡ file.commands) where
   -- an office of the file that was asked all its commands has served it
@@ -43,18 +48,24 @@ module _ (file : DayParts) (o : Opened) (caller : ℕ) (orders : List Order) (is
       (subst (λ (x : Opened). AreLong x.base x.opening x.most caller orders) is long)) in
       all history h.legal h.commands h.memory
 
+  -- so it is where it was served at all
+  pub when_served : (r : Result Opened ServingRefusal) → IfOk r (λ now. HasRerouted o now caller orders) → IfOk r (λ now. IsLegal now.base now.opening now.history)
+      → IfOk r (λ now. KeepsPromises now.base now.opening now.history) → IfOk r (λ now. IsRerouted file now.history)
+  when_served (Ok now) has legal promises = served now has legal promises
+  when_served (Err q) has legal promises = tt
+
+  -- and where it was refused
+  pub when_refused : (r : Result Opened ServingRefusal) → IfErr r (λ q. q ≡ TooMany → AreLong o.base o.opening o.most caller orders) → IfErr r (IsServingCause file)
+  when_refused (Ok now) h = tt
+  when_refused (Err q) h = where_refused file q too_long h
+
 -- the roads that an office tells of
 pub roads_in : (o seen : Opened) (base : BaseLists) → seen ≡ o → base ≡ seen.base → IsRoads base.roads → IsRoads o.base.roads
 roads_in o seen base same told roads = subst (λ (b : BaseLists). IsRoads b.roads) (told ∙ ap (λ (n : Opened). n.base) same) roads
 
 -- and those of the file that it opened on
-pub roads_for : (file : DayParts) (o : Opened) → o ≡ newly_opened file.base file.day 1000000 → (seen : Opened) (base : BaseLists) → seen ≡ o → base ≡ seen.base → IsRoads base.roads → IsRoads file.base.roads
-roads_for file o is seen base same told roads = subst (λ (n : Opened). IsRoads n.base.roads) is (roads_in o seen base same told roads)
-
--- the cause of a refusal
-pub where_refused : {A : Type 0} (file : DayParts) (q : ServingRefusal) → (A → IsTooLong file) → (q ≡ TooMany → A) → IsServingCause file q
-where_refused file TooMany on h = on (h refl)
-where_refused file NoMemory on h = tt
+pub roads_for : (file : DayParts) (o : Opened) → o ≡ newly_opened file.base file.day 1000000 → IsRoads o.base.roads → IsRoads file.base.roads
+roads_for file o is roads = subst (λ (n : Opened). IsRoads n.base.roads) is roads
 
 -- what is so is so where a file is too long
 pub always : {T A : Type 0} (r : Result T ServingRefusal) → A → IfErr r (λ q. q ≡ TooMany → A)
@@ -65,3 +76,8 @@ always (Err q) h = λ _. h
 pub passed_on : {T : Type 0} (P : ServingRefusal → Type 0) (r : Result T ServingRefusal) (q : ServingRefusal) → IsErrAnd r (λ x. x ≡ q) → P q → IfErr r P
 passed_on P (Ok value) q given h = tt
 passed_on P (Err x) q given h = subst P (sym given) h
+
+-- what is so is so where a file was served
+pub however : {T A : Type 0} (r : Result T ServingRefusal) → A → OnOk r A
+however (Ok value) h = h
+however (Err q) h = tt

@@ -4,9 +4,11 @@ ghost use Rattle.std.specs.Prelude.{◌≡◌, ◌≢◌, ◌<◌, ◌≤◌, []
 ghost use Rattle.road_graph.specs.Roads.{IsRoads};
 ghost use Rattle.office_words.specs.Commands.{MayCarryOut};
 ghost use Rattle.office_words.specs.declared.entry.Reply.TheVariants as answer;
+ghost use Rattle.office_core.specs.Machine.{IsLegal};
+ghost use Rattle.office_core.specs.Promises.{KeepsPromises};
 ghost use Rattle.office_core.specs.Replies.{is_full};
 ghost use Rattle.day_text.specs.Laws.{IsDayFile};
-ghost use Rattle.reroute_desk.specs.Desks.{HasGoneOn, HasHandledAll, IsRerouteCause, KeepsUp, new_desk};
+ghost use Rattle.reroute_desk.specs.Desks.{HasGoneOn, HasHandledAll, IsRerouteCause, KeepsUp};
 ghost use Rattle.day_trial.specs.Blanks.{AreBlanks};
 ghost use Rattle.day_reroute.specs.declared.refusal.ServingRefusal.TheVariants.{TooMany};
 ghost use Rattle.day_reroute.specs.Rerouted.{IsRerouted};
@@ -62,39 +64,67 @@ fn serve_orders<F: Ledger, O: Ledger>(
     ensures long_roads { IfErr result (λ refusal. refusal ≡ TooMany → IsRoads file.base.roads) }
 {
     let (base, day, actors, orders) = file.into_parts();
-    let desk = Rerouter::new(alloc, actors.as_slice().len() as u32);
-    let mut lone = LoneOffice::<F, O>::start(alloc, base, day, MOST_ENTRIES, blanks)?;
+    // the number that no actor has
+    let caller = actors.as_slice().len() as u32;
+    drop(actors);
+    let lone = LoneOffice::<F, O>::start(alloc, base, day, MOST_ENTRIES, blanks)?;
+    let served = serve_lone(alloc, lone, caller, orders.as_slice());
+    drop(orders);
+    served
+}
+
+// Has an office that has just opened carry out each command, with this caller for what is recalled.
+fn serve_lone<F: Ledger, O: Ledger>(
+    alloc: Global,
+    lone: LoneOffice<F, O>,
+    caller: u32,
+    orders: &[Order],
+) -> Result<Office, ServingRefusal>
+    requires sound { All (λ o. MayCarryOut lone.base o.command) orders.now }
+    requires callers { All (λ o. o.actor < caller) orders.now }
+    requires caller { caller ≤ 16 }
+    requires few { length orders.now ≤ 4096 }
+    requires new { lone.history ≡ [] }
+    ensures served { IfOk result (λ office. HasRerouted lone office caller orders.now) }
+    ensures legal { IfOk result (λ office. IsLegal office.base office.opening office.history) }
+    ensures promises { IfOk result (λ office. KeepsPromises office.base office.opening office.history) }
+    ensures short { IfOk result (λ office. length office.history ≤ 1000000) }
+    ensures refused { IfErr result (λ refusal. refusal ≡ TooMany
+        → AreLong lone.base lone.opening lone.most caller orders.now) }
+    ensures roads { IsRoads lone.base.roads }
+{
     lone.office().base().lists_are_in_order();
-    carry_out_all(alloc, &mut lone, desk, orders.as_slice())?;
+    let mut lone = lone;
+    let carried = carry_out_all(alloc, &mut lone, caller, orders);
     let office = lone.into_office();
+    carried?;
     // an office tells that its history is legal and keeps its promises
     let _history = office.history();
     Ok(office)
 }
 
-// Carries out each command in turn, and has the desk, which is new, catch up after each.
+// Carries out each command in turn, and has a desk of this caller catch up after each.
 fn carry_out_all<F: Ledger, O: Ledger>(
     alloc: Global,
     lone: &mut LoneOffice<F, O>,
-    desk: Rerouter,
+    caller: u32,
     orders: &[Order],
 ) -> Result<(), ServingRefusal>
     requires roads { IsRoads lone.old.base.roads }
     requires sound { All (λ o. MayCarryOut lone.old.base o.command) orders.now }
-    requires callers { All (λ o. o.actor < desk.caller) orders.now }
-    requires caller { desk.caller ≤ 16 }
+    requires callers { All (λ o. o.actor < caller) orders.now }
+    requires caller { caller ≤ 16 }
     requires few { length orders.now ≤ 4096 }
     requires new { lone.old.history ≡ [] }
-    requires new_desk { desk ≡ new_desk desk.caller }
-    ensures served { OnOk result (HasRerouted lone.old lone.new desk.caller orders.now) }
+    ensures served { OnOk result (HasRerouted lone.old lone.new caller orders.now) }
     ensures refused { IfErr result (λ refusal. refusal ≡ TooMany
-        → AreLong lone.old.base lone.old.opening lone.old.most desk.caller orders.now) }
+        → AreLong lone.old.base lone.old.opening lone.old.most caller orders.now) }
 {
     // a new desk keeps up with an office that has no entry, and the entries of commands are determined
     new_desks_keep_up();
     runs_are_one();
     answers_are_one();
-    let mut desk = desk;
+    let mut desk = Rerouter::new(alloc, caller);
     'orders: for i in 0..orders.len() {
         // an office tells that its history is legal
         let _history = lone.office().history();

@@ -22,9 +22,9 @@ returns-in_err-carry_out_one-clause-refused g c =
     let whole : take i orders ++ order ∷ drop (suc i) orders ≡ orders =
     ap (λ (x : Order). take i orders ++ x ∷ drop (suc i) orders) c.index-orders-i.is
     ∙ (ap (λ (l : List Order). take i orders ++ l) (sym (drop-cons orders i order c.orders-test.true)) ∙ take-append-drop i orders) in
-    subst (λ (r : Result (Unit {0}) ServingRefusal). IfErr r (λ q. q ≡ TooMany → AreLong o.base o.opening o.most c.args.desk.caller orders)) (search rules)
-    (where_too_many c.carry_out_one.result (λ long. subst (λ (l : List Order). AreLong o.base o.opening o.most c.args.desk.caller l) whole
-    (long_at c.runs_are_one.ensures.command c.answers_are_one.ensures o now c.args.desk.caller (take i orders) order (drop (suc i) orders) c.requires.roads inv.served legal
+    subst (λ (r : Result (Unit {0}) ServingRefusal). IfErr r (λ q. q ≡ TooMany → AreLong o.base o.opening o.most c.args.caller orders)) (search rules)
+    (where_too_many c.carry_out_one.result (λ long. subst (λ (l : List Order). AreLong o.base o.opening o.most c.args.caller l) whole
+    (long_at c.runs_are_one.ensures.command c.answers_are_one.ensures o now c.args.caller (take i orders) order (drop (suc i) orders) c.requires.roads inv.served legal
     (subst (λ (k : ℕ). IsLongWith now k order) inv.caller long))) c.carry_out_one.ensures.refused)
 
 pub orders-preserved : goal.orders-preserved
@@ -33,11 +33,11 @@ orders-preserved g c =
     let order = c.index-orders-i.result in
     let inv = c.orders.invariant in
     let next = c.carry_out_one.new.lone in
-    let more = served_more c.args.lone.now c.orders.lone next c.args.desk.caller (take c.orders.i orders) order inv.served
+    let more = served_more c.args.lone.now c.orders.lone next c.args.caller (take c.orders.i orders) order inv.served
     (subst (λ (k : ℕ). HasReroutedOne c.orders.lone k order next) inv.caller c.in_ok-carry_out_one.ensures.carried) in
     let front = take_more orders c.orders.i order c.orders-test.true ∙ ap (λ (o : Order). take c.orders.i orders ++ o ∷ []) (sym c.index-orders-i.is) in
     record {
-      served = subst (λ (l : List Order). HasRerouted c.args.lone.now next c.args.desk.caller l) (sym front) more;
+      served = subst (λ (l : List Order). HasRerouted c.args.lone.now next c.args.caller l) (sym front) more;
       caught_up = c.in_ok-carry_out_one.ensures.caught_up;
       caller = c.in_ok-carry_out_one.ensures.caller ∙ inv.caller;
     }

@@ -4,7 +4,7 @@ use Rattle.day_reroute.proofs.serving.carry_out_all.Given as goal
 
 abbrev pub invariant-orders : goal.invariant-orders
 invariant-orders g l = record {
-  served : HasRerouted l.fn.lone l.lone l.fn.desk.caller (take l.i l.orders);
+  served : HasRerouted l.fn.lone l.lone l.fn.caller (take l.i l.orders);
   caught_up : IsCaughtUp l.desk l.lone;
-  caller : l.desk.caller ≡ l.fn.desk.caller;
+  caller : l.desk.caller ≡ l.fn.caller;
 }
