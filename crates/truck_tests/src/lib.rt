@@ -7,8 +7,8 @@
 #[cfg(test)]
 mod federal_limits;
 #[cfg(test)]
+mod fixtures;
+#[cfg(test)]
 mod formula_table;
 #[cfg(test)]
 mod trains;
-#[cfg(test)]
-mod tridems;
