@@ -5,169 +5,120 @@ use fleet::Base;
 use office_words::Command;
 use std::alloc::Global;
 use std::process::Abort;
-use std::test::Fail;
 use trip_routes::SharedRoutes;
 
 // A load as high as the one road is posted.
-const ISSUED: &str =
-    "day,2026-03-02,,,,,,\nnode,A,,,,,,\nnode,B,,,,,,\nsegment,S1,A,B,5000,,,\nlimit,S1,height,168,,,,\ntruck,T1,ACME,168,102,720,0:12000 180:17000 228:17000,\nactor,ann,,,,,,\napply,ann,T1,A,B,,2026-03-02,2026-03-06\nend,,,,,,,\n";
-
-// The same day as some programs write it: behind a byte order mark, and with lines that end with two bytes.
-const MARKED: &str =
-    "\u{feff}day,2026-03-02,,,,,,\nnode,A,,,,,,\nnode,B,,,,,,\nsegment,S1,A,B,5000,,,\nlimit,S1,height,168,,,,\ntruck,T1,ACME,168,102,720,0:12000 180:17000 228:17000,\nactor,ann,,,,,,\napply,ann,T1,A,B,,2026-03-02,2026-03-06\nend,,,,,,,\n";
-
-const RETURNED: &str =
-    "day,2026-03-02,,,,,,\r\nnode,A,,,,,,\r\nnode,B,,,,,,\r\nsegment,S1,A,B,5000,,,\r\nlimit,S1,height,168,,,,\r\ntruck,T1,ACME,168,102,720,0:12000 180:17000 228:17000,\r\nactor,ann,,,,,,\r\napply,ann,T1,A,B,,2026-03-02,2026-03-06\r\nend,,,,,,,\r\n";
-
-// Two permits, and a posting that recalls one.
-const RECALLED: &str =
-    "day,2026-03-02,,,,,,\nnode,A,,,,,,\nnode,B,,,,,,\nsegment,S1,A,B,5000,,,\nlimit,S1,height,168,,,,\ntruck,T1,ACME,168,102,720,0:12000 180:17000 228:17000,\ntruck,T2,BOLT,150,110,720,0:12000 180:17000 228:17000,\nactor,ann,,,,,,\napply,ann,T1,A,B,,2026-03-02,2026-03-06\napply,ann,T2,A,B,,2026-03-02,2026-03-06\npost,ann,S1,height,167,,,\nshow,ann,1,,,,,\npost,ann,S1,height,167,,,\nend,,,,,,,\n";
-
-// A closed road, and a node to which none leads.
-const CLOSED: &str =
-    "day,2026-03-02,,,,,,\nnode,A,,,,,,\nnode,B,,,,,,\nnode,C,,,,,,\nsegment,S1,A,C,5000,,,\nlimit,S1,closed,1,,,,\ntruck,T1,ACME,168,102,720,0:12000 180:17000 228:17000,\nactor,ann,,,,,,\napply,ann,T1,A,B,,2026-03-02,2026-03-06\napply,ann,T1,A,C,,2026-03-02,2026-03-06\napply,ann,T1,A,C,S1,2026-03-02,2026-03-06\nend,,,,,,,\n";
-
-// A day set back, a permit given back twice, and one that is not there.
-const SURRENDERED: &str =
-    "day,2026-03-02,,,,,,\nnode,A,,,,,,\nnode,B,,,,,,\nsegment,S1,A,B,5000,,,\nlimit,S1,height,168,,,,\ntruck,T1,ACME,168,102,720,0:12000 180:17000 228:17000,\nactor,ann,,,,,,\napply,ann,T1,A,B,,2026-03-02,2026-03-06\nsetday,ann,2026-03-01,,,,,\nsurrender,ann,1,,,,,\nsurrender,ann,1,,,,,\nshow,ann,0,,,,,\nend,,,,,,,\n";
-
-// The truck of the Federal Highway Administration on a road with an allowance.
-const ALLOWED: &str =
-    "day,2026-03-02,,,,,,\nnode,A,,,,,,\nnode,B,,,,,,\nsegment,S1,A,B,5000,,,\nlimit,S1,allowance,1038,,,,\ntruck,FHWA,ACME,162,102,720,0:12000 192:17000 240:17000 564:17000 612:17000,\nactor,ann,,,,,,\napply,ann,FHWA,A,B,,2026-03-02,2026-03-06\nend,,,,,,,\n";
-
-// The HS20-44 truck on a bridge of 20 ft that is rated for it, and then is not.
-const RATED: &str =
-    "day,2026-03-02,,,,,,\nnode,A,,,,,,\nnode,B,,,,,,\nsegment,S1,A,B,5000,,,\nspan,B1,S1,240,1000,,,\ntruck,HS20,ACME,150,102,500,0:8000 168:32000 336:32000,\nactor,ann,,,,,,\napply,ann,HS20,A,B,,2026-03-02,2026-03-06\npost,ann,B1,rating,999,,,\napply,ann,HS20,A,B,,2026-03-02,2026-03-06\nend,,,,,,,\n";
+const ISSUED: &str = "\
+day,2026-03-02,,,,,,
+node,A,,,,,,
+node,B,,,,,,
+segment,S1,A,B,5000,,,
+limit,S1,height,168,,,,
+truck,T1,ACME,168,102,720,0:12000 180:17000 228:17000,
+actor,ann,,,,,,
+apply,ann,T1,A,B,,2026-03-02,2026-03-06
+end,,,,,,,
+";
 
 // Nine records: three nodes, two segments one behind the other, a span, a truck and an actor.
-const BEGUN: &str =
-    "day,2026-03-02,,,,,,\nnode,A,,,,,,\nnode,B,,,,,,\nnode,C,,,,,,\nsegment,S,A,B,5,,,\nsegment,T,B,C,5,,,\nspan,P,S,240,1000,,,\ntruck,K,ACME,168,102,720,0:1 180:1,\nactor,ann,,,,,,\n";
+const BEGUN: &str = "\
+day,2026-03-02,,,,,,
+node,A,,,,,,
+node,B,,,,,,
+node,C,,,,,,
+segment,S,A,B,5,,,
+segment,T,B,C,5,,,
+span,P,S,240,1000,,,
+truck,K,ACME,168,102,720,0:1 180:1,
+actor,ann,,,,,,
+";
 
 // What was read is let go by a call of `drop`: where a scope lets it go, the proof of the whole function goes
 // through its parts. For the same reason no function both reads and goes through a table.
 
-// A day, and how many nodes, segments, spans, trucks and commands it has.
-type Counts = (&'static str, u32, u32, u32, usize, usize);
-
-// The date of all the days, their one actor, and how many nodes there are.
-fn begins(rt: &impl Abort, row: usize, file: &DayFile, nodes: u32) {
-    let date = file.day().text();
-    same(rt, row, &date.as_slice(), &b"2026-03-02".as_slice());
-    same(rt, row, &file.actors().len(), &1);
-    same(rt, row, &file.base().network().nodes(), &nodes);
-}
-
-fn has(rt: &impl Abort, row: usize, base: &Base, counts: &Counts) {
-    let &(_, nodes, segments, spans, trucks, _) = counts;
-    let network = base.network();
-    let roads = (network.nodes(), network.segments(), network.spans());
-    same(rt, row, &roads, &(nodes, segments, spans));
-    same(rt, row, &base.fleet().len(), &trucks);
-}
-
-fn take(rt: &impl Abort, alloc: Global, row: usize, counts: &Counts) {
-    let &(text, nodes, _, _, _, commands) = counts;
+// A day of 2 March 2026 with two nodes, a segment, a truck, an actor and a command.
+fn take(rt: &impl Abort, alloc: Global, text: &str) {
     let file = read_day(alloc, text.as_bytes()).expect(rt, text);
-    begins(rt, row, &file, nodes);
-    let (base, _, actors, orders) = file.into_parts();
-    has(rt, row, &base, counts);
-    same(rt, row, &orders.len(), &commands);
-    drop(base);
-    drop(actors);
-    drop(orders);
+    let date = file.day().text();
+    let network = file.base().network();
+    let roads = (network.nodes(), network.segments(), network.spans());
+    let trucks = file.base().fleet().len();
+    let work = (file.actors().len(), file.commands().len());
+    drop(file);
+    holds(rt, date.as_slice() == b"2026-03-02".as_slice(), text);
+    holds(
+        rt,
+        roads == (2, 1, 0) && trucks == 1 && work == (1, 1),
+        text,
+    );
 }
 
-fn take_each(rt: &impl Abort, alloc: Global, days: &[Counts]) {
-    for (row, counts) in days.iter().enumerate() {
-        take(rt, alloc, row, counts);
-    }
-}
-
-const DAYS: [Counts; 8] = [
-    (ISSUED, 2, 1, 0, 1, 1),
-    (MARKED, 2, 1, 0, 1, 1),
-    (RETURNED, 2, 1, 0, 1, 1),
-    (RECALLED, 2, 1, 0, 2, 5),
-    (CLOSED, 3, 1, 0, 1, 3),
-    (SURRENDERED, 2, 1, 0, 1, 5),
-    (ALLOWED, 2, 1, 0, 1, 1),
-    (RATED, 2, 1, 1, 1, 3),
-];
-
+// As it is, behind a byte order mark, and with lines that end with two bytes.
 #[test]
-fn takes_the_worked_days(rt: HostRuntime) {
-    take_each(&rt, rt.alloc(), &DAYS);
+fn takes_a_day_as_programs_write_it(rt: HostRuntime) {
+    let alloc = rt.alloc();
+    let marked = format!(in alloc; "\u{feff}{ISSUED}").expect(&rt, "memory");
+    let returned = ISSUED.replace(alloc, "\n", "\r\n").expect(&rt, "memory");
+    take(&rt, alloc, ISSUED);
+    take(&rt, alloc, marked.as_str());
+    take(&rt, alloc, returned.as_str());
 }
 
 // The kind of a command by a letter.
-fn letter(command: &Command) -> u8 {
+fn letter(command: &Command) -> char {
     match command {
-        Command::Apply(_) => b'a',
-        Command::Post(_) => b'p',
-        Command::Day(_) => b'd',
-        Command::Surrender(_) => b'g',
-        Command::Show(_) => b's',
+        Command::Apply(_) => 'a',
+        Command::Post(_) => 'p',
+        Command::Day(_) => 'd',
+        Command::Surrender(_) => 'g',
+        Command::Show(_) => 's',
     }
-}
-
-// The commands are of these kinds, in this order.
-fn are_kinds(rt: &impl Abort, orders: &[Order], letters: &[u8]) {
-    same(rt, 0, &orders.len(), &letters.len());
-    for (row, (order, wanted)) in orders.iter().zip(letters).enumerate() {
-        same(rt, row, &letter(&order.command), wanted);
-    }
-}
-
-fn keep(rt: &impl Abort, alloc: Global, text: &str, letters: &[u8]) {
-    let file = read_day(alloc, text.as_bytes()).expect(rt, text);
-    are_kinds(rt, file.commands(), letters);
-    drop(file);
-}
-
-#[test]
-fn keeps_the_commands_in_order(rt: HostRuntime) {
-    keep(&rt, rt.alloc(), RECALLED, b"aapsp");
-    keep(&rt, rt.alloc(), SURRENDERED, b"adggs");
 }
 
 // The commands of three actors among each other, of whom one has none.
-const SHARED: &str =
-    "day,2026-03-02,,,,,,\nactor,ann,,,,,,\nactor,bob,,,,,,\nshow,ann,1,,,,,\nactor,cid,,,,,,\nsetday,cid,2026-03-03,,,,,\nsetday,ann,2026-03-04,,,,,\nshow,cid,2,,,,,\nsurrender,ann,3,,,,,\nend,,,,,,,\n";
+const SHARED: &str = "\
+day,2026-03-02,,,,,,
+actor,ann,,,,,,
+actor,bob,,,,,,
+show,ann,1,,,,,
+actor,cid,,,,,,
+setday,cid,2026-03-03,,,,,
+setday,ann,2026-03-04,,,,,
+show,cid,2,,,,,
+surrender,ann,3,,,,,
+end,,,,,,,
+";
 
 // Nobody is there.
 const EMPTY: &str = "day,2026-03-02,,,,,,\nend,,,,,,,\n";
 
-// The kinds of the commands of each actor, in order.
-type Scripts = &'static [&'static [u8]];
-
-fn is_script(rt: &impl Abort, script: &[Command], letters: &[u8]) {
-    same(rt, 0, &script.len(), &letters.len());
-    for (row, (command, wanted)) in script.iter().zip(letters).enumerate() {
-        same(rt, row, &letter(command), wanted);
+// The kinds of the commands of each actor, in order, behind a space.
+fn kinds(rt: &impl Abort, alloc: Global, scripts: &[Vec<Command>]) -> String {
+    let mut kinds = String::new(alloc);
+    for script in scripts {
+        kinds.push(' ').expect(rt, "memory");
+        for command in script {
+            kinds.push(letter(command)).expect(rt, "memory");
+        }
     }
+    kinds
 }
 
-fn are_scripts(rt: &impl Abort, scripts: &[Vec<Command>], wanted: Scripts) {
-    same(rt, 0, &scripts.len(), &wanted.len());
-    for (script, &letters) in scripts.iter().zip(wanted) {
-        is_script(rt, script.as_slice(), letters);
-    }
-}
-
-fn deal(rt: &impl Abort, alloc: Global, text: &str, wanted: Scripts) {
+fn deal(rt: &impl Abort, alloc: Global, text: &str, wanted: &str) {
     let file = read_day(alloc, text.as_bytes()).expect(rt, text);
     let file = prepare(alloc, file).expect(rt, "memory");
     let (base, _, scripts) = file.into_scripts(alloc).expect(rt, "memory");
-    are_scripts(rt, scripts.as_slice(), wanted);
     drop(base);
+    let kinds = kinds(rt, alloc, scripts.as_slice());
     drop(scripts);
+    holds(rt, kinds.as_str() == wanted, text);
 }
 
 #[test]
 fn gives_each_actor_its_commands(rt: HostRuntime) {
-    deal(&rt, rt.alloc(), SHARED, &[b"sdg", b"", b"ds"]);
-    deal(&rt, rt.alloc(), ISSUED, &[b"a"]);
-    deal(&rt, rt.alloc(), EMPTY, &[]);
+    deal(&rt, rt.alloc(), SHARED, " sdg  ds");
+    deal(&rt, rt.alloc(), ISSUED, " a");
+    deal(&rt, rt.alloc(), EMPTY, "");
 }
 
 // The first record of the text that is refused, and why.
@@ -191,21 +142,11 @@ fn too_many(row: u64, kind: Kind) -> Option<FileRefusal> {
     })
 }
 
-// What is refused where a record is the tenth, behind the nine of BEGUN.
-fn refusal_of_tenth(rt: &impl Abort, alloc: Global, record: &str) -> Option<FileRefusal> {
-    let text = format!(in alloc; "{BEGUN}{record}").expect(rt, "memory");
-    refusal(alloc, text.as_bytes())
-}
-
-// Tries each record as the tenth.
+// Tries each record as the tenth, behind the nine of BEGUN.
 fn refuse(rt: &impl Abort, alloc: Global, rows: &[(&str, RecordCause)]) {
     for (row, &(record, cause)) in rows.iter().enumerate() {
-        same(
-            rt,
-            row,
-            &refusal_of_tenth(rt, alloc, record),
-            &bad(10, cause),
-        );
+        let text = format!(in alloc; "{BEGUN}{record}").expect(rt, "memory");
+        same(rt, row, &refusal(alloc, text.as_bytes()), &bad(10, cause));
     }
 }
 
@@ -372,8 +313,21 @@ fn day_of_routes(
     last: &str,
 ) -> Result<DayFile, FileRefusal> {
     let text = format!(in alloc;
-        "day,2026-03-02,,,,,,\nnode,A,,,,,,\nnode,B,,,,,,\nnode,C,,,,,,\nsegment,S1,A,B,1000,,,\nsegment,S2,A,C,1000,,,\nsegment,S3,C,B,1000,,,\ntruck,T1,ACME,168,102,720,0:12000 180:17000 228:17000,\nactor,ann,,,,,,\napply,ann,T1,A,B,{routes},2026-03-02,{last}\nend,,,,,,,\n"
-    ).expect(rt, "memory");
+        "\
+day,2026-03-02,,,,,,
+node,A,,,,,,
+node,B,,,,,,
+node,C,,,,,,
+segment,S1,A,B,1000,,,
+segment,S2,A,C,1000,,,
+segment,S3,C,B,1000,,,
+truck,T1,ACME,168,102,720,0:12000 180:17000 228:17000,
+actor,ann,,,,,,
+apply,ann,T1,A,B,{routes},2026-03-02,{last}
+end,,,,,,,
+"
+    )
+    .expect(rt, "memory");
     read_day(alloc, text.as_bytes())
 }
 
@@ -408,63 +362,52 @@ fn refuses_routes_of_another_form_or_for_too_long(rt: HostRuntime) {
     }
 }
 
-// The segments of the routes that an application asks for.
-type Routes = &'static [&'static [u32]];
-
-fn are_routes(rt: &impl Abort, row: usize, asked: Option<&SharedRoutes>, wanted: Routes) {
-    let Some(routes) = asked else {
-        same(rt, row, &0, &wanted.len());
-        return;
-    };
-    same(rt, row, &routes.len(), &wanted.len());
-    for i in 0..routes.len() {
-        same(rt, row, &Some(routes.route(i)), &wanted.get(i).copied());
-    }
-}
-
-fn ask(rt: &impl Abort, row: usize, orders: &[Order], wanted: Routes) {
-    match orders {
-        [
-            Order {
-                command: Command::Apply(application),
-                ..
-            },
-        ] => are_routes(rt, row, application.asked(), wanted),
-        _ => holds(rt, false, "one application"),
-    }
-}
-
-// A route field, the last of the days that begin with 2026-03-02, and the routes that it asks for.
-const ASKED: [(&str, &str, Routes); 6] = [
-    ("", "2030-03-02", &[]),
-    ("S2 S3", "2030-03-02", &[&[1, 2]]),
-    ("S1|S2 S3", "2027-03-02", &[&[0], &[1, 2]]),
-    ("S2 S3|S1", "2026-03-02", &[&[1, 2], &[0]]),
-    ("S1|S1", "2027-03-02", &[&[0], &[0]]),
+// A route field, the last of the days that begin with 2026-03-02, and the segments of the routes that it asks for.
+const ASKED: [(&str, &str, &str); 6] = [
+    ("", "2030-03-02", ""),
+    ("S2 S3", "2030-03-02", "[1, 2]"),
+    ("S1|S2 S3", "2027-03-02", "[0][1, 2]"),
+    ("S2 S3|S1", "2026-03-02", "[1, 2][0]"),
+    ("S1|S1", "2027-03-02", "[0][0]"),
     (
         "S1|S1|S2 S3|S1|S1|S1|S1|S2 S3",
         "2027-03-02",
-        &[&[0], &[0], &[1, 2], &[0], &[0], &[0], &[0], &[1, 2]],
+        "[0][0][1, 2][0][0][0][0][1, 2]",
     ),
 ];
 
+fn routes_told(rt: &impl Abort, alloc: Global, routes: &SharedRoutes) -> String {
+    let mut told = String::new(alloc);
+    for i in 0..routes.len() {
+        write!(told, "{:?}", routes.route(i)).expect(rt, "memory");
+    }
+    told
+}
+
+// What the one application of a day asks for.
+fn asked_told(rt: &impl Abort, alloc: Global, orders: &[Order]) -> String {
+    assert!(rt; orders.len() == 1);
+    match &orders[0].command {
+        Command::Apply(application) => match application.asked() {
+            Some(routes) => routes_told(rt, alloc, routes),
+            None => String::new(alloc),
+        },
+        _ => rt.abort(),
+    }
+}
+
 #[test]
 fn takes_up_to_eight_routes(rt: HostRuntime) {
-    for (row, &(routes, last, wanted)) in ASKED.iter().enumerate() {
+    for &(routes, last, wanted) in &ASKED {
         let file = day_of_routes(&rt, rt.alloc(), routes, last).expect(&rt, routes);
-        ask(&rt, row, file.commands(), wanted);
+        let told = asked_told(&rt, rt.alloc(), file.commands());
         drop(file);
+        holds(&rt, told.as_str() == wanted, routes);
     }
 }
 
 // A text, its record that is refused, and why.
 type Refused = (&'static [u8], u64, RecordCause);
-
-fn refuse_days(rt: &impl Abort, alloc: Global, cases: &[Refused]) {
-    for (number, &(text, row, cause)) in cases.iter().enumerate() {
-        same(rt, number, &refusal(alloc, text), &bad(row, cause));
-    }
-}
 
 const PLACES: [Refused; 9] = [
     (b"", 1, RecordCause::End),
@@ -492,161 +435,108 @@ const PLACES: [Refused; 9] = [
 
 #[test]
 fn refuses_what_stands_at_no_place(rt: HostRuntime) {
-    refuse_days(&rt, rt.alloc(), &PLACES);
+    for (number, &(text, row, cause)) in PLACES.iter().enumerate() {
+        same(&rt, number, &refusal(rt.alloc(), text), &bad(row, cause));
+    }
 }
 
-// What is refused of the first worked day with other axles, another end of the trip and another asked route.
-fn refusal_with(
-    alloc: Global,
-    axles: &str,
-    to: &str,
-    route: &str,
-) -> Result<Option<FileRefusal>, Fail> {
+// Other axles of the truck, the ends and the route of the application, and which record is refused why.
+const CHANGED: [(&str, &str, u64, RecordCause); 3] = [
+    ("0:12000", "A,A,S9", 6, RecordCause::Train(1)),
+    (AXLES, "A,A,", 8, RecordCause::SamePlace),
+    (AXLES, "A,B,S9", 8, RecordCause::Unknown(6)),
+];
+
+const AXLES: &str = "0:12000 180:17000 228:17000";
+
+fn refusal_with(rt: &impl Abort, alloc: Global, axles: &str, trip: &str) -> Option<FileRefusal> {
     let text = format!(in alloc;
-        "day,2026-03-02,,,,,,\nnode,A,,,,,,\nnode,B,,,,,,\nsegment,S1,A,B,5000,,,\nlimit,S1,height,168,,,,\ntruck,T1,ACME,168,102,720,{axles},\nactor,ann,,,,,,\napply,ann,T1,A,{to},{route},2026-03-02,2026-03-06\nend,,,,,,,\n"
-    )?;
-    Ok(refusal(alloc, text.as_bytes()))
+        "\
+day,2026-03-02,,,,,,
+node,A,,,,,,
+node,B,,,,,,
+segment,S1,A,B,5000,,,
+limit,S1,height,168,,,,
+truck,T1,ACME,168,102,720,{axles},
+actor,ann,,,,,,
+apply,ann,T1,{trip},2026-03-02,2026-03-06
+end,,,,,,,
+"
+    );
+    refusal(alloc, text.expect(rt, "memory").as_bytes())
 }
 
 #[test]
-fn refuses_the_first_record_that_is_bad(rt: HostRuntime) -> Result<(), Fail> {
-    let alloc = rt.alloc();
-    let axles = "0:12000 180:17000 228:17000";
-    same(&rt, 0, &refusal_with(alloc, axles, "B", "S1")?, &None);
-    let train = refusal_with(alloc, "0:12000", "A", "S9")?;
-    same(&rt, 1, &train, &bad(6, RecordCause::Train(1)));
-    let place = refusal_with(alloc, axles, "A", "")?;
-    same(&rt, 2, &place, &bad(8, RecordCause::SamePlace));
-    let route = refusal_with(alloc, axles, "B", "S9")?;
-    same(&rt, 3, &route, &bad(8, RecordCause::Unknown(6)));
-    Ok(())
+fn refuses_the_first_record_that_is_bad(rt: HostRuntime) {
+    let taken = refusal_with(&rt, rt.alloc(), AXLES, "A,B,S1");
+    same(&rt, 0, &taken, &None);
+    for (number, &(axles, trip, row, cause)) in CHANGED.iter().enumerate() {
+        let found = refusal_with(&rt, rt.alloc(), axles, trip);
+        same(&rt, number, &found, &bad(row, cause));
+    }
 }
 
 // The whole text is taken, also without its last line feed, and each shorter front of it has a bad record.
-fn refuse_fronts(rt: &impl Abort, alloc: Global, text: &[u8]) {
-    for length in 0..=text.len() {
-        let found = refusal(alloc, &text[..length]);
-        let taken = text.len() - length <= 1;
-        same(rt, length, &found.is_none(), &taken);
-        let bad = matches!(
-            found,
-            Some(FileRefusal::Refused {
-                cause: Cause::Bad(_),
-                ..
-            })
-        );
-        same(rt, length, &bad, &!taken);
-    }
-}
-
 #[test]
 fn refuses_each_front_of_a_day(rt: HostRuntime) {
-    refuse_fronts(&rt, rt.alloc(), ISSUED.as_bytes());
+    for length in 0..=ISSUED.len() {
+        let taken = ISSUED.len() - length <= 1;
+        let found = refusal(rt.alloc(), &ISSUED.as_bytes()[..length]);
+        let is_so = match found {
+            None => taken,
+            Some(FileRefusal::Refused { cause, .. }) => !taken && matches!(cause, Cause::Bad(_)),
+            Some(_) => false,
+        };
+        same(&rt, length, &is_so, &true);
+    }
 }
 
 // Puts so many records behind a text, with numbers from 0 between two of their parts.
-fn add_records(
-    rt: &impl Abort,
-    alloc: Global,
-    text: &mut Vec<u8>,
-    before: &str,
-    after: &str,
-    count: u32,
-) {
+fn add_records(rt: &impl Abort, text: &mut String, before: &str, after: &str, count: u32) {
     for i in 0..count {
-        let record = format!(in alloc; "{before}{i}{after}\n").expect(rt, "memory");
-        text.extend_from_slice(record.as_bytes())
-            .expect(rt, "memory");
+        write!(text, "{before}{i}{after}\n").expect(rt, "memory");
     }
 }
 
-// What is refused where so many records stand behind a text.
-fn refusal_of_many(
-    rt: &impl Abort,
-    alloc: Global,
-    begun: &str,
-    before: &str,
-    after: &str,
-    count: u32,
-) -> Option<FileRefusal> {
-    let mut text = begun.as_bytes().to_vec(alloc).expect(rt, "memory");
-    add_records(rt, alloc, &mut text, before, after, count);
-    refusal(alloc, text.as_slice())
-}
+// A day record and one actor.
+const NOTHING_BEGUN: &str = "day,2026-03-02,,,,,,\nactor,ann,,,,,,\n";
 
-// What stands in a record before its number and behind it, how many more are allowed behind BEGUN, and the
-// kind.
-type Room = (&'static str, &'static str, u32, Kind);
-
-// As many as are allowed are taken, and the next is refused.
-fn count_each(rt: &impl Abort, alloc: Global, rows: &[Room]) {
-    for (row, &(before, after, room, kind)) in rows.iter().enumerate() {
-        let found = refusal_of_many(rt, alloc, BEGUN, before, after, room.wrapping_add(1));
-        same(rt, row, &found, &too_many(u64::from(room) + 10, kind));
-    }
-}
-
-const ROOMS: [Room; 6] = [
-    ("node,n", ",,,,,,", 4_093, Kind::Nodes),
-    ("segment,s", ",A,A,1,,,", 16_382, Kind::Segments),
-    ("span,p", ",S,1,0,,,", 15, Kind::SpansOfSegment),
-    ("truck,t", ",ACME,1,1,1,0:1 1:1,", 63, Kind::Trucks),
-    ("actor,a", ",,,,,,", 15, Kind::Actors),
-    ("show,ann,", ",,,,,", 4_096, Kind::Commands),
+// The records that stand first; what stands in a record before its number and behind it; how many of these are allowed more; and
+// their kind.
+const ROOMS: [(&str, &str, &str, u32, Kind); 7] = [
+    (BEGUN, "node,n", ",,,,,,", 4_093, Kind::Nodes),
+    (BEGUN, "segment,s", ",A,A,1,,,", 16_382, Kind::Segments),
+    (BEGUN, "span,p", ",S,1,0,,,", 15, Kind::SpansOfSegment),
+    (BEGUN, "truck,t", ",ACME,1,1,1,0:1 1:1,", 63, Kind::Trucks),
+    (BEGUN, "actor,a", ",,,,,,", 15, Kind::Actors),
+    (BEGUN, "show,ann,", ",,,,,", 4_096, Kind::Commands),
+    (NOTHING_BEGUN, "show,ann,", ",,,,,", 4_096, Kind::Commands),
 ];
 
+// As many as are allowed are taken, and the next is refused.
 #[test]
 fn counts_records_of_a_kind(rt: HostRuntime) {
-    count_each(&rt, rt.alloc(), &ROOMS);
-}
-
-// A day record, one actor and 4,097 commands.
-#[test]
-fn counts_commands(rt: HostRuntime) {
-    let begun = "day,2026-03-02,,,,,,\nactor,ann,,,,,,\n";
-    let found = refusal_of_many(&rt, rt.alloc(), begun, "show,ann,", ",,,,,", 4_097);
-    same(&rt, 0, &found, &too_many(4_099, Kind::Commands));
-}
-
-// Puts so many spans behind a text, 16 on each segment.
-fn add_spans(rt: &impl Abort, alloc: Global, text: &mut Vec<u8>, count: u32) {
-    for i in 0..count {
-        let segment = i / 16;
-        let record = format!(in alloc; "span,p{i},s{segment},1,0,,,\n").expect(rt, "memory");
-        text.extend_from_slice(record.as_bytes())
-            .expect(rt, "memory");
+    for (row, &(begun, before, after, room, kind)) in ROOMS.iter().enumerate() {
+        let mut text = begun.to_string(rt.alloc()).expect(&rt, "memory");
+        add_records(&rt, &mut text, before, after, room.wrapping_add(1));
+        let last = begun.lines().count() as u64 + u64::from(room) + 1;
+        let found = refusal(rt.alloc(), text.as_bytes());
+        same(&rt, row, &found, &too_many(last, kind));
     }
-}
-
-fn refusal_of_spans(
-    rt: &impl Abort,
-    alloc: Global,
-    segments: u32,
-    count: u32,
-) -> Option<FileRefusal> {
-    let begun = b"day,2026-03-02,,,,,,\nnode,A,,,,,,\n";
-    let mut text = begun.to_vec(alloc).expect(rt, "memory");
-    add_records(rt, alloc, &mut text, "segment,s", ",A,A,1,,,", segments);
-    add_spans(rt, alloc, &mut text, count);
-    refusal(alloc, text.as_slice())
 }
 
 // 129 segments, 128 of them with 16 spans each and the last with one.
 #[test]
 fn counts_spans(rt: HostRuntime) {
-    let found = refusal_of_spans(&rt, rt.alloc(), 129, 2_049);
-    same(&rt, 0, &found, &too_many(2_180, Kind::Spans));
-}
-
-// The first record of a check file that is refused, and why.
-fn check_refusal(alloc: Global, text: &[u8]) -> Option<FileRefusal> {
-    read_check(alloc, text).err()
-}
-
-fn refuse_checks(rt: &impl Abort, alloc: Global, cases: &[Refused]) {
-    for (number, &(text, row, cause)) in cases.iter().enumerate() {
-        same(rt, number, &check_refusal(alloc, text), &bad(row, cause));
+    let begun = "day,2026-03-02,,,,,,\nnode,A,,,,,,\n";
+    let mut text = begun.to_string(rt.alloc()).expect(&rt, "memory");
+    add_records(&rt, &mut text, "segment,s", ",A,A,1,,,", 129);
+    for i in 0..2_049u32 {
+        let segment = i / 16;
+        write!(text, "span,p{i},s{segment},1,0,,,\n").expect(&rt, "memory");
     }
+    let found = refusal(rt.alloc(), text.as_bytes());
+    same(&rt, 0, &found, &too_many(2_180, Kind::Spans));
 }
 
 const CHECKS: [Refused; 13] = [
@@ -691,15 +581,17 @@ const CHECKS: [Refused; 13] = [
 
 #[test]
 fn refuses_what_is_no_check_file(rt: HostRuntime) {
-    refuse_checks(&rt, rt.alloc(), &CHECKS);
+    for (number, &(text, row, cause)) in CHECKS.iter().enumerate() {
+        let found = read_check(rt.alloc(), text).err();
+        same(&rt, number, &found, &bad(row, cause));
+    }
 }
 
 #[test]
-fn takes_a_check_file(rt: HostRuntime) -> Result<(), Fail> {
+fn takes_a_check_file(rt: HostRuntime) {
     let text = b"truck,T,A,1,1,1,0:1 1:1,\nprobe,240,1000,,,,,\nend,,,,,,,\n";
-    let file = read_check(rt.alloc(), text)?;
+    let file = read_check(rt.alloc(), text).expect(&rt, "a check file");
     let probes = file.probes.as_slice().len();
     drop(file);
     same(&rt, 0, &probes, &1);
-    Ok(())
 }

@@ -94,9 +94,12 @@ const ROUTES: &str = "permit-journal 3
 end 2
 ";
 
-// What is read is printed as the same text.
-fn reads_back(rt: &impl Abort, alloc: Global, text: &str) {
-    prints_as(rt, alloc, text, text);
+// The history of the one text is printed as the other.
+fn prints_as(rt: &impl Abort, alloc: Global, text: &str, wanted: &str) {
+    let history = read(alloc, text.as_bytes()).expect(rt, text);
+    let printed = print(alloc, history.as_slice()).expect(rt, "memory");
+    drop(history);
+    holds(rt, printed.as_slice() == wanted.as_bytes(), text);
 }
 
 // Texts that are journals.
@@ -114,35 +117,35 @@ const JOURNALS: [&str; 9] = [
 
 #[test]
 fn journals_are_read_and_printed_again(rt: HostRuntime) {
-    for text in JOURNALS {
-        reads_back(&rt, rt.alloc(), text);
+    for &text in &JOURNALS {
+        prints_as(&rt, rt.alloc(), text, text);
     }
 }
 
-// The journal under an older first line gives the same history, which is printed in the third format.
-fn is_read_under(rt: &impl Abort, alloc: Global, first_line: &str, text: &str) {
-    let older = text
-        .replace(alloc, "permit-journal 3", first_line)
-        .expect(rt, "memory");
-    prints_as(rt, alloc, older.as_str(), text);
-}
+// A journal, and the first line of an older format that has words for it.
+const OLDER: [(&str, &str); 11] = [
+    (ONE_TRIP, "permit-journal 1"),
+    (ONE_TRIP, "permit-journal 2"),
+    (BRIDGE, "permit-journal 1"),
+    (BRIDGE, "permit-journal 2"),
+    (NO_ROAD, "permit-journal 1"),
+    (NO_ROAD, "permit-journal 2"),
+    (RECALL, "permit-journal 1"),
+    (RECALL, "permit-journal 2"),
+    (FORMS, "permit-journal 1"),
+    (FORMS, "permit-journal 2"),
+    (TRIDEM, "permit-journal 2"),
+];
 
+// Under an older first line it gives the same history, which is printed in the third format.
 #[test]
 fn journals_of_the_older_formats_give_the_same_histories(rt: HostRuntime) {
     let alloc = rt.alloc();
-    for text in [ONE_TRIP, BRIDGE, NO_ROAD, RECALL, FORMS] {
-        is_read_under(&rt, alloc, "permit-journal 1", text);
-        is_read_under(&rt, alloc, "permit-journal 2", text);
+    for &(text, first_line) in &OLDER {
+        let older = text.replace(alloc, "permit-journal 3", first_line);
+        let older = older.expect(&rt, "memory");
+        prints_as(&rt, alloc, older.as_str(), text);
     }
-    is_read_under(&rt, alloc, "permit-journal 2", TRIDEM);
-}
-
-// The history of the one text is printed as the other.
-fn prints_as(rt: &impl Abort, alloc: Global, text: &str, wanted: &str) {
-    let history = read(alloc, text.as_bytes()).expect(rt, text);
-    let printed = print(alloc, history.as_slice()).expect(rt, "memory");
-    drop(history);
-    holds(rt, printed.as_slice() == wanted.as_bytes(), text);
 }
 
 // The row of the bad line, where the text is refused for one.
@@ -226,18 +229,12 @@ const BAD_JOURNALS: [(&str, u64); 30] = [
 
 #[test]
 fn names_the_first_line_that_no_journal_has(rt: HostRuntime) {
-    for (text, row) in BAD_JOURNALS {
+    for &(text, row) in &BAD_JOURNALS {
         holds(&rt, bad_row(rt.alloc(), text) == Some(row), text);
     }
 }
 
-// The journal of one application with one text in place of another.
-fn changed(rt: &impl Abort, alloc: Global, old: &str, new: &str) -> Option<u64> {
-    let text = ONE_TRIP.replace(alloc, old, new).expect(rt, "memory");
-    bad_row(alloc, text.as_str())
-}
-
-// What stands in place of what, and the row of the line that is bad then.
+// What stands in place of what in the journal of one application, and the row of the line that is bad then.
 const CHANGES: [(&str, &str, u64); 5] = [
     ("= at 0\n", "= at 00\n", 2),
     ("end 2\n", "end 2", 4),
@@ -248,15 +245,11 @@ const CHANGES: [(&str, &str, u64); 5] = [
 
 #[test]
 fn names_the_line_that_was_changed(rt: HostRuntime) {
-    for (old, new, row) in CHANGES {
-        holds(&rt, changed(&rt, rt.alloc(), old, new) == Some(row), new);
+    for &(old, new, row) in &CHANGES {
+        let text = ONE_TRIP.replace(rt.alloc(), old, new).expect(&rt, "memory");
+        let found = bad_row(rt.alloc(), text.as_str());
+        holds(&rt, found == Some(row), new);
     }
-}
-
-// A journal of this one line names it.
-fn is_bad_line(rt: &impl Abort, alloc: Global, line: &str) -> bool {
-    let text = format!(in alloc; "permit-journal 3\n{line}\nend 1\n").expect(rt, "memory");
-    bad_row(alloc, text.as_str()) == Some(2)
 }
 
 // Lines that no journal has, in whatever format.
@@ -329,7 +322,9 @@ const FAULTS: [&str; 57] = [
 
 #[test]
 fn takes_no_line_with_a_fault(rt: HostRuntime) {
-    for line in FAULTS {
-        holds(&rt, is_bad_line(&rt, rt.alloc(), line), line);
+    for &line in &FAULTS {
+        let text = format!(in rt.alloc(); "permit-journal 3\n{line}\nend 1\n");
+        let text = text.expect(&rt, "memory");
+        holds(&rt, bad_row(rt.alloc(), text.as_str()) == Some(2), line);
     }
 }

@@ -39,7 +39,7 @@ const BAD: [(u64, RecordCause, &str); 14] = [
 #[test]
 fn writes_bad_records(rt: HostRuntime) {
     refusal_lines_differ();
-    for (row, cause, line) in BAD {
+    for &(row, cause, line) in &BAD {
         writes(&rt, rt.alloc(), row, Cause::Bad(cause), line, 5);
     }
 }
@@ -62,7 +62,7 @@ const COUNTS: [(u64, Kind, &str); 8] = [
 
 #[test]
 fn writes_counts(rt: HostRuntime) {
-    for (row, kind, line) in COUNTS {
+    for &(row, kind, line) in &COUNTS {
         writes(&rt, rt.alloc(), row, Cause::TooMany(kind), line, 6);
     }
 }

@@ -57,7 +57,7 @@ fn tells(rt: &impl Abort, alloc: Global, caller: u32, journal: &str, lines: &str
 // A line for each recall for which there is an answer, with every kind of words in it.
 #[test]
 fn tells_what_became_of_recalled_permits(rt: HostRuntime) {
-    for (caller, journal, lines) in HISTORIES {
+    for &(caller, journal, lines) in &HISTORIES {
         assert!(rt; tells(&rt, rt.alloc(), caller, journal, lines), "{journal}");
     }
 }

@@ -1,8 +1,6 @@
 use day_reroute::serve_rerouted;
 use day_text::read_day;
 use journal_text::print;
-use std::alloc::Global;
-use std::process::Abort;
 
 // Each day has one actor, so the desk calls as number 2. Its truck is 168 in high, so it needs a permit. S1 leads from A to B, S2
 // and S3 lead around it, and S4 is a longer way.
@@ -112,19 +110,14 @@ end 8
 ",
 );
 
-// The history of a day on which recalled permits are replaced has this journal.
-fn serves(rt: &impl Abort, alloc: Global, (day, journal): (&[u8], &[u8])) {
-    let file = read_day(alloc, day).expect(rt, "a day file");
-    let office = serve_rerouted(alloc, file).expect(rt, "memory");
-    let text = print(alloc, office.history()).expect(rt, "memory");
-    drop(office);
-    assert!(rt; text.as_slice() == journal);
-}
-
+// A day on which recalled permits are replaced, and the journal of its history.
 #[test]
 fn replaces_what_each_command_recalled(rt: HostRuntime) {
-    serves(&rt, rt.alloc(), REPLACED);
-    serves(&rt, rt.alloc(), UNPOSTED);
-    serves(&rt, rt.alloc(), REPLACED_TWICE);
-    serves(&rt, rt.alloc(), LATER);
+    for (day, journal) in [REPLACED, UNPOSTED, REPLACED_TWICE, LATER] {
+        let file = read_day(rt.alloc(), day).expect(&rt, "a day file");
+        let office = serve_rerouted(rt.alloc(), file).expect(&rt, "memory");
+        let text = print(rt.alloc(), office.history()).expect(&rt, "memory");
+        drop(office);
+        assert!(rt; text.as_slice() == journal);
+    }
 }

@@ -8,13 +8,11 @@ use office_io::{
 };
 use std::alloc::Global;
 use std::process::Abort;
-use std::test::Fail;
 
 // A source of so many bytes x, whose calls of these numbers fail.
-fn source_of(alloc: Global, len: usize, failing: &[u32]) -> Result<MemorySource, Fail> {
-    let failing = failing.to_vec(alloc)?;
-    let bytes = vec![in alloc; b'x'; len]?;
-    Ok(MemorySource::new(bytes, failing))
+fn source_of(rt: &impl Abort, alloc: Global, len: usize, failing: &[u32]) -> MemorySource {
+    let failing = failing.to_vec(alloc).expect(rt, "memory");
+    MemorySource::new(vec![in alloc; b'x'; len].expect(rt, "memory"), failing)
 }
 
 // How many bytes are read, each of which is an x.
@@ -35,121 +33,83 @@ fn read_len(
 }
 
 // How many bytes there are, the limit, what is read, and how many bytes are read by a second call.
-type Reading = (usize, u32, Result<usize, ReadRefusal>, usize);
+const READ: [(usize, u32, Result<usize, ReadRefusal>, usize); 7] = [
+    (0, 0, Ok(0), 0),
+    (3, 3, Ok(3), 0),
+    (3, 4_194_304, Ok(3), 0),
+    (40_000, 40_000, Ok(40_000), 0),
+    // one byte more than the limit is taken
+    (1, 0, Err(ReadRefusal::TooLong), 0),
+    (5, 3, Err(ReadRefusal::TooLong), 1),
+    (40_001, 40_000, Err(ReadRefusal::TooLong), 0),
+];
 
-fn read_twice(rt: &impl Abort, alloc: Global, row: usize, reading: &Reading) -> Result<(), Fail> {
-    let &(len, limit, first, second) = reading;
-    assert!(rt; limit <= 4_194_304);
-    let mut source = source_of(alloc, len, &[])?;
-    same(rt, row, &read_len(rt, alloc, &mut source, limit), &first);
-    same(rt, row, &read_len(rt, alloc, &mut source, 10), &Ok(second));
-    drop(source);
-    Ok(())
-}
-
-fn read_each(rt: &impl Abort, alloc: Global, readings: &[Reading]) -> Result<(), Fail> {
-    for (row, reading) in readings.iter().enumerate() {
-        read_twice(rt, alloc, row, reading)?;
+#[test]
+fn takes_all_bytes_up_to_the_limit_or_one_more(rt: HostRuntime) {
+    for (row, &(len, limit, first, second)) in READ.iter().enumerate() {
+        assert!(rt; limit <= 4_194_304);
+        let mut source = source_of(&rt, rt.alloc(), len, &[]);
+        let one = read_len(&rt, rt.alloc(), &mut source, limit);
+        let other = read_len(&rt, rt.alloc(), &mut source, 10);
+        drop(source);
+        same(&rt, row, &(one, other), &(first, Ok(second)));
     }
-    Ok(())
-}
-
-#[test]
-fn takes_all_bytes_up_to_the_limit(rt: HostRuntime) -> Result<(), Fail> {
-    read_each(
-        &rt,
-        rt.alloc(),
-        &[
-            (0, 0, Ok(0), 0),
-            (3, 3, Ok(3), 0),
-            (3, 4_194_304, Ok(3), 0),
-            (40_000, 40_000, Ok(40_000), 0),
-        ],
-    )
-}
-
-#[test]
-fn takes_one_byte_more_than_the_limit_at_most(rt: HostRuntime) -> Result<(), Fail> {
-    read_each(
-        &rt,
-        rt.alloc(),
-        &[
-            (1, 0, Err(ReadRefusal::TooLong), 0),
-            (5, 3, Err(ReadRefusal::TooLong), 1),
-            (40_001, 40_000, Err(ReadRefusal::TooLong), 0),
-        ],
-    )
-}
-
-// Reads a text of 20,000 bytes where one call fails.
-fn read_failing(rt: &impl Abort, alloc: Global, call: u32) -> Result<(), Fail> {
-    let mut source = source_of(alloc, 20_000, &[call])?;
-    let read = read_len(rt, alloc, &mut source, 4_194_304);
-    drop(source);
-    let wanted = if call < 4 {
-        Err(ReadRefusal::ReadFault)
-    } else {
-        Ok(20_000)
-    };
-    same(rt, call as usize, &read, &wanted);
-    Ok(())
 }
 
 // It takes three reads: two pieces, and one that finds the end.
 #[test]
-fn hands_on_a_fault_of_each_read(rt: HostRuntime) -> Result<(), Fail> {
-    for call in 1..=4 {
-        read_failing(&rt, rt.alloc(), call)?;
-    }
-    Ok(())
-}
-
-// Bytes that are written, and what is answered.
-type Writing = (&'static [u8], Result<(), WriteFault>);
-
-fn write_each(rt: &impl Abort, sink: &mut MemorySink, writings: &[Writing]) {
-    for (row, (bytes, answer)) in writings.iter().enumerate() {
-        same(rt, row, &write_all(sink, bytes), answer);
+fn hands_on_a_fault_of_each_read(rt: HostRuntime) {
+    for call in 1..=4u32 {
+        let mut source = source_of(&rt, rt.alloc(), 20_000, &[call]);
+        let read = read_len(&rt, rt.alloc(), &mut source, 4_194_304);
+        drop(source);
+        let wanted = if call < 4 {
+            Err(ReadRefusal::ReadFault)
+        } else {
+            Ok(20_000)
+        };
+        same(&rt, call as usize, &read, &wanted);
     }
 }
 
+// Bytes that are written to a sink with room for five, whose second write fails, and what is answered.
+const WRITTEN: [(&[u8], Result<(), WriteFault>); 5] = [
+    (b"abc", Ok(())),
+    (b"de", Err(WriteFault { written: 0 })),
+    (b"de", Ok(())),
+    (b"", Ok(())),
+    (b"f", Err(WriteFault { written: 0 })),
+];
+
 #[test]
-fn appends_what_there_is_room_for(rt: HostRuntime) -> Result<(), Fail> {
-    let failing = [2].to_vec(rt.alloc())?;
-    let mut sink = MemorySink::new(rt.alloc(), 5, failing)?;
-    write_each(
-        &rt,
-        &mut sink,
-        &[
-            (b"abc", Ok(())),
-            (b"de", Err(WriteFault { written: 0 })),
-            (b"de", Ok(())),
-            (b"", Ok(())),
-            (b"f", Err(WriteFault { written: 0 })),
-        ],
-    );
-    same(&rt, 5, &sink.bytes(), &b"abcde".as_slice());
+fn appends_what_there_is_room_for(rt: HostRuntime) {
+    let failing = [2].to_vec(rt.alloc()).expect(&rt, "memory");
+    let mut sink = MemorySink::new(rt.alloc(), 5, failing).expect(&rt, "memory");
+    for (row, &(bytes, answer)) in WRITTEN.iter().enumerate() {
+        same(&rt, row, &write_all(&mut sink, bytes), &answer);
+    }
+    let is_all = sink.bytes() == b"abcde".as_slice();
     drop(sink);
-    Ok(())
+    assert!(rt; is_all);
 }
 
 #[test]
-fn tells_how_much_was_written(rt: HostRuntime) -> Result<(), Fail> {
-    let mut sink = MemorySink::new(rt.alloc(), 2, Vec::new(rt.alloc()))?;
-    write_each(&rt, &mut sink, &[(b"abc", Err(WriteFault { written: 2 }))]);
-    same(&rt, 1, &sink.bytes(), &b"ab".as_slice());
+fn tells_how_much_was_written(rt: HostRuntime) {
+    let mut sink = MemorySink::new(rt.alloc(), 2, Vec::new(rt.alloc())).expect(&rt, "memory");
+    let answer = write_all(&mut sink, b"abc");
+    let is_front = sink.bytes() == b"ab".as_slice();
     drop(sink);
-    Ok(())
+    same(&rt, 0, &answer, &Err(WriteFault { written: 2 }));
+    assert!(rt; is_front);
 }
 
 #[test]
-fn adapts_a_reader(rt: HostRuntime) -> Result<(), Fail> {
+fn adapts_a_reader(rt: HostRuntime) {
     let mut source = StdSource::new(b"abc".as_slice());
-    let read = read_all(rt.alloc(), &mut source, 10)?;
+    let read = read_all(rt.alloc(), &mut source, 10).expect(&rt, "three bytes");
     let is_abc = read.as_slice() == b"abc".as_slice();
     drop(read);
     assert!(rt; is_abc);
-    Ok(())
 }
 
 // A slice that is full takes nothing, which is a fault of the sink.
@@ -170,40 +130,30 @@ fn is_name(text: &str) -> bool {
     }
 }
 
-fn are_names(rt: &impl Abort, texts: &[&str]) {
-    for text in texts {
-        assert!(rt; is_name(text), "{text} is a name");
-    }
-}
+const NAMES: [&str; 8] = ["a", "Z", "0", "-", "_", "n0-0", "1234567890123456", "A-b_9"];
 
-fn are_no_names(rt: &impl Abort, texts: &[&str]) {
-    for text in texts {
-        assert!(rt; Name::new(text.as_bytes()).is_err(), "{text} is no name");
-    }
-}
+const NO_NAMES: [&str; 11] = [
+    "",
+    "12345678901234567",
+    "a b",
+    "a.b",
+    "a/b",
+    "a:b",
+    "a@b",
+    "a[b",
+    "a`b",
+    "a{b",
+    "\u{e9}",
+];
 
 #[test]
 fn names_are_short_words(rt: HostRuntime) {
-    are_names(
-        &rt,
-        &["a", "Z", "0", "-", "_", "n0-0", "1234567890123456", "A-b_9"],
-    );
-    are_no_names(
-        &rt,
-        &[
-            "",
-            "12345678901234567",
-            "a b",
-            "a.b",
-            "a/b",
-            "a:b",
-            "a@b",
-            "a[b",
-            "a`b",
-            "a{b",
-            "\u{e9}",
-        ],
-    );
+    for &text in &NAMES {
+        assert!(rt; is_name(text), "{text} is a name");
+    }
+    for &text in &NO_NAMES {
+        assert!(rt; Name::new(text.as_bytes()).is_err(), "{text} is no name");
+    }
 }
 
 // A name of these bytes, which are one.
@@ -212,11 +162,9 @@ fn named(rt: &impl Abort, bytes: &[u8]) -> Name {
 }
 
 #[test]
-fn names_print_and_compare_by_their_bytes(rt: HostRuntime) -> Result<(), Fail> {
+fn names_print_and_compare_by_their_bytes(rt: HostRuntime) {
     let (one, other) = (named(&rt, b"S1"), named(&rt, b"S12"));
-    assert!(rt; one == named(&rt, b"S1"));
-    assert!(rt; one != other);
-    let text = format!(in rt.alloc(); "{one} {other}")?;
+    assert!(rt; one == named(&rt, b"S1") && one != other);
+    let text = format!(in rt.alloc(); "{one} {other}").expect(&rt, "memory");
     assert_eq!(rt; text.as_str(), "S1 S12");
-    Ok(())
 }
