@@ -45,11 +45,18 @@ pub(crate) fn audits_legal<R: Abort + Threads + Wait + AllocGlobal + Sync>(
     drop(line);
 }
 
+fn audits_each_legal<R: Abort + Threads + Wait + AllocGlobal + Sync>(
+    rt: &R,
+    days: &[(&str, &str)],
+) {
+    for &(input, output) in days {
+        audits_legal(rt, output, input);
+    }
+}
+
 #[test]
 fn calls_journals_of_days_legal(rt: HostRuntime) {
-    for (input, output) in DAYS {
-        audits_legal(&rt, output, input);
-    }
+    audits_each_legal(&rt, &DAYS);
     audits_legal(&rt, TWO_RECALLS.1, TWO_RECALLS.0);
     audits_legal(&rt, MET, MEETING);
 }
@@ -88,7 +95,7 @@ const JUDGED: [(&str, u8, &str); 7] = [
 
 #[test]
 fn judges_what_is_no_legal_journal(rt: HostRuntime) {
-    for (journal, status, line) in JUDGED {
+    for &(journal, status, line) in &JUDGED {
         audits(&rt, &[journal, DAYS[ISSUED].0], status, line);
     }
     audits(&rt, &[DAYS[ISSUED].1], 5, "refused: record 1 end\n");

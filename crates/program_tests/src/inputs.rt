@@ -1,11 +1,72 @@
 // Day files as they come in: marked, with other ends of lines, cut off anywhere, and with as many commands as are allowed and one more.
 
-use crate::days::{DAYS, ISSUED};
+use crate::days::{DAYS, GIVEN_BACK, ISSUED, NO_ROAD, OVER_ALLOWANCE, RATED, RECALLING};
 use crate::runs::{ends, run_words};
+use day_text::{Order, read_day};
+use office_words::Command;
 use std::alloc::Global;
 use std::process::Abort;
 use std::sync::Wait;
 use std::thread::Threads;
+
+// The kind of a command by a letter.
+fn letter(command: &Command) -> char {
+    match command {
+        Command::Apply(_) => 'a',
+        Command::Post(_) => 'p',
+        Command::Day(_) => 'd',
+        Command::Surrender(_) => 'g',
+        Command::Show(_) => 's',
+    }
+}
+
+// The kinds of commands in their order.
+fn kinds(rt: &impl Abort, alloc: Global, orders: &[Order]) -> String {
+    let mut kinds = String::new(alloc);
+    for order in orders {
+        kinds.push(letter(&order.command)).expect(rt, "memory");
+    }
+    kinds
+}
+
+// Which of the days, how many nodes, segments, spans, trucks and actors it has, and the kinds of its commands.
+const READ: [(usize, [usize; 5], &str); 5] = [
+    (RECALLING, [2, 1, 0, 2, 1], "aapsp"),
+    (NO_ROAD, [3, 1, 0, 1, 1], "aaa"),
+    (GIVEN_BACK, [2, 1, 0, 1, 1], "adggs"),
+    (OVER_ALLOWANCE, [2, 1, 0, 1, 1], "a"),
+    (RATED, [2, 1, 1, 1, 1], "apa"),
+];
+
+// A day file of 2 March 2026 is read as a row says.
+fn is_read(rt: &impl Abort, alloc: Global, text: &str, wanted: &[usize; 5], letters: &str) {
+    let file = read_day(alloc, text.as_bytes()).expect(rt, text);
+    let date = file.day().text();
+    let network = file.base().network();
+    let found = [
+        network.nodes() as usize,
+        network.segments() as usize,
+        network.spans() as usize,
+        file.base().fleet().len(),
+        file.actors().len(),
+    ];
+    let kinds = kinds(rt, alloc, file.commands());
+    drop(file);
+    assert!(rt; date.as_slice() == b"2026-03-02".as_slice(), "{text}");
+    assert!(rt; found == *wanted && kinds.as_str() == letters, "{text}");
+}
+
+fn are_read(rt: &impl Abort, alloc: Global, days: &[(&str, &str)]) {
+    for (day, counts, letters) in &READ {
+        let (input, _) = days.get(*day).expect(rt, letters);
+        is_read(rt, alloc, input, counts, letters);
+    }
+}
+
+#[test]
+fn reads_what_each_day_has(rt: HostRuntime) {
+    are_read(&rt, rt.alloc(), &DAYS);
+}
 
 // A text behind a mark, with these bytes where its lines end.
 fn written(rt: &impl Abort, alloc: Global, mark: &[u8], text: &str, end: &[u8]) -> Vec<u8> {
@@ -35,12 +96,11 @@ fn ends_as_written<R: Abort + Threads + Wait + AllocGlobal + Sync>(
     let (mark, end) = written_as;
     let bytes = written(rt, rt.alloc(), mark, day.0, end);
     ends(rt, &["day"], bytes.as_slice(), 0, day.1);
-    drop(bytes);
 }
 
 #[test]
 fn takes_a_mark_and_other_ends_of_lines(rt: HostRuntime) {
-    for form in WRITTEN {
+    for &form in &WRITTEN {
         ends_as_written(&rt, DAYS[ISSUED], form);
     }
 }
@@ -93,20 +153,19 @@ fn asking(rt: &impl Abort, alloc: Global, count: u32, after: &str) -> String {
     repeated(rt, alloc, before, "show,ann,0,,,,,\n", count, after)
 }
 
-// As many commands as a day may have are carried out, and the next is refused.
+// As many commands as a day may have are carried out.
 #[test]
-fn counts_commands(rt: HostRuntime) {
+fn carries_out_4096_commands(rt: HostRuntime) {
     let alloc = rt.alloc();
-    let (most, more) = (
-        asking(&rt, alloc, 4_096, "end,,,,,,,\n"),
-        asking(&rt, alloc, 4_097, ""),
-    );
+    let day = asking(&rt, alloc, 4_096, "end,,,,,,,\n");
     let line = "1 show 0 = unknown\n";
     let journal = repeated(&rt, alloc, "permit-journal 3\n", line, 4_096, "end 4096\n");
-    ends(&rt, &["day"], most.as_bytes(), 0, journal.as_str());
+    ends(&rt, &["day"], day.as_bytes(), 0, journal.as_str());
+}
+
+#[test]
+fn refuses_a_command_more(rt: HostRuntime) {
+    let day = asking(&rt, rt.alloc(), 4_097, "");
     let refused = "refused: record 4099 commands\n";
-    ends(&rt, &["day"], more.as_bytes(), 6, refused);
-    drop(most);
-    drop(more);
-    drop(journal);
+    ends(&rt, &["day"], day.as_bytes(), 6, refused);
 }

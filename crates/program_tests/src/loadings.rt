@@ -8,8 +8,42 @@ use crate::runs::{FHWA, ends};
 // thousandths. On 1,200 in the truck governs, and on 1,800 in the lane load: (20 * 1800 * 1800 + 13500 * 1800) / 3 and
 // (80 * 1800 + 78000) / 3.
 const DESIGN: (&str, &str) = (
-    "truck,HS20,ACME,150,102,500,0:8000 168:32000 336:32000,\nprobe,240,823,,,,,\nprobe,240,962,,,,,\nprobe,240,963,,,,,\nprobe,1200,999,,,,,\nprobe,1200,1000,,,,,\nprobe,1800,1000,,,,,\nend,,,,,,,\n",
-    "span 240\nmoment 2332800/1 military\nshear 43200/1 military\nrating 823 moment\nspan 240\nmoment 2332800/1 military\nshear 43200/1 military\nrating 962 shear\nspan 240\nmoment 2332800/1 military\nshear 43200/1 military\nrating 963 fits\nspan 1200\nmoment 18287040/1 truck\nshear 65280/1 truck\nrating 999 moment\nspan 1200\nmoment 18287040/1 truck\nshear 65280/1 truck\nrating 1000 fits\nspan 1800\nmoment 29700000/1 lane\nshear 74000/1 lane\nrating 1000 fits\n",
+    "\
+truck,HS20,ACME,150,102,500,0:8000 168:32000 336:32000,
+probe,240,823,,,,,
+probe,240,962,,,,,
+probe,240,963,,,,,
+probe,1200,999,,,,,
+probe,1200,1000,,,,,
+probe,1800,1000,,,,,
+end,,,,,,,
+",
+    "\
+span 240
+moment 2332800/1 military
+shear 43200/1 military
+rating 823 moment
+span 240
+moment 2332800/1 military
+shear 43200/1 military
+rating 962 shear
+span 240
+moment 2332800/1 military
+shear 43200/1 military
+rating 963 fits
+span 1200
+moment 18287040/1 truck
+shear 65280/1 truck
+rating 999 moment
+span 1200
+moment 18287040/1 truck
+shear 65280/1 truck
+rating 1000 fits
+span 1800
+moment 29700000/1 lane
+shear 74000/1 lane
+rating 1000 fits
+",
 );
 
 // The options, the input, and the report on a convoy. With 48 in between two HS20-44 trucks the rear axle of the first and the
@@ -19,17 +53,45 @@ const DESIGN: (&str, &str) = (
 const CONVOYS: [(&[&str], &str, &str); 3] = [
     (
         &["convoy", "--trucks", "2", "--gap", "48"],
-        "truck,HS20,ACME,150,102,500,0:8000 168:32000 336:32000,\nprobe,240,1152,,,,,\nprobe,240,1151,,,,,\nend,,,,,,,\n",
-        "convoy 2 gap 48 axles 6 gross 144000\nspan 240\nmoment 2211840/1\nshear 42400/1\nrating 1152 fits\nspan 240\nmoment 2211840/1\nshear 42400/1\nrating 1151 moment\n",
+        "\
+truck,HS20,ACME,150,102,500,0:8000 168:32000 336:32000,
+probe,240,1152,,,,,
+probe,240,1151,,,,,
+end,,,,,,,
+",
+        "\
+convoy 2 gap 48 axles 6 gross 144000
+span 240
+moment 2211840/1
+shear 42400/1
+rating 1152 fits
+span 240
+moment 2211840/1
+shear 42400/1
+rating 1151 moment
+",
     ),
     (
         &["convoy"],
-        "truck,HS20,ACME,150,102,500,0:8000 168:32000 336:32000,\nprobe,240,1000,,,,,\nend,,,,,,,\n",
-        "convoy 2 gap 360 axles 6 gross 144000\nspan 240\nmoment 1920000/1\nshear 41600/1\nrating 1000 fits\n",
+        "\
+truck,HS20,ACME,150,102,500,0:8000 168:32000 336:32000,
+probe,240,1000,,,,,
+end,,,,,,,
+",
+        "\
+convoy 2 gap 360 axles 6 gross 144000
+span 240
+moment 1920000/1
+shear 41600/1
+rating 1000 fits
+",
     ),
     (
         &["--trucks=3", "convoy"],
-        "truck,HS20,ACME,150,102,500,0:8000 168:32000 336:32000,\nend,,,,,,,\n",
+        "\
+truck,HS20,ACME,150,102,500,0:8000 168:32000 336:32000,
+end,,,,,,,
+",
         "convoy 3 gap 360 axles 9 gross 216000\n",
     ),
 ];
@@ -38,7 +100,7 @@ const CONVOYS: [(&[&str], &str, &str); 3] = [
 #[test]
 fn reports_design_loads_and_convoys(rt: HostRuntime) {
     ends(&rt, &["design"], DESIGN.0.as_bytes(), 0, DESIGN.1);
-    for (words, input, output) in CONVOYS {
+    for &(words, input, output) in &CONVOYS {
         ends(&rt, words, input.as_bytes(), 0, output);
     }
 }
@@ -64,7 +126,7 @@ const REFUSED: [(&[&str], &str, &str); 6] = [
 
 #[test]
 fn refuses_trucks_that_are_no_convoy(rt: HostRuntime) {
-    for (words, input, line) in REFUSED {
+    for &(words, input, line) in &REFUSED {
         ends(&rt, words, input.as_bytes(), 5, line);
     }
 }

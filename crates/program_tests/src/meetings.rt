@@ -133,7 +133,7 @@ fn two_actors_find_what_they_propose_at_once(rt: HostRuntime) {
     let came = gate.came.load(Ordering::SeqCst);
     assert!(rt; ran.status == 0 && came == 6 && gate.failed.load(Ordering::SeqCst) == 0);
     let mut is_issued = false;
-    for journal in BOTH_ISSUED {
+    for &journal in &BOTH_ISSUED {
         is_issued |= ran.text.as_slice() == journal.as_bytes();
     }
     assert!(rt; is_issued);
