@@ -20,7 +20,7 @@ MAIN = """// Holds a snapshot of each of 4,096 versions, where one is asked for,
 
 ghost use Rattle.std.specs.Prelude.{◌≡◌};
 
-use office_io::Name;
+use names::Name;
 use restriction_log::Change;
 use road_graph::Network;
 use snapshot_store::{Snapshot, Store};
@@ -132,7 +132,7 @@ def main() -> int:
     """Takes the words of the command line, of which there are none."""
     parser(__doc__).parse_args()
     with tempfile.TemporaryDirectory() as folder:
-        program = built(folder, "hold_snapshots", "snapshot_store", FILES)
+        program = built(folder, "hold_snapshots", ["snapshot_store"], FILES)
         for text in (b"", b"keep"):
             held = most_memory(program, text)
             print(f"{held.printed} snapshots held: {held.megabytes:.1f} MB at most")

@@ -8,7 +8,7 @@ import re
 import shutil
 import subprocess
 import sys
-from collections.abc import Callable, Mapping
+from collections.abc import Callable, Iterable, Mapping
 from pathlib import Path
 from typing import NoReturn
 
@@ -46,20 +46,20 @@ def uses_of_crates() -> dict[str, list[str]]:
     return {crate: line.split() for crate, line in re.findall(r"^(\w+)[^:#\n]*:(.*)", crates, re.M)}
 
 
-def crates_below(top: str, uses: Mapping[str, list[str]]) -> set[str]:
-    """A crate and all that it rests on."""
+def crates_below(tops: Iterable[str], uses: Mapping[str, list[str]]) -> set[str]:
+    """Some crates and all that they rest on."""
     below: set[str] = set()
-    more = {top}
+    more = set(tops)
     while more - below:
         below |= more
         more = {used for crate in below for used in uses.get(crate, [])}
     return below
 
 
-def built(folder: str, name: str, top: str, files: Mapping[str, str]) -> str:
-    """Builds a program of these files over a crate of the repository and all that are below it, and gives its path."""
+def built(folder: str, name: str, tops: Iterable[str], files: Mapping[str, str]) -> str:
+    """Builds a program of these files over crates of the repository and all that are below them, and gives its path."""
     there, uses = Path(folder), uses_of_crates()
-    below = crates_below(top, uses)
+    below = crates_below(tops, uses)
     own = sorted(below & set(uses))
     lines = [f"{crate}: {' '.join(uses[crate])}" for crate in own] + [f"{name}: {' '.join(sorted(below))}"]
     (there / "crates.txt").write_text("".join(f"{line}\n" for line in lines), encoding="utf-8")

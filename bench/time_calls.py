@@ -141,7 +141,7 @@ GRID = """// Searches on a grid of 41 by 41 nodes.
 
 ghost use Rattle.std.specs.Prelude.{◌≡◌, ◌<◌, length, IfSome};
 
-use office_io::Name;
+use names::Name;
 use road_graph::Network;
 use route_search::{Heights, search, shortest_walk};
 use std::alloc::Global;
@@ -299,7 +299,7 @@ def main() -> int:
     """Takes the words of the command line, of which there are none."""
     parser(__doc__).parse_args()
     with tempfile.TemporaryDirectory() as folder:
-        fastest = best(built(folder, "time_calls", "trip_analysis", FILES))
+        fastest = best(built(folder, "time_calls", ("moment_peak", "shear_peak", "route_search"), FILES))
     searches = fastest.pop(SIDE_OF_GRID)
     tell_peaks(fastest)
     tell_searches(searches)

@@ -93,7 +93,7 @@ def main() -> int:
     words = asked.parse_args()
     text = repeated(words.journal.read_bytes(), words.megabytes * 1000000)
     with tempfile.TemporaryDirectory() as folder:
-        times = best(built(folder, "time_journal", "journal_reader", {"src/main.rt": MAIN}), text)
+        times = best(built(folder, "time_journal", ["journal_reader"], {"src/main.rt": MAIN}), text)
     lines = text.count(b"\n")
     print(f"{len(text)} bytes in {lines} lines")
     print(f"printing: {len(text) * 1000 / times.printing:.0f} MB/s")
