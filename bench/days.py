@@ -1,12 +1,15 @@
 #!/usr/bin/env python3
 """The inputs that are measured: made days, days near the limits, long check files, and trips over grids of roads.
 
-The same numbers always give the same bytes. Run as a program it writes a day near the limits:
+The same numbers always give the same bytes. Run as a program it writes a day near the limits by so many actors, 1 to 16; or
+one on which 4,000 permits are recalled at once; or one of trips to a node that only closed segments reach:
 
     bench/days.py ACTORS > day.csv
+    bench/days.py recalls > day.csv
+    bench/days.py shut > day.csv
 """
 import sys
-from collections.abc import Iterable, Iterator
+from collections.abc import Callable, Iterable, Iterator
 from random import Random
 from typing import NamedTuple
 
@@ -252,14 +255,15 @@ def shut_goal(count: int = COMMANDS) -> bytes:
     return text([*rows, record("actor", "a0"), *(applies(0, start % goal, goal) for start in range(count))])
 
 
+DAYS: dict[str, Callable[[], bytes]] = {"recalls": many_recalls, "shut": shut_goal}
+
+
 def main() -> int:
     """Takes the words of the command line."""
     asked = parser(__doc__)
-    asked.add_argument("actors", type=int, metavar="ACTORS", help="how many actors the day has, 1 to 16")
-    words = asked.parse_args()
-    if not 1 <= words.actors <= 16:
-        asked.error("ACTORS is 1 to 16")
-    sys.stdout.buffer.write(near_the_limits(words.actors))
+    asked.add_argument("day", metavar="DAY", choices=[*map(str, range(1, 17)), *DAYS], help="1 to 16, or recalls, or shut")
+    day = asked.parse_args().day
+    sys.stdout.buffer.write(DAYS[day]() if day in DAYS else near_the_limits(int(day)))
     return 0
 
 

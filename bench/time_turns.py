@@ -22,7 +22,7 @@ from programs import ended, parser, whole_path
 TRACING = Path("/sys/kernel/tracing")
 EVENTS = "permit_turns"
 # the function that carries out a call under the lock, as the linker names it
-STEP = re.compile(r"\boffice_core::.*\bOffice::step\b")
+STEP = re.compile(r"\boffice_core::.*\bCountedOffice::step\b")
 LARGE, USUAL = "65536", "1408"
 
 
