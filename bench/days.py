@@ -2,9 +2,11 @@
 """The inputs that are measured: made days, days near the limits, long check files, and trips over grids of roads.
 
 The same numbers always give the same bytes. Run as a program it writes a day near the limits by so many actors, 1 to 16; or
-one on which 4,000 permits are recalled at once; or one of trips to a node that only closed segments reach:
+one of postings alone, one on which 4,000 permits are recalled at once, or one of trips to a node that only closed segments
+reach:
 
     bench/days.py ACTORS > day.csv
+    bench/days.py postings > day.csv
     bench/days.py recalls > day.csv
     bench/days.py shut > day.csv
 """
@@ -157,12 +159,8 @@ def commands(rng: Random, actors: int, count: int, between: Between) -> Iterator
             yield record("apply", actor, *application(rng, between))
 
 
-def near_the_limits(actors: int, seed: int = 1) -> bytes:
-    """4,096 commands on 4,096 nodes, 16,384 segments and 2,048 spans, with 64 trucks of 32 axles.
-
-    Each trip has another goal.
-    """
-    rng = Random(seed)
+def roads_near_the_limits(rng: Random, actors: int) -> tuple[list[str], int, Between]:
+    """Records of 4,096 nodes, 16,384 segments and 2,048 spans, with 64 trucks of 32 axles and so many actors."""
     segments, between = grid_with_chords(rng)
     rows = [record("day", "2026-01-01")] + [record("node", f"n{i}") for i in range(SIDE * SIDE)]
     rows += [record("segment", f"s{i}", f"n{it.start}", f"n{it.end}", it.feet) for i, it in enumerate(segments)]
@@ -170,7 +168,21 @@ def near_the_limits(actors: int, seed: int = 1) -> bytes:
     rows += spans(rng, len(segments))
     rows += [record("truck", f"t{i}", f"c{i % 7}", *long_truck(rng)) for i in range(TRUCKS)]
     rows += [record("actor", f"a{i}") for i in range(actors)]
-    return text([*rows, *commands(rng, actors, len(segments), between)])
+    return rows, len(segments), between
+
+
+def near_the_limits(actors: int, seed: int = 1) -> bytes:
+    """4,096 commands on the greatest network. Each trip has another goal."""
+    rng = Random(seed)
+    rows, count, between = roads_near_the_limits(rng, actors)
+    return text([*rows, *commands(rng, actors, count, between)])
+
+
+def many_postings(postings: int = COMMANDS, seed: int = 1) -> bytes:
+    """So many postings by one actor on the greatest network, and nothing else."""
+    rng = Random(seed)
+    rows, count, _ = roads_near_the_limits(rng, 1)
+    return text([*rows, *(record("post", "a0", *posting(rng, count)) for _ in range(postings))])
 
 
 # A long check file ----------------------------------------------------------------------------------------------------
@@ -255,13 +267,13 @@ def shut_goal(count: int = COMMANDS) -> bytes:
     return text([*rows, record("actor", "a0"), *(applies(0, start % goal, goal) for start in range(count))])
 
 
-DAYS: dict[str, Callable[[], bytes]] = {"recalls": many_recalls, "shut": shut_goal}
+DAYS: dict[str, Callable[[], bytes]] = {"postings": many_postings, "recalls": many_recalls, "shut": shut_goal}
 
 
 def main() -> int:
     """Takes the words of the command line."""
     asked = parser(__doc__)
-    asked.add_argument("day", metavar="DAY", choices=[*map(str, range(1, 17)), *DAYS], help="1 to 16, or recalls, or shut")
+    asked.add_argument("day", metavar="DAY", choices=[*map(str, range(1, 17)), *DAYS], help="1 to 16, or postings, recalls or shut")
     day = asked.parse_args().day
     sys.stdout.buffer.write(DAYS[day]() if day in DAYS else near_the_limits(int(day)))
     return 0
