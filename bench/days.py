@@ -1,9 +1,9 @@
 #!/usr/bin/env python3
 """The inputs that are measured: made days, days near the limits, long check files, and trips over grids of roads.
 
-The same numbers always give the same bytes. Run as a program it writes a day near the limits by so many actors, 1 to 16; or
-one of postings alone, one on which 4,000 permits are recalled at once, or one of trips to a node that only closed segments
-reach:
+The same numbers always give the same bytes. Run as a program it writes a day near the limits by so many actors, 1 to
+16; or one of postings alone, one on which 4,000 permits are recalled at once, or one of trips to a node that only
+closed segments reach:
 
     bench/days.py ACTORS > day.csv
     bench/days.py postings > day.csv
@@ -273,7 +273,8 @@ DAYS: dict[str, Callable[[], bytes]] = {"postings": many_postings, "recalls": ma
 def main() -> int:
     """Takes the words of the command line."""
     asked = parser(__doc__)
-    asked.add_argument("day", metavar="DAY", choices=[*map(str, range(1, 17)), *DAYS], help="1 to 16, or postings, recalls or shut")
+    choices = [*map(str, range(1, 17)), *DAYS]
+    asked.add_argument("day", metavar="DAY", choices=choices, help="1 to 16, or postings, recalls or shut")
     day = asked.parse_args().day
     sys.stdout.buffer.write(DAYS[day]() if day in DAYS else near_the_limits(int(day)))
     return 0
