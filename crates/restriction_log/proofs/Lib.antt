@@ -1,5 +1,5 @@
 pub mod Elsewhere
-pub mod Filling
 pub mod Paging
+pub mod Places
 pub mod Stamping
 pub mod Standing

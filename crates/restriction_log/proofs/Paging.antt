@@ -1,69 +1,141 @@
--- Where an item of a list stands in its pages.
-use Rattle.std.proofs.Common.{◌≡◌, ◌+◌, ◌-◌, ◌*◌, ◌/◌, ◌%◌, ◌<◌, ◌≤◌, ◌∙◌, ◌∷◌, ◌++◌, [], ℕ, List, length, get_or, set, map, take, ap, sym, refl, zero, suc, arith}
-use Rattle.std.specs.List.{flat_map}
-use Rattle.std.proofs.lemmas.List.{map-set, length-append, length-take, get_or-take, get_or_default, set-append_left, set-append_right}
-use Rattle.std.proofs.Math.Seq.{take-set-lt}
-use Rattle.std.proofs.lemmas.List.Folds.{flat_map-map}
+-- Where an item of a list stands in its parts, and how a list is cut into parts.
+use Rattle.std.proofs.Common.{◌≡◌, ◌+◌, ◌-◌, ◌*◌, ◌<◌, ◌≤◌, ◌∙◌, ◌∷◌, ◌++◌, [], ℕ, List, inl, inr, length, get_or, set, map, min, take, ap, sym, refl, subst, zero, suc, arith, mul-add, mul-one, mul-le-mul_left}
+use Rattle.std.specs.List.{AllZip}
+use Rattle.std.proofs.lemmas.Bool.{cases_lt}
+use Rattle.std.proofs.lemmas.Grind.{flat_map-append}
+use Rattle.std.proofs.lemmas.List.{append-nil, append_assoc, length-append, length-set, map-append, map-set, nil_from_length, set-append_left, set-append_right, take-append-le, take_all, take_more}
 use Rattle.std.proofs.lemmas.List.Concat.{get_or-flat_map}
+use Rattle.restriction_log.specs.Pages.{AreParts, joined}
 
-module _ {X T : Type 0} (f : X → List T) (whole : (x : X) → length (f x) ≡ 64) where
-  pub length-pages : (xs : List X) → length (flat_map f xs) ≡ 64 * length xs
-  length-pages [] = refl
-  length-pages (x ∷ xs) = omega (arith, length-append (f x) (flat_map f xs), whole x, length-pages xs)
+-- lists that are the same by f, place by place
+pub same_by : {X Y : Type 0} (f : X → Y) (xs ys : List X) → AllZip (λ x y. f y ≡ f x) xs ys → map f ys ≡ map f xs
+same_by f [] [] all = refl
+same_by f [] (y ∷ ys) all = absurd all
+same_by f (x ∷ xs) [] all = absurd all
+same_by f (x ∷ xs) (y ∷ ys) all = ap (λ z. z ∷ map f ys) all.0 ∙ ap (λ l. f x ∷ l) (same_by f xs ys all.1)
 
-  -- an item stands in its page
-  pub item_at : (xs : List X) (i : ℕ) (e : X) (d : T) → i < 64 * length xs → get_or (flat_map f xs) i d ≡ get_or (f (get_or xs (i / 64) e)) (i % 64) d
-  item_at xs i e d h =
-      let k : i / 64 < length xs = omega arith in
-      let before : length (flat_map f (take (i / 64) xs)) ≡ 64 * (i / 64) = length-pages (take (i / 64) xs) ∙ ap (λ n. 64 * n) (omega (arith, length-take (i / 64) xs)) in
-      let at = get_or-flat_map f xs (i / 64) (i % 64) e d k (omega (arith, whole (get_or xs (i / 64) e))) in
-      let place : length (flat_map f (take (i / 64) xs)) + i % 64 ≡ i = omega arith in
-      ap (λ n. get_or (flat_map f xs) n d) (sym place) ∙ at
+-- and with one of them replaced
+pub set_shared : {X Y : Type 0} (f : X → Y) (xs ys zs : List X) (i : ℕ) (y : X) → AllZip (λ x y. f y ≡ f x) xs ys → zs ≡ set ys i y
+    → map f zs ≡ set (map f xs) i (f y)
+set_shared f xs ys zs i y all is = ap (map f) is ∙ (map-set f ys i y ∙ ap (λ l. set l i (f y)) (same_by f xs ys all))
 
-  -- a list with one page replaced, which is the one before with one item replaced
-  page_set : (xs : List X) (k j : ℕ) (e p : X) (y : T) → k < length xs → j < 64 → f p ≡ set (f (get_or xs k e)) j y
-      → flat_map f (set xs k p) ≡ set (flat_map f xs) (64 * k + j) y
-  page_set [] k j e p y within low same = absurd (omega (arith, within))
-  page_set (x ∷ xs) zero j e p y within low same =
-      let place : 64 * 0 + j ≡ j = omega arith in
-      ap (λ (l : List T). l ++ flat_map f xs) same ∙ (sym (set-append_left (f x) (flat_map f xs) j y (omega (arith, low, whole x)))
-      ∙ ap (λ n. set (flat_map f (x ∷ xs)) n y) (sym place))
-  page_set (x ∷ xs) (suc k) j e p y within low same =
-      let place : 64 * suc k + j - 64 ≡ 64 * k + j = omega arith in
-      let right = set-append_right (f x) (flat_map f xs) 64 (64 * suc k + j) y (whole x) (omega arith) in
-      ap (λ (l : List T). f x ++ l) (page_set xs k j e p y (omega (arith, within)) low same ∙ ap (λ n. set (flat_map f xs) n y) (sym place)) ∙ sym right
+-- with one more behind them
+pub map_pushed : {X Y : Type 0} (f : X → Y) (old new : List X) (x : X) → new ≡ old ++ x ∷ [] → map f new ≡ map f old ++ f x ∷ []
+map_pushed f old new x is = ap (map f) is ∙ map-append f old (x ∷ [])
 
-  pub item_set : (xs : List X) (i : ℕ) (e p : X) (y : T) → i < 64 * length xs → f p ≡ set (f (get_or xs (i / 64) e)) (i % 64) y
-      → flat_map f (set xs (i / 64) p) ≡ set (flat_map f xs) i y
-  item_set xs i e p y h same =
-      let place : 64 * (i / 64) + i % 64 ≡ i = omega arith in
-      page_set xs (i / 64) (i % 64) e p y (omega arith) (omega arith) same ∙ ap (λ n. set (flat_map f xs) n y) place
+module _ {T : Type 0} where
+  joined_push : (parts : List (List T)) (part : List T) → joined (parts ++ part ∷ []) ≡ joined parts ++ part
+  joined_push parts part = flat_map-append (λ p. p) parts (part ∷ []) ∙ ap (λ l. joined parts ++ l) (append-nil part)
 
-  -- what is read of the first n items
-  pub read_at : (xs : List X) (n i : ℕ) (e : X) (d y : T) → i < length (take n (flat_map f xs)) → n ≤ 64 * length xs → e ≡ get_or xs (i / 64) e
-      → y ≡ get_or (f e) (i % 64) y → y ≡ get_or (take n (flat_map f xs)) i d
-  read_at xs n i e d y within fits page item =
-      let below : i < n = omega (arith, within, length-take n (flat_map f xs)) in
-      let here : get_or (f (get_or xs (i / 64) e)) (i % 64) d ≡ get_or (f e) (i % 64) d = ap (λ p. get_or (f p) (i % 64) d) (sym page) in
-      let given : get_or (f e) (i % 64) d ≡ get_or (f e) (i % 64) y = get_or_default (f e) (i % 64) d y (omega (arith, whole e)) in
-      sym (get_or-take n (flat_map f xs) i d below ∙ (item_at xs i e d (omega (arith, below, fits)) ∙ (here ∙ (given ∙ sym item))))
+  length-joined_push : (parts : List (List T)) (part : List T) → length (joined (parts ++ part ∷ [])) ≡ length (joined parts) + length part
+  length-joined_push parts part = ap length (joined_push parts part) ∙ length-append (joined parts) part
 
-  -- the first n items with one replaced
-  pub set_first : (xs : List X) (n i : ℕ) (e p : X) (y : T) → i < length (take n (flat_map f xs)) → n ≤ 64 * length xs → e ≡ get_or xs (i / 64) e
-      → f p ≡ set (f e) (i % 64) y → take n (flat_map f (set xs (i / 64) p)) ≡ set (take n (flat_map f xs)) i y
-  set_first xs n i e p y within fits page same =
-      let below : i < n = omega (arith, within, length-take n (flat_map f xs)) in
-      let here : f p ≡ set (f (get_or xs (i / 64) e)) (i % 64) y = same ∙ ap (λ q. set (f q) (i % 64) y) page in
-      ap (take n) (item_set xs i e p y (omega (arith, below, fits)) here) ∙ take-set-lt n (flat_map f xs) i y below
+  -- an item of a part is replaced
+  joined_set : (parts : List (List T)) (k j : ℕ) (e part : List T) (y : T) → k < length parts → j < length (get_or parts k e)
+      → part ≡ set (get_or parts k e) j y → joined (set parts k part) ≡ set (joined parts) (length (joined (take k parts)) + j) y
+  joined_set [] k j e part y within inside same = absurd (omega (arith, within))
+  joined_set (p ∷ ps) zero j e part y within inside same =
+      let place : 0 + j ≡ j = omega arith in
+      ap (λ l. l ++ joined ps) same ∙ (sym (set-append_left p (joined ps) j y inside) ∙ ap (λ i. set (p ++ joined ps) i y) (sym place))
+  joined_set (p ∷ ps) (suc k) j e part y within inside same =
+      let long = length-append p (joined (take k ps)) in
+      let place : length (p ++ joined (take k ps)) + j - length p ≡ length (joined (take k ps)) + j = omega (arith, long) in
+      let right = set-append_right p (joined ps) (length p) (length (p ++ joined (take k ps)) + j) y refl (omega (arith, long)) in
+      ap (λ l. p ++ l) (joined_set ps k j e part y (omega (arith, within)) inside same ∙ ap (λ i. set (joined ps) i y) (sym place)) ∙ sym right
 
-  -- pages that have the same items make the same list
-  pub same_pages : (xs ys : List X) → map f ys ≡ map f xs → flat_map f ys ≡ flat_map f xs
-  same_pages xs ys same = sym (flat_map-map (λ (l : List T). l) f ys) ∙ (ap (flat_map (λ (l : List T). l)) same ∙ flat_map-map (λ (l : List T). l) f xs)
+  -- a part is replaced by one that is as long
+  length-joined_set : (parts : List (List T)) (k m : ℕ) (e part : List T) → k < length parts → length part ≡ length (get_or parts k e)
+      → length (joined (take m (set parts k part))) ≡ length (joined (take m parts))
+  length-joined_set [] k m e part within same = absurd (omega (arith, within))
+  length-joined_set (p ∷ ps) zero zero e part within same = refl
+  length-joined_set (p ∷ ps) zero (suc m) e part within same =
+      omega (arith, same, length-append p (joined (take m ps)), length-append part (joined (take m ps)))
+  length-joined_set (p ∷ ps) (suc k) zero e part within same = refl
+  length-joined_set (p ∷ ps) (suc k) (suc m) e part within same =
+      let rest = length-joined_set ps k m e part (omega (arith, within)) same in
+      omega (arith, rest, length-append p (joined (take m ps)), length-append p (joined (take m (set ps k part))))
 
-  -- and still do with one page replaced
-  pub set_shared : (xs ys : List X) (n i : ℕ) (e p : X) (y : T) → map f ys ≡ map f xs → i < length (take n (flat_map f xs)) → n ≤ 64 * length xs
-      → e ≡ get_or xs (i / 64) e → f p ≡ set (f e) (i % 64) y → take n (flat_map f (set ys (i / 64) p)) ≡ set (take n (flat_map f xs)) i y
-  set_shared xs ys n i e p y shared within fits page same =
-      let pages : map f (set ys (i / 64) p) ≡ map f (set xs (i / 64) p) =
-      map-set f ys (i / 64) p ∙ (ap (λ l. set l (i / 64) (f p)) shared ∙ sym (map-set f xs (i / 64) p)) in
-      ap (take n) (same_pages (set xs (i / 64) p) (set ys (i / 64) p) pages) ∙ set_first xs n i e p y within fits page same
+  -- parts of n items: item i is item j of part k, where i is n * k + j and j is below n
+  module _ (n : ℕ) (parts : List (List T)) (are : AreParts n parts) (i k j : ℕ) (place : n * k + j ≡ i) (low : j < n) (within : i < length (joined parts)) where
+    pub part_within : k < length parts
+    part_within = elim (cases_lt k (length parts)) [
+      | inl below ↦ below
+      | inr above ↦ absurd (omega (arith, ap (λ l. length (joined l)) (take_all k parts above), are k, place, within))
+    ]
+
+    part_begins : length (joined (take k parts)) ≡ n * k
+    part_begins = omega (arith, are k, place, within)
+
+    pub item_within : (e : List T) → j < length (get_or parts k e)
+    item_within e =
+        let more = ap (λ l. length (joined l)) (take_more parts k e part_within) ∙ length-joined_push (take k parts) (get_or parts k e) in
+        omega (arith, more, are (k + 1), mul-add n k 1, mul-one n, part_begins, place, low, within)
+
+    -- what is read
+    pub item_at : (e : List T) (d : T) → get_or (joined parts) i d ≡ get_or (get_or parts k e) j d
+    item_at e d =
+        let at : length (joined (take k parts)) + j ≡ i = omega (arith, part_begins, place) in
+        ap (λ m. get_or (joined parts) m d) (sym at) ∙ get_or-flat_map (λ p. p) parts k j e d part_within (item_within e)
+
+    -- what is written
+    pub item_set : (e part : List T) (y : T) → part ≡ set (get_or parts k e) j y → joined (set parts k part) ≡ set (joined parts) i y
+    item_set e part y same =
+        let at : length (joined (take k parts)) + j ≡ i = omega (arith, part_begins, place) in
+        joined_set parts k j e part y part_within (item_within e) same ∙ ap (λ m. set (joined parts) m y) at
+
+    -- and they are still parts of n items
+    pub still_parts : (e part : List T) (y : T) → part ≡ set (get_or parts k e) j y → AreParts n (set parts k part)
+    still_parts e part y same m =
+        let long : length part ≡ length (get_or parts k e) = ap length same ∙ length-set (get_or parts k e) j y in
+        let all : length (joined (set parts k part)) ≡ length (joined parts) = ap length (item_set e part y same) ∙ length-set (joined parts) i y in
+        length-joined_set parts k m e part part_within long ∙ (are m ∙ ap (min (n * m)) (sym all))
+
+  -- one part more
+  parts_push : (n : ℕ) (parts : List (List T)) (part : List T) → AreParts n parts → length (joined parts) ≡ n * length parts → length part ≤ n
+      → AreParts n (parts ++ part ∷ [])
+  parts_push n parts part are full fits k =
+      let more = length-joined_push parts part in elim (cases_lt (length parts) k) [
+        | inr early ↦ (
+            let before = ap (λ l. length (joined l)) (take-append-le k parts (part ∷ []) early) in
+            let below : n * k ≤ n * length parts = mul-le-mul_left n early in
+            omega (arith, before, are k, below, full, more)
+            )
+        | inl past ↦ (
+            let late : length parts + 1 ≤ k = omega (arith, past) in
+            let whole = ap (λ l. length (joined l)) (take_all k (parts ++ part ∷ []) (omega (arith, late, length-append parts (part ∷ [])))) in
+            let above : n * (length parts + 1) ≤ n * k = mul-le-mul_left n late in
+            omega (arith, whole, above, mul-add n (length parts) 1, mul-one n, full, fits, more)
+            )
+      ]
+
+  -- the parts so far and the rest are these items, and while there is a rest each part is full
+  pub record IsCut (n : ℕ) (items : List T) (made : List (List T)) (rest : List T) : Type 0 where
+    pub all : joined made ++ rest ≡ items
+    pub parts : AreParts n made
+    pub full : 0 < length rest → length (joined made) ≡ n * length made
+
+  pub cut_none : (n : ℕ) (items : List T) → IsCut n items [] items
+  cut_none n items = record {
+    all = refl;
+    parts = λ k. omega (arith, ap (λ (l : List (List T)). length (joined l)) (take_all k [] (omega arith)));
+    full = λ some. omega arith;
+  }
+
+  -- one part more, which has what is cut off the rest
+  pub cut_more : (n : ℕ) (items : List T) (parts more : List (List T)) (rest chunk part left : List T) → IsCut n items parts rest → 0 < length rest
+      → rest ≡ chunk ++ left → length chunk ≡ min n (length rest) → part ≡ chunk → more ≡ parts ++ part ∷ [] → IsCut n items more left
+  cut_more n items parts more rest chunk part left is some cut size same pushed =
+      let full = is.full some in
+      let lengths : length rest ≡ length part + length left = ap length cut ∙ (length-append chunk left ∙ ap (λ m. m + length left) (ap length (sym same))) in
+      let long : length (parts ++ part ∷ []) ≡ length parts + 1 = length-append parts (part ∷ []) in
+      let behind : joined parts ++ (part ++ left) ≡ items = ap (λ l. joined parts ++ (l ++ left)) same ∙ (ap (λ l. joined parts ++ l) (sym cut) ∙ is.all) in
+      subst (λ l. IsCut n items l left) (sym pushed) (record {
+        all = ap (λ l. l ++ left) (joined_push parts part) ∙ (append_assoc (joined parts) part left ∙ behind);
+        parts = parts_push n parts part is.parts full (omega (arith, size, ap length same));
+        full = λ more. length-joined_push parts part
+            ∙ omega (arith, full, long, more, lengths, size, ap length same, ap (λ m. n * m) long, mul-add n (length parts) 1, mul-one n);
+      })
+
+  -- no rest
+  pub cut_all : (n : ℕ) (items : List T) (parts : List (List T)) (rest : List T) → IsCut n items parts rest → length rest ≡ 0 → joined parts ≡ items
+  cut_all n items parts rest is none = sym (append-nil (joined parts)) ∙ (ap (λ l. joined parts ++ l) (sym (nil_from_length rest none)) ∙ is.all)

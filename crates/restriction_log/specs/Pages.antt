@@ -1,15 +1,32 @@
--- A list that is kept in pages.
-use Rattle.std.specs.Prelude.{List}
+-- A list that is kept in parts: its items in pages, and its pages in groups.
+use Rattle.std.specs.Prelude.{◌≡◌, ◌*◌, ℕ, List, length, map, min, take}
 use Rattle.std.specs.declared.alloc.Global.{Global}
-use Rattle.std.specs.declared.sync.Arc.{Arc}
+use Rattle.std.specs.declared.sync.ArcSlice.{ArcSlice}
 use Rattle.std.specs.List.{flat_map}
-use Rattle.std.specs.Arc.{arc_value}
-use Rattle.restriction_log.specs.declared.page.Page.{Page}
+use Rattle.std.specs.Arc.{arc_slice_items}
 
--- the items of a page
-abbrev pub page_items : {T : Type 0} → Arc (Page T) Global → List T
-page_items page = (arc_value page).items.items
+-- the parts, one behind the other
+abbrev pub joined : {T : Type 0} → List (List T) → List T
+joined parts = flat_map (λ part. part) parts
 
--- the items of all pages, in order
-abbrev pub items_in : {T : Type 0} → List (Arc (Page T) Global) → List T
-items_in pages = flat_map page_items pages
+-- each part has n items, and only the last may have fewer: the first k have n * k, or all that there are
+abbrev pub AreParts : {T : Type 0} → ℕ → List (List T) → Type 0
+AreParts n parts = (k : ℕ) → length (joined (take k parts)) ≡ min (n * k) (length (joined parts))
+
+-- each of these pages as its items
+abbrev pub as_pages : {T : Type 0} → List (ArcSlice T Global) → List (List T)
+as_pages pages = map arc_slice_items pages
+
+-- each of these groups as its pages
+abbrev pub as_groups : {T : Type 0} → List (ArcSlice (ArcSlice T Global) Global) → List (List (List T))
+as_groups groups = map as_pages (map arc_slice_items groups)
+
+-- the items of these groups, in order
+abbrev pub items_in : {T : Type 0} → List (ArcSlice (ArcSlice T Global) Global) → List T
+items_in groups = joined (joined (as_groups groups))
+
+-- the groups have 16 pages each and the pages 64 items each, of which there are so many
+pub record ArePaged {T : Type 0} (parts : List (List (List T))) (many : ℕ) : Type 0 where
+  pub groups : AreParts 16 parts
+  pub pages : AreParts 64 (joined parts)
+  pub count : length (joined (joined parts)) ≡ many

@@ -8,8 +8,9 @@
 //! the next one; and that where a segment was not changed after a version, its limits and the ratings of its spans are
 //! still those of that version.
 //!
-//! A state is kept in pages, and so are the stamps, which say which segments changed after a version. A posting copies one
-//! page of each; all other pages stay where they are, in as many states as have them in common.
+//! A state is kept in pages, which stand in groups, and so are the stamps, which say which segments changed after a version.
+//! A posting copies one page of each and the lists of owners above it: that of its group, and that of all groups. All else
+//! stays where it is, in as many states as have it in common.
 #![tactic(auto)]
 
 mod change;

@@ -15,7 +15,7 @@ pub(crate) fn base_values(alloc: Global, network: &Network) -> Result<Pages<Valu
     'segments: for i in 0..count {
         values.push(network.segment(i).base)?;
     }
-    Pages::of(alloc, &values, Values::default())
+    Pages::of(alloc, &values)
 }
 
 /// The base rating of each span.
@@ -27,5 +27,5 @@ pub(crate) fn base_ratings(alloc: Global, network: &Network) -> Result<Pages<u32
     'spans: for i in 0..count {
         ratings.push(network.span(i).rating)?;
     }
-    Pages::of(alloc, &ratings, 0)
+    Pages::of(alloc, &ratings)
 }

@@ -1,47 +1,80 @@
-// A page of a list.
+// Pages of a list, and groups of pages.
 
-ghost use Rattle.std.specs.Prelude.{◌≡◌, ◌<◌, ◌≤◌, length, take, slice_set, IfOk};
-ghost use Rattle.std.specs.Arc.{arc_value};
+ghost use Rattle.std.specs.Prelude.{◌≡◌, ◌<◌, length, map, slice_set, IfOk};
+ghost use Rattle.std.specs.Arc.{arc_slice_items};
+ghost use Rattle.restriction_log.specs.Pages.{AreParts, as_groups, as_pages, joined};
 
 use std::alloc::{AllocError, Global};
-use std::sync::Arc;
+use std::sync::ArcSlice;
 
-/// How many items a page has.
+/// How many items a page has. The last page of a list may have fewer.
 pub(crate) const PAGE: usize = 64;
 
-/// The items of 64 places in a row. A page has owners in many lists, and is never written.
-#[derive(Drop)]
-pub(crate) struct Page<T> {
-    pub(crate) items: Vec<T>,
-    ghost whole: { length items.items ≡ 64 },
-}
+/// How many pages a group has. The last group of a list may have fewer.
+pub(crate) const GROUP: usize = 16;
 
-/// A page that begins with these items.
-pub(crate) fn page_of<T: Copy + Drop>(
+/// Items in a row. A page has owners in many groups, and is never written.
+pub(crate) type Page<T> = ArcSlice<T, Global>;
+
+/// Pages in a row. A group has owners in many lists, and is never written.
+pub(crate) type Group<T> = ArcSlice<Page<T>, Global>;
+
+/// The pages of these items.
+pub(crate) fn pages_of<T: Copy + Drop>(
     alloc: Global,
     items: &[T],
-    filler: T,
-) -> Result<Arc<Page<T>>, AllocError>
-    requires { length items.now ≤ 64 }
-    ensures { IfOk result (λ page. take (length items.now) (arc_value page).items.items ≡ items.now) }
+) -> Result<Vec<Page<T>>, AllocError>
+    ensures items { IfOk result (λ pages. joined (as_pages pages.items) ≡ items.now) }
+    ensures parts { IfOk result (λ pages. AreParts 64 (as_pages pages.items)) }
 {
-    let mut page = Vec::with_capacity(alloc, PAGE)?;
-    page.extend_from_slice(items)?;
-    page.resize(PAGE, filler)?;
-    Ok(Arc::new(alloc, Page { items: page })?)
+    let mut pages = Vec::new(alloc);
+    'pages: for chunk in items.chunks(PAGE) {
+        pages.push(ArcSlice::from_slice(alloc, chunk)?)?;
+    }
+    Ok(pages)
 }
 
-/// A copy of the page with one item replaced.
+/// The groups of these pages, each of which gets one more owner.
+pub(crate) fn groups_of<T: Drop>(
+    alloc: Global,
+    pages: &[Page<T>],
+) -> Result<Vec<Group<T>>, AllocError>
+    ensures pages { IfOk result (λ groups. joined (as_groups groups.items) ≡ as_pages pages.now) }
+    ensures parts { IfOk result (λ groups. AreParts 16 (as_groups groups.items)) }
+{
+    let mut groups = Vec::new(alloc);
+    'groups: for chunk in pages.chunks(GROUP) {
+        groups.push(ArcSlice::from_clones(alloc, chunk)?)?;
+    }
+    Ok(groups)
+}
+
+/// A copy of the items with one of them replaced.
 pub(crate) fn page_with<T: Copy + Drop>(
     alloc: Global,
-    page: &Arc<Page<T>>,
+    items: &[T],
     at: usize,
     item: T,
-) -> Result<Arc<Page<T>>, AllocError>
-    requires { at < 64 }
-    ensures { IfOk result (λ copy. (arc_value copy).items.items ≡ slice_set (arc_value page.now).items.items at item) }
+) -> Result<Page<T>, AllocError>
+    requires { at < length items.now }
+    ensures { IfOk result (λ page. arc_slice_items page ≡ slice_set items.now at item) }
 {
-    let mut items = Vec::from_slice(alloc, &page.items)?;
-    items[at] = item;
-    Ok(Arc::new(alloc, Page { items })?)
+    let mut copy = Vec::from_slice(alloc, items)?;
+    copy[at] = item;
+    ArcSlice::from_vec(copy)
+}
+
+/// These pages with one of them replaced, or these groups: each other one gets one more owner.
+pub(crate) fn parts_with<T: Drop>(
+    alloc: Global,
+    parts: &[ArcSlice<T, Global>],
+    at: usize,
+    part: ArcSlice<T, Global>,
+) -> Result<ArcSlice<ArcSlice<T, Global>, Global>, AllocError>
+    requires { at < length parts.now }
+    ensures { IfOk result (λ copy. map arc_slice_items (arc_slice_items copy) ≡ slice_set (map arc_slice_items parts.now) at (arc_slice_items part)) }
+{
+    let mut copy = Vec::from_clones(alloc, parts)?;
+    copy[at] = part;
+    Ok(ArcSlice::from_vec(copy)?)
 }

@@ -40,7 +40,7 @@ impl Stamps {
         let count = network.segments() as usize;
         let zeros = vec![in alloc; 0; count]?;
         Ok(Stamps {
-            stamps: Pages::of(alloc, &zeros, 0)?,
+            stamps: Pages::of(alloc, &zeros)?,
             newest: vec![in alloc; 0; count / PAGE + 1]?,
         })
     }
@@ -53,7 +53,7 @@ impl Stamps {
         self.stamps.get(segment as usize)
     }
 
-    /// These stamps with that of one segment replaced: its page is copied, and the other pages get one more owner.
+    /// These stamps with that of one segment replaced: its page is copied, and all else gets one more owner.
     pub fn with(&self, alloc: Global, segment: u32, number: u32) -> Result<Stamps, NoMemory>
         requires { segment < length self.now }
         ensures { IfOk result (λ stamps. stamps ≡ slice_set self.now segment number) }

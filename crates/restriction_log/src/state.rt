@@ -58,8 +58,8 @@ impl State {
         self.ratings.get(span as usize)
     }
 
-    /// This state with one value replaced, that of the segment or span that the change names: its page is copied, and the
-    /// other pages get one more owner. The state has what its network takes.
+    /// This state with one value replaced, that of the segment or span that the change names: its page is copied, and all
+    /// else gets one more owner. The state has what its network takes.
     #[tactic(auto, using(crate::proofs::Standing::values_many_after, crate::proofs::Standing::ratings_many_after))]
     pub fn with(&self, alloc: Global, change: &Change) -> Result<State, NoMemory>
         requires { is_named self.now change.now ≡ true }
@@ -91,7 +91,7 @@ impl State {
         let limits = self.segment(segment).with(what, value);
         Ok(State {
             values: self.values.with(alloc, segment as usize, limits)?,
-            ratings: self.ratings.again(alloc)?,
+            ratings: self.ratings.again()?,
         })
     }
 
@@ -101,7 +101,7 @@ impl State {
         ensures { IfOk result (λ state. state ≡ with_replaced self.now (Rating span permille)) }
     {
         Ok(State {
-            values: self.values.again(alloc)?,
+            values: self.values.again()?,
             ratings: self.ratings.with(alloc, span as usize, permille)?,
         })
     }

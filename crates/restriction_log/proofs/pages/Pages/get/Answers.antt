@@ -1,13 +1,29 @@
-use Rattle.std.proofs.Common.{◌%◌, get_or, ap, ◌∙◌}
-use Rattle.std.specs.Arc.{arc_value}
-use Rattle.restriction_log.specs.Pages.{page_items}
-use Rattle.restriction_log.proofs.Paging.{read_at}
+use Rattle.std.proofs.Common.{arith}
+use Rattle.std.specs.Arc.{arc_slice_items}
+use Rattle.restriction_log.proofs.Places.{has_group, has_item, has_place, item_read}
 use Rattle.restriction_log.proofs.pages.Pages.get.Goals as goal
+
+pub bounds-deref-at : goal.bounds-deref-at
+bounds-deref-at g c = has_group (arc_slice_items c.self.inside.groups) _ c.self.invariant _ c.self.view_is c.args.i c.requires _ c.deref.ensures.value
+
+pub bounds-deref-at-2 : goal.bounds-deref-at-2
+bounds-deref-at-2 g c =
+    has_place (arc_slice_items c.self.inside.groups) _ c.self.invariant _ c.self.view_is c.args.i c.requires _ c.deref.ensures.value
+    c.index-deref-at.result c.index-deref-at.is _ c.deref-2.ensures.value
+
+pub offset_bounds-deref-i : goal.offset_bounds-deref-i
+offset_bounds-deref-i g c =
+    let below = has_item (arc_slice_items c.self.inside.groups) _ c.self.invariant _ c.self.view_is c.args.i c.requires _ c.deref.ensures.value
+    c.index-deref-at.result c.index-deref-at.is _ c.deref-2.ensures.value c.index-deref-at-2.result c.index-deref-at-2.is _ c.deref-3.ensures.value in
+    omega (arith, below)
+
+pub bounds-deref-i : goal.bounds-deref-i
+bounds-deref-i g c =
+    has_item (arc_slice_items c.self.inside.groups) _ c.self.invariant _ c.self.view_is c.args.i c.requires _ c.deref.ensures.value
+    c.index-deref-at.result c.index-deref-at.is _ c.deref-2.ensures.value c.index-deref-at-2.result c.index-deref-at-2.is _ c.deref-3.ensures.value
 
 pub returns : goal.returns
 returns g c d =
-    let i = c.args.i in
-    let within = rw (← c.self.view_is) at c.requires in
-    let item = c.index.ensures ∙ ap (λ p. get_or p.items.items (i % 64) c.index.result.now) c.deref.ensures in
-    read_at page_items (λ p. (arc_value p).whole) c.self.inside.pages.items c.self.inside.count i c.index-page.result.now d c.index.result.now
-    within c.self.invariant c.index-page.ensures item ∙ ap (λ xs. get_or xs i d) c.self.view_is
+    item_read (arc_slice_items c.self.inside.groups) _ c.self.invariant _ c.self.view_is c.args.i c.requires _ c.deref.ensures.value
+    c.index-deref-at.result c.index-deref-at.is _ c.deref-2.ensures.value c.index-deref-at-2.result c.index-deref-at-2.is _ c.deref-3.ensures.value
+    c.index-deref-i.result d c.index-deref-i.is
