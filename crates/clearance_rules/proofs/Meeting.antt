@@ -284,11 +284,11 @@ pub span_passed : (roads : Roads) (state : InForce) (axles : List Axle) (s : ℕ
     → is_none (limit_of_span roads state axles s (get_or list k 0)) ≡ true
     → first_of_spans roads state axles s (drop k list) ≡ first_of_spans roads state axles s (drop (k + 1) list)
 span_passed roads state axles s list k inside none =
-    next_span roads state axles axles s list k None inside refl (sym (is_none_only (limit_of_span roads state axles s (get_or list k 0)) none))
+    next_span roads state axles s list k None inside (sym (is_none_only (limit_of_span roads state axles s (get_or list k 0)) none))
 
 pub span_stops : (roads : Roads) (state : InForce) (axles : List Axle) (s : ℕ) (list : List ℕ) (k : ℕ) → k < length list
     → is_none (limit_of_span roads state axles s (get_or list k 0)) ≡ false
     → is_none (first_of_spans roads state axles s (drop k list)) ≡ false
 span_stops roads state axles s list k inside some =
     let limit = limit_of_span roads state axles s (get_or list k 0) in
-    rw (next_span roads state axles axles s list k limit inside refl refl) (some_or limit (first_of_spans roads state axles s (drop (k + 1) list)) some)
+    rw (next_span roads state axles s list k limit inside refl) (some_or limit (first_of_spans roads state axles s (drop (k + 1) list)) some)

@@ -7,7 +7,6 @@ use Rattle.axle_train.specs.declared.axle.Axle.{Axle}
 use Rattle.axle_limits.specs.Worst.{IsWorst, worst_of}
 use Rattle.axle_limits.specs.declared.worst_group.WorstGroup.{WorstGroup}
 use Rattle.span_rating.specs.declared.loading.Effects.{Effects}
-use Rattle.span_rating.specs.declared.judgement.Fit.{Fit}
 use Rattle.span_rating.specs.Judgement.{fit_of}
 use Rattle.span_rating.specs.Loading.{AreEffects}
 use Rattle.influence_line.specs.Peaks.{IsTrainPlaced, IsHs20Placed}
@@ -36,18 +35,18 @@ worst_named load g allowance s is same fails =
     rw (any_over load.train g allowance is, lt-ltb (allowance * g.limit) (1000 * g.weight) fails, ← same) refl
 
 -- a span is judged by the effects of the train and of the design truck
-pub judged : (axles : List Axle) (inches rating s i : ℕ) (truck design : Effects) (f : Fit) → IsTrain axles → 1 ≤ inches → inches ≤ 6000
-    → AreEffects (IsTrainPlaced axles) inches truck → AreEffects IsHs20Placed inches design → f ≡ fit_of truck design rating
-    → limit_of_fit f truck design rating s i ≡ span_limit axles inches rating s i
+pub judged : (axles : List Axle) (inches rating s i : ℕ) (truck design : Effects) → IsTrain axles → 1 ≤ inches → inches ≤ 6000
+    → AreEffects (IsTrainPlaced axles) inches truck → AreEffects IsHs20Placed inches design
+    → limit_of_fit (fit_of truck design rating) truck design rating s i ≡ span_limit axles inches rating s i
 unfolding span_limit
-judged axles inches rating s i truck design f train some long one other is =
-    rw (is, effects_are_one axles inches truck train some long one, design_is_one inches design some long other) refl
+judged axles inches rating s i truck design train some long one other =
+    rw (effects_are_one axles inches truck train some long one, design_is_one inches design some long other) refl
 
 -- the next of the spans that are left
-pub next_span : (roads : Roads) (state : InForce) (axles same : List Axle) (s : ℕ) (list : List ℕ) (k : ℕ) (limit : Option Limit) → k < length list
-    → same ≡ axles → limit ≡ limit_of_span roads state same s (get_or list k 0)
+pub next_span : (roads : Roads) (state : InForce) (axles : List Axle) (s : ℕ) (list : List ℕ) (k : ℕ) (limit : Option Limit) → k < length list
+    → limit ≡ limit_of_span roads state axles s (get_or list k 0)
     → first_of_spans roads state axles s (drop k list) ≡ option_or limit (first_of_spans roads state axles s (drop (k + 1) list))
-next_span roads state axles same s list k limit inside one is = rw (is, one, add-one, drop-cons list k 0 inside) refl
+next_span roads state axles s list k limit inside is = rw (is, add-one, drop-cons list k 0 inside) refl
 
 -- past the last span nothing fails
 pub no_more_spans : (roads : Roads) (state : InForce) (axles : List Axle) (s : ℕ) (list : List ℕ) (k : ℕ) → length list ≤ k

@@ -1,17 +1,20 @@
 // The first limit of a segment that a load fails.
 
-ghost use Rattle.std.specs.Prelude.{◌≡◌, ◌<◌, ◌+◌, ◌↔◌, length, None};
+ghost use Rattle.std.specs.Prelude.{◌≡◌, ◌<◌, ◌≤◌, ◌+◌, ◌↔◌, length, None};
 ghost use Rattle.axle_train.specs.Bounds.{IsTrain};
+ghost use Rattle.span_rating.specs.Judgement.{fit_of};
+ghost use Rattle.span_rating.specs.Loading.{AreSmall};
 ghost use Rattle.road_graph.specs.Roads.{IsRoads};
 ghost use Rattle.restriction_log.specs.States.{AreOf};
 ghost use Rattle.clearance_rules.specs.Limits.{posted_limit, group_limit, tridem_limit, weights_limit, limit_of_fit, limit_of_span, spans_limit, limit_of, Meets};
 
+use crate::crossing::Crossing;
 use crate::limit::Limit;
 use crate::load::Load;
 use crate::steps::Steps;
 use restriction_log::State;
 use road_graph::{Network, Values};
-use span_rating::{Effects, Fit, SpanStudy, fits};
+use span_rating::{Fit, SpanStudy, Study, fits};
 use std::sync::ledger::Ledger;
 
 /// The first limit of the segment that fails the load in this state, or none where the segment meets it.
@@ -37,31 +40,59 @@ pub fn first_failing<E: SpanStudy, L: Ledger>(
 {
     steps.tick();
     bounds(network, load);
-    first_limit(network, state, load, study, segment)
+    let crossing = Crossing {
+        network,
+        state,
+        load,
+        study,
+        segment,
+    };
+    crossing.first_limit()
 }
 
-/// The same, uncounted.
-fn first_limit<E: SpanStudy>(
-    network: &Network,
-    state: &State,
-    load: &Load,
-    study: &E,
-    segment: u32,
-) -> Option<Limit>
-    requires segment { segment < length network.now.segments }
-    requires state { AreOf network.now state.now }
-    requires train { IsTrain load.now.train }
-    requires study { E.axles study.now ≡ load.now.train }
-    ensures { result ≡ limit_of network.now state.now load.now segment }
-{
-    let values = state.segment(segment);
-    if let Some(limit) = posted_limit(&values, load, segment) {
-        return Some(limit);
+impl<E: SpanStudy> Crossing<'_, E> {
+    /// The first limit of the segment that fails the load.
+    fn first_limit(&self) -> Option<Limit>
+        requires { IsTrain self.now.load.now.train }
+        ensures { result ≡ limit_of self.now.network.now self.now.state.now self.now.load.now self.now.segment }
+    {
+        let values = self.state.segment(self.segment);
+        if let Some(limit) = posted_limit(&values, self.load, self.segment) {
+            return Some(limit);
+        }
+        if let Some(limit) = weights_limit(&values, self.load, self.segment) {
+            return Some(limit);
+        }
+        self.spans_limit()
     }
-    if let Some(limit) = weights_limit(&values, load, segment) {
-        return Some(limit);
+
+    /// The first failing limit of the spans of the segment.
+    fn spans_limit(&self) -> Option<Limit>
+        requires { IsTrain self.now.load.now.train }
+        ensures { result ≡ spans_limit self.now.network.now self.now.state.now self.now.load.now.train self.now.segment }
+    {
+        for span in self.network.spans_of(self.segment) {
+            if let Some(limit) = self.span_limit(*span) {
+                return Some(limit);
+            }
+        }
+        None
     }
-    spans_limit(network, state, load, study, segment)
+
+    /// The failing limit of one span, moment before shear.
+    fn span_limit(&self, span: u32) -> Option<Limit>
+        requires span { span < length self.now.network.now.spans }
+        requires train { IsTrain self.now.load.now.train }
+        ensures { result
+            ≡ limit_of_span self.now.network.now self.now.state.now self.now.load.now.train self.now.segment span }
+    {
+        let inches = self.network.span(span).inches;
+        let rating = self.state.rating(span);
+        if self.study.carries(inches, rating) {
+            return None;
+        }
+        limit_by(&self.study.of(inches), rating, self.segment, span)
+    }
 }
 
 /// That a network and the axles of a load are within their bounds, which no value of them shows by itself. A fact for the
@@ -164,63 +195,16 @@ fn group_limit(load: &Load, segment: u32, allowance: u32) -> Option<Limit>
     })
 }
 
-/// The first failing limit of the spans of the segment.
-fn spans_limit<E: SpanStudy>(
-    network: &Network,
-    state: &State,
-    load: &Load,
-    study: &E,
-    segment: u32,
-) -> Option<Limit>
-    requires segment { segment < length network.now.segments }
-    requires state { AreOf network.now state.now }
-    requires train { IsTrain load.now.train }
-    requires study { E.axles study.now ≡ load.now.train }
-    ensures { result ≡ spans_limit network.now state.now load.now.train segment }
+/// The limit that a span of this rating fails by, with the two effects that were compared.
+fn limit_by(effects: &Study, rating: u32, segment: u32, span: u32) -> Option<Limit>
+    requires truck { AreSmall effects.now.truck }
+    requires design { AreSmall effects.now.design }
+    requires rating { rating ≤ 100000 }
+    ensures { let truck = effects.now.truck in let design = effects.now.design in
+        result ≡ limit_of_fit (fit_of truck design rating) truck design rating segment span }
 {
-    for span in network.spans_of(segment) {
-        if let Some(limit) = span_limit(network, state, study, segment, *span) {
-            return Some(limit);
-        }
-    }
-    None
-}
-
-/// The failing limit of one span, moment before shear.
-fn span_limit<E: SpanStudy>(
-    network: &Network,
-    state: &State,
-    study: &E,
-    segment: u32,
-    span: u32,
-) -> Option<Limit>
-    requires span { span < length network.now.spans }
-    requires state { AreOf network.now state.now }
-    requires train { IsTrain (E.axles study.now) }
-    ensures { result ≡ limit_of_span network.now state.now (E.axles study.now) segment span }
-{
-    let inches = network.span(span).inches;
-    let rating = state.rating(span);
-    if study.carries(inches, rating) {
-        return None;
-    }
-    let effects = study.of(inches);
-    let fit = fits(&effects.truck, &effects.design, rating);
-    limit_of_fit(fit, &effects.truck, &effects.design, rating, segment, span)
-}
-
-/// The limit that a judgement of a span names, with the two effects that were compared.
-fn limit_of_fit(
-    fit: Fit,
-    truck: &Effects,
-    design: &Effects,
-    rating: u32,
-    segment: u32,
-    span: u32,
-) -> Option<Limit>
-    ensures { result ≡ limit_of_fit fit truck.now design.now rating segment span }
-{
-    match fit {
+    let Study { truck, design } = effects;
+    match fits(truck, design, rating) {
         Fit::Fits => None,
         Fit::Moment => Some(Limit::Moment {
             segment,

@@ -10,6 +10,7 @@
 //! a load is told without peaks; they are computed where a limit is named.
 #![tactic(auto)]
 
+mod crossing;
 mod first_limit;
 mod laws;
 mod limit;

@@ -5,6 +5,7 @@ ghost use Rattle.axle_train.specs.Bounds.{IsTrain};
 ghost use Rattle.restriction_log.specs.States.{AreOf, base_of};
 ghost use Rattle.clearance_rules.specs.Limits.{spans_limit, meets, Meets};
 
+use crate::crossing::Crossing;
 use crate::first_limit::{bounds, posted_limit, weights_limit};
 use crate::load::Load;
 use crate::steps::Steps;
@@ -34,7 +35,14 @@ pub fn meets<E: SpanStudy, L: Ledger>(
 {
     steps.tick();
     bounds(network, load);
-    is_met(network, state, load, study, segment)
+    let crossing = Crossing {
+        network,
+        state,
+        load,
+        study,
+        segment,
+    };
+    crossing.is_met()
 }
 
 /// Whether the segment meets the load before anything is posted, by the values with which the network begins.
@@ -54,46 +62,45 @@ pub fn meets_at_first<E: SpanStudy>(
     ensures { result ≡ meets network.now (base_of network.now) load.now segment }
 {
     bounds(network, load);
-    is_met(network, first, load, study, segment)
+    let crossing = Crossing {
+        network,
+        state: first,
+        load,
+        study,
+        segment,
+    };
+    crossing.is_met()
 }
 
-/// The same in any state, uncounted.
-fn is_met<E: SpanStudy>(
-    network: &Network,
-    state: &State,
-    load: &Load,
-    study: &E,
-    segment: u32,
-) -> bool
-    requires segment { segment < length network.now.segments }
-    requires state { AreOf network.now state.now }
-    requires train { IsTrain load.now.train }
-    requires study { E.axles study.now ≡ load.now.train }
-    ensures { result ≡ meets network.now state.now load.now segment }
-{
-    let values = state.segment(segment);
-    if posted_limit(&values, load, segment).is_some() {
-        return false;
-    }
-    if weights_limit(&values, load, segment).is_some() {
-        return false;
-    }
-    spans_carry(network, state, study, segment)
-}
-
-/// Whether every span of the segment carries the truck.
-fn spans_carry<E: SpanStudy>(network: &Network, state: &State, study: &E, segment: u32) -> bool
-    requires segment { segment < length network.now.segments }
-    requires state { AreOf network.now state.now }
-    requires train { IsTrain (E.axles study.now) }
-    ensures { result ≡ is_none (spans_limit network.now state.now (E.axles study.now) segment) }
-{
-    for span in network.spans_of(segment) {
-        let inches = network.span(*span).inches;
-        let rating = state.rating(*span);
-        if !study.carries(inches, rating) {
+impl<E: SpanStudy> Crossing<'_, E> {
+    /// Whether the segment meets the load.
+    fn is_met(&self) -> bool
+        requires { IsTrain self.now.load.now.train }
+        ensures { result ≡ meets self.now.network.now self.now.state.now self.now.load.now self.now.segment }
+    {
+        let values = self.state.segment(self.segment);
+        if posted_limit(&values, self.load, self.segment).is_some() {
             return false;
         }
+        if weights_limit(&values, self.load, self.segment).is_some() {
+            return false;
+        }
+        self.spans_carry()
     }
-    true
+
+    /// Whether every span of the segment carries the load.
+    fn spans_carry(&self) -> bool
+        requires { IsTrain self.now.load.now.train }
+        ensures { result
+            ≡ is_none (spans_limit self.now.network.now self.now.state.now self.now.load.now.train self.now.segment) }
+    {
+        for span in self.network.spans_of(self.segment) {
+            let inches = self.network.span(*span).inches;
+            let rating = self.state.rating(*span);
+            if !self.study.carries(inches, rating) {
+                return false;
+            }
+        }
+        true
+    }
 }

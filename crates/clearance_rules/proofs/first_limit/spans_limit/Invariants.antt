@@ -1,8 +1,0 @@
-use Rattle.std.proofs.Common.{◌≡◌, drop}
-use Rattle.clearance_rules.specs.Limits.{first_of_spans, spans_limit}
-use Rattle.clearance_rules.proofs.first_limit.spans_limit.Given as goal
-
-abbrev pub invariant-loop-span : goal.invariant-loop-span
-invariant-loop-span g l =
-    spans_limit l.network l.state l.load.train l.segment
-    ≡ first_of_spans l.network l.state l.load.train l.segment (drop l.span-index l.span-items)
