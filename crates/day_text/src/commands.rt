@@ -79,7 +79,8 @@ fn resolve(alloc: Global, so_far: &DaySoFar, fields: &ApplyFields) -> Result<Ord
     let Some(last) = fields.last else {
         return Err(RecordRefusal::bad(RecordCause::Range(8)));
     };
-    match Application::on(&so_far.network, truck, from, to, asked, first, last) {
+    let application = Application::of_fields(truck, from, to, asked, first, last);
+    match application.checked_on(&so_far.network) {
         Ok(application) => Ok(Order {
             actor,
             command: Command::Apply(application),

@@ -47,28 +47,23 @@ impl Application {
         ensures refused { IfErr result
             (IsCause (application_refusal base.now.roads from to asked first last)) }
     {
-        Application::on(base.network(), truck, from, to, asked, first, last)
+        let application = Application::of_fields(truck, from, to, asked, first, last);
+        application.checked_on(base.network())
     }
 
-    /// The same where only the roads are at hand, for a reader whose fleet still grows. Takes no memory.
-    pub fn on(
-        network: &Network,
-        truck: u32,
-        from: u32,
-        to: u32,
-        asked: Option<SharedRoutes>,
-        first: Day,
-        last: Day,
-    ) -> Result<Application, ApplicationRefusal>
-        requires there { AreThere network.now from to asked }
-        ensures fields { IfOk result (λ a. a ≡ application_of truck from to asked first last) }
-        ensures sound { IfOk result (IsSoundOn network.now truck) }
-        ensures taken { OnOk result (application_refusal network.now from to asked first last ≡ None) }
-        ensures refused { IfErr result (IsCause (application_refusal network.now from to asked first last)) }
+    /// The same application, where nothing refuses it on these roads: the refusals are those of `new`. For a reader whose fleet
+    /// still grows. Takes no memory.
+    pub fn checked_on(self, network: &Network) -> Result<Application, ApplicationRefusal>
+        requires there { AreThere network.now self.from self.to self.asked }
+        ensures same { IfOk result (λ a. a ≡ self) }
+        ensures sound { IfOk result (IsSoundOn network.now self.truck) }
+        ensures taken { OnOk result
+            (application_refusal network.now self.from self.to self.asked self.first self.last ≡ None) }
+        ensures refused { IfErr result
+            (IsCause (application_refusal network.now self.from self.to self.asked self.first self.last)) }
     {
-        let application = Application::of_fields(truck, from, to, asked, first, last);
-        application.try_on(network)?;
-        Ok(application)
+        self.try_on(network)?;
+        Ok(self)
     }
 
     /// The application of these six fields, of which nothing is tested. Takes no memory.
