@@ -12,9 +12,10 @@
 mod base;
 mod failing;
 mod opening;
-mod passing;
+mod truck_at;
+mod truck_on;
 
 pub use base::{Base, Truck};
 pub use failing::Failing;
-pub use opening::flags_at;
-pub use passing::{failing_limit, first_on, flags, is_passable};
+pub use truck_at::TruckAt;
+pub use truck_on::TruckOn;

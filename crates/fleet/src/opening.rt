@@ -2,19 +2,14 @@
 
 ghost use Rattle.std.specs.Prelude.{◌≡◌, ◌<◌, length, All, IfOk, IfSome};
 ghost use Rattle.restriction_log.specs.States.{base_of};
-ghost use Rattle.snapshot_store.specs.Stores.{state_now};
 ghost use Rattle.fleet.specs.Bases.{BaseLists};
-ghost use Rattle.fleet.specs.Passing.{TestsAtMost, flags_of};
 ghost use Rattle.fleet.specs.Openings.{AreOpenings, IsOpening, flags_at_first};
 
 use crate::base::Base;
-use crate::passing::{flags, is_passable};
-use clearance_rules::{Steps, meets_at_first};
+use clearance_rules::meets_at_first;
 use names::NoMemory;
 use restriction_log::State;
-use snapshot_store::Snapshot;
 use std::alloc::Global;
-use std::sync::ledger::Ledger;
 
 /// Which segments a truck may pass before anything is posted.
 #[derive(Drop)]
@@ -76,50 +71,4 @@ pub(crate) fn flags_in(openings: &[Opening], truck: u32) -> Option<&[bool]>
         }
     }
     None
-}
-
-/// For each segment whether the truck may pass it at a snapshot. Where the base keeps what the truck might pass before anything
-/// was posted, only the segments that postings name are tested, and else all are. `NoMemory` where no memory was left.
-pub fn flags_at<L: Ledger>(
-    alloc: Global,
-    base: &Base,
-    snapshot: &Snapshot,
-    truck: u32,
-    steps: &mut Steps<L>,
-) -> Result<Vec<bool>, NoMemory>
-    requires truck { truck < length base.now.fleet }
-    requires roads { snapshot.now.roads ≡ base.now.roads }
-    ensures flags { IfOk result (λ flags. flags.items ≡ flags_of base.now (state_now snapshot.now) truck) }
-    ensures steps { TestsAtMost (length base.now.roads.segments) steps.old steps.new }
-{
-    match base.opening(truck) {
-        Some(opening) => flags_from(alloc, base, opening, snapshot, truck, steps),
-        None => flags(alloc, base, snapshot.state(), truck, steps),
-    }
-}
-
-// For each segment whether the truck may pass it, by what it might pass before anything was posted: of the segments, those
-// that postings name are tested.
-fn flags_from<L: Ledger>(
-    alloc: Global,
-    base: &Base,
-    opening: &[bool],
-    snapshot: &Snapshot,
-    truck: u32,
-    steps: &mut Steps<L>,
-) -> Result<Vec<bool>, NoMemory>
-    requires truck { truck < length base.now.fleet }
-    requires opening { opening.now ≡ flags_at_first base.now truck }
-    requires roads { snapshot.now.roads ≡ base.now.roads }
-    ensures flags { IfOk result (λ flags. flags.items ≡ flags_of base.now (state_now snapshot.now) truck) }
-    ensures steps { TestsAtMost (length base.now.roads.segments) steps.old steps.new }
-{
-    base.lists_are_in_order();
-    let mut flags = Vec::from_slice(alloc, opening)?;
-    let mut from = 0;
-    'posted: while let Some(segment) = snapshot.next_changed(0, from) {
-        flags[segment as usize] = is_passable(base, snapshot.state(), truck, segment, steps);
-        from = segment + 1;
-    }
-    Ok(flags)
 }

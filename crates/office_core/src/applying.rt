@@ -16,7 +16,7 @@ ghost use Rattle.office_core.specs.Registers.{Gives, HeldAt, IsReplyTo, IsRetest
 use crate::answer::Answer;
 use crate::register::Register;
 use clearance_rules::{Limit, Steps};
-use fleet::{Base, Failing, is_passable};
+use fleet::{Base, Failing, TruckOn};
 use names::NoMemory;
 use office_words::{Cause, Reply};
 use permit_book::Trip;
@@ -195,8 +195,9 @@ impl Register {
             && is_passable self.now.base (state_now self.now) truck segment) }
         ensures steps { steps.new ≡ steps.old + (if leaves self.now.base.roads nodes.now segment then 1 else 0) }
     {
-        nodes.is_left_by(self.base().network(), segment)
-            && is_passable(self.base(), self.state(), truck, segment, steps)
+        let (base, state) = (self.base(), self.state());
+        let on = TruckOn { base, state, truck };
+        nodes.is_left_by(base.network(), segment) && on.is_passable(segment, steps)
     }
 
     // Answers that a segment fails. Takes no memory.

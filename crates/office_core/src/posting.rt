@@ -13,7 +13,7 @@ ghost use Rattle.office_core.specs.Registers.{Costs, MeetElsewhere, Posts, is_re
 use crate::answer::Answer;
 use crate::register::Register;
 use clearance_rules::Steps;
-use fleet::is_passable;
+use fleet::TruckOn;
 use names::NoMemory;
 use office_words::Reply;
 use restriction_log::{Change, PostRefusal, State, touched};
@@ -120,7 +120,9 @@ impl Register {
         if let Some(meets) = verdicts[truck as usize] {
             return meets;
         }
-        let meets = is_passable(self.base(), state, truck, segment, steps);
+        let base = self.base();
+        let on = TruckOn { base, state, truck };
+        let meets = on.is_passable(segment, steps);
         verdicts[truck as usize] = Some(meets);
         meets
     }

@@ -21,7 +21,7 @@ ghost use Rattle.office_core.specs.Registers.{AreUnchanged, Enters, HeldAt, IsFo
 
 use crate::recall_marks::recall_each;
 use clearance_rules::{Limit, Steps};
-use fleet::{Base, failing_limit};
+use fleet::{Base, TruckOn};
 use names::NoMemory;
 use permit_book::{Book, BookRefusal, Permit, Trip};
 use permit_days::Day;
@@ -164,7 +164,9 @@ impl Register {
         ensures value { result ≡ limit_for self.now.base (state_now self.now) truck segment }
         ensures steps { steps.new ≡ steps.old + 1 }
     {
-        failing_limit(self.base(), self.state(), truck, segment, steps)
+        let (base, state) = (self.base(), self.state());
+        let on = TruckOn { base, state, truck };
+        on.failing_limit(segment, steps)
     }
 
     /// The number of the next permit. Takes no memory.

@@ -8,7 +8,7 @@ ghost use Rattle.office_core.specs.Registers.{Leaves, stored_now};
 
 use crate::register::Register;
 use clearance_rules::Steps;
-use fleet::{Base, first_on};
+use fleet::{Base, TruckOn};
 use names::NoMemory;
 use office_words::{Call, Reply};
 use permit_days::Day;
@@ -105,10 +105,10 @@ impl Replay {
             return false;
         }
         let (base, state) = (self.register.base(), self.register.state());
+        let truck = application.truck();
+        let on = TruckOn { base, state, truck };
         match &proposal.what {
-            What::Route(routes) => {
-                first_on(base, state, application.truck(), routes.all(), steps).is_none()
-            }
+            What::Route(routes) => on.first_on(routes.all(), steps).is_none(),
             _ => false,
         }
     }

@@ -7,7 +7,7 @@ ghost use Rattle.trip_analysis.specs.Followers.{GoesOn, followed};
 use crate::fixtures::{day, named, network, number, part};
 use axle_train::{Axle, Train};
 use clearance_rules::{Limit, Load, Steps};
-use fleet::{Base, Failing, Truck, failing_limit, first_on, is_passable};
+use fleet::{Base, Failing, Truck, TruckOn};
 use restriction_log::{Change, State, takes};
 use road_graph::{Network, Numbers};
 use snapshot_store::Store;
@@ -518,10 +518,20 @@ fn tell_limits<L: Ledger>(rt: &impl Abort, base: &Base, state: &State, steps: &m
     requires { AreOf base.now.roads state.now }
 {
     assert!(rt; base.fleet().len() == 2 && base.network().segments() == 3);
-    assert!(rt; failing_limit(base, state, 0, 1, steps) == Some(TOO_LOW));
-    assert!(rt; failing_limit(base, state, 1, 1, steps).is_none());
-    assert!(rt; !is_passable(base, state, 0, 1, steps));
-    assert!(rt; is_passable(base, state, 1, 1, steps));
+    let too_high = TruckOn {
+        base,
+        state,
+        truck: 0,
+    };
+    let low = TruckOn {
+        base,
+        state,
+        truck: 1,
+    };
+    assert!(rt; too_high.failing_limit(1, steps) == Some(TOO_LOW));
+    assert!(rt; low.failing_limit(1, steps).is_none());
+    assert!(rt; !too_high.is_passable(1, steps));
+    assert!(rt; low.is_passable(1, steps));
 }
 
 // On segments 2, 1 and 0 the first that fails truck 0 is segment 1.
@@ -530,7 +540,12 @@ fn tell_first<L: Ledger>(rt: &impl Abort, base: &Base, state: &State, steps: &mu
 {
     let route = [2, 1, 0];
     assert!(rt; base.fleet().len() == 2 && are_there(base.network(), route.as_slice()));
-    let first = first_on(base, state, 0, route.as_slice(), steps);
+    let too_high = TruckOn {
+        base,
+        state,
+        truck: 0,
+    };
+    let first = too_high.first_on(route.as_slice(), steps);
     let (segment, limit) = (1, TOO_LOW);
     assert!(rt; first == Some(Failing { segment, limit }));
 }

@@ -11,7 +11,7 @@ ghost use Rattle.trip_analysis.specs.Tests.{tests_for};
 
 use crate::finding::{Proposal, What};
 use clearance_rules::Steps;
-use fleet::{Base, first_on, flags};
+use fleet::{Base, TruckOn};
 use names::NoMemory;
 use restriction_log::State;
 use road_graph::Network;
@@ -91,7 +91,8 @@ pub(crate) fn find_asked<L: Ledger>(
         (λ w. w ≡ asked_finding (first_in base.now state.now truck (concat routes.now)) routes.now) }
     ensures steps { TestsAtMost (length (concat routes.now)) steps.old steps.new }
 {
-    match first_on(base, state, truck, routes.all(), steps) {
+    let on = TruckOn { base, state, truck };
+    match on.first_on(routes.all(), steps) {
         Some(failing) => Ok(What::Fails {
             segment: failing.segment,
         }),
@@ -112,7 +113,9 @@ fn find_free<L: Ledger>(
     ensures found { IfOk result (IsFoundBy base.now state.now application.now None) }
     ensures steps { TestsAtMost (tests_for base.now None) steps.old steps.new }
 {
-    let passable = flags(alloc, base, state, application.truck(), steps)?;
+    let truck = application.truck();
+    let on = TruckOn { base, state, truck };
+    let passable = on.flags(alloc, steps)?;
     let (from, to) = (application.from(), application.to());
     search_flagged(alloc, base.network(), &passable, from, to)
 }

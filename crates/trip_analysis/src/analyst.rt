@@ -14,7 +14,7 @@ use crate::analysis::{find_asked, proposed};
 use crate::finding::What;
 use crate::known::Known;
 use clearance_rules::Steps;
-use fleet::{Base, is_passable};
+use fleet::{Base, TruckOn};
 use names::NoMemory;
 use restriction_log::State;
 use road_graph::Network;
@@ -141,7 +141,12 @@ impl Analyst {
     {
         'trucks: for truck in 0..base.fleet().len() {
             if let Some(known) = &mut self.known[truck] {
-                let passable = is_passable(base, state, truck as u32, segment, steps);
+                let on = TruckOn {
+                    base,
+                    state,
+                    truck: truck as u32,
+                };
+                let passable = on.is_passable(segment, steps);
                 known.write(base.network(), segment, passable);
             }
         }

@@ -9,7 +9,7 @@ ghost use Rattle.fleet.specs.Passing.{TestsAtMost};
 ghost use Rattle.trip_analysis.specs.Known.{IsKnown, IsOfRoads, IsSettled};
 
 use clearance_rules::Steps;
-use fleet::{Base, flags_at};
+use fleet::{Base, TruckAt};
 use names::NoMemory;
 use road_graph::Network;
 use route_search::{
@@ -52,8 +52,13 @@ impl Known {
         ensures known { IfOk result (IsKnown base.now (state_now snapshot.now) truck) }
         ensures steps { TestsAtMost (length base.now.roads.segments) steps.old steps.new }
     {
+        let at = TruckAt {
+            base,
+            snapshot,
+            truck,
+        };
         Ok(Known {
-            passable: flags_at(alloc, base, snapshot, truck, steps)?,
+            passable: at.flags(alloc, steps)?,
             settled: None,
             region: None,
             last: None,

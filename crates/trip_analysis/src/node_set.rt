@@ -6,7 +6,7 @@ ghost use Rattle.trip_analysis.specs.NodeSets.{AreMarks};
 ghost use Rattle.trip_analysis.specs.Findings.{IsNextLeaving, first_meeting, leaves, leaving, leaving_from};
 
 use clearance_rules::Steps;
-use fleet::{Base, is_passable};
+use fleet::{Base, TruckOn};
 use restriction_log::State;
 use road_graph::{Network, Numbers};
 use std::marker::Model;
@@ -88,9 +88,10 @@ pub fn first_meeting_out<L: Ledger>(
     requires state { AreOf base.now.roads state.now }
     ensures { result ≡ first_meeting base.now state.now truck (leaving base.now.roads nodes.now) }
 {
+    let on = TruckOn { base, state, truck };
     let mut start = 0;
     'out: while let Some(s) = nodes.next_leaving(base.network(), start) {
-        if is_passable(base, state, truck, s, steps) {
+        if on.is_passable(s, steps) {
             return Some(s);
         }
         start = s + 1;

@@ -4,8 +4,8 @@ use Rattle.trip_analysis.proofs.known.Known.at.Goals as goal
 
 pub returns-clause-known : goal.returns-clause-known
 returns-clause-known g c =
-    let a = c.args in let flags = c.in_ok-flags_at.ensures.flags in
+    let a = c.args in let flags = c.in_ok-flags.ensures.flags in
     record {
       passable = flags;
-      of_roads = record { many = flags_many a.base.now (state_now a.snapshot.now) a.truck c.in_ok-flags_at.field-0.items flags; settled = tt; region = tt };
+      of_roads = record { many = flags_many a.base.now (state_now a.snapshot.now) a.truck c.in_ok-flags.field-0.items flags; settled = tt; region = tt };
     }
