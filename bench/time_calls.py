@@ -143,7 +143,7 @@ ghost use Rattle.std.specs.Prelude.{◌≡◌, ◌<◌, length, IfSome};
 
 use names::Name;
 use road_graph::Network;
-use route_search::{Heights, search, shortest_walk};
+use route_search::{Heights, Passable, Trip, search, shortest_walk};
 use std::alloc::Global;
 use std::io;
 use std::time::Instant;
@@ -249,10 +249,20 @@ fn walk_each(alloc: Global, network: &Network, passable: &[bool]) -> u32
     requires nodes { 1680 < length network.now.nodes }
     requires passable { length passable.now ≡ length network.now.segments }
 {
+    network.lists_are_in_order();
+    let roads = Passable {
+        network,
+        flags: passable,
+    };
+    let trip = Trip {
+        roads,
+        from: 0,
+        to: 1680,
+    };
     let heights = Heights::none(alloc);
     let mut answered = 0u32;
     'rounds: for _ in 0..ROUNDS {
-        if shortest_walk(alloc, network, passable, &heights, 0, 1680).is_ok() {
+        if shortest_walk(alloc, &trip, &heights).is_ok() {
             answered = answered.wrapping_add(1);
         }
     }

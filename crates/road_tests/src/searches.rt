@@ -7,8 +7,8 @@ use crate::fixtures::{holds, named, number, part, same};
 use names::Name;
 use road_graph::Network;
 use route_search::{
-    Found, Heights, Potentials, Region, Shortest, cuts_hold, findings_are_one, potentials,
-    potentials_certify, search, shortest_walk, shortest_walk_by,
+    Found, Heights, Passable, Potentials, Region, Shortest, Trip, cuts_hold, findings_are_one,
+    potentials, potentials_certify, search, shortest_walk, shortest_walk_by,
 };
 use std::alloc::Global;
 use std::process::Abort;
@@ -158,8 +158,13 @@ fn find_by(rt: &impl Abort, alloc: Global, network: &Network, passable: &[bool],
     let (from, to) = ends_of(line);
     assert!(rt; passable.len() == network.segments() as usize);
     assert!(rt; from < network.nodes() && to < network.nodes());
-    let known = potentials(alloc, network, passable, to).expect(rt, "memory");
-    let found = shortest_walk_by(alloc, network, passable, &known, from, to).expect(rt, "memory");
+    let roads = Passable {
+        network,
+        flags: passable,
+    };
+    let trip = Trip { roads, from, to };
+    let known = potentials(alloc, &trip.roads, to).expect(rt, "memory");
+    let found = shortest_walk_by(alloc, &trip, &known).expect(rt, "memory");
     drop(known);
     holds(rt, is_told(parts_of_shortest(&found), line), line);
     drop(found);
@@ -179,7 +184,12 @@ fn find_near(
     let (from, to) = ends_of(line);
     assert!(rt; passable.len() == network.segments() as usize);
     assert!(rt; from < network.nodes() && to < network.nodes());
-    let found = shortest_walk(alloc, network, passable, heights, from, to).expect(rt, "memory");
+    let roads = Passable {
+        network,
+        flags: passable,
+    };
+    let trip = Trip { roads, from, to };
+    let found = shortest_walk(alloc, &trip, heights).expect(rt, "memory");
     holds(rt, is_told(parts_of_shortest(&found), line), line);
     drop(found);
 }
@@ -347,7 +357,11 @@ fn tells_by_a_region_why_there_is_no_route(rt: HostRuntime) {
     let network = network(&rt, rt.alloc(), 9, ROWS);
     let passable = flags(&rt, rt.alloc(), &network, "16");
     assert!(rt; passable.len() == network.segments() as usize && network.nodes() == 9);
-    let region = Region::around(rt.alloc(), &network, &passable, 0).expect(&rt, "memory");
+    let roads = Passable {
+        network: &network,
+        flags: &passable,
+    };
+    let region = Region::around(rt.alloc(), &roads, 0).expect(&rt, "memory");
     for line in &TOLD {
         tells(&rt, rt.alloc(), &network, &passable, &region, line);
     }
@@ -455,7 +469,11 @@ fn is_slack(
 ) {
     let passable = flags(rt, alloc, network, closed);
     assert!(rt; passable.len() == network.segments() as usize && to < network.nodes());
-    let known = potentials(alloc, network, &passable, to).expect(rt, "memory");
+    let roads = Passable {
+        network,
+        flags: &passable,
+    };
+    let known = potentials(alloc, &roads, to).expect(rt, "memory");
     drop(passable);
     is_slack_each(rt, network, &known, digits);
     drop(known);

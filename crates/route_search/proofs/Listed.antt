@@ -7,7 +7,7 @@ use Rattle.std.proofs.lemmas.Bool.{cases_lt, false≢true}
 use Rattle.road_graph.specs.Roads.{Roads}
 use Rattle.road_graph.proofs.Places.{get-front, get-last, get-push_cases, get_within}
 use Rattle.route_search.specs.Walks.{AreReached}
-use Rattle.route_search.specs.declared.reach.Way.TheVariants.{Forth}
+use Rattle.route_search.specs.declared.walks.Way.TheVariants.{Forth}
 use Rattle.route_search.specs.Reaching.{AreMarked}
 use Rattle.route_search.specs.Listing.{marked_below}
 

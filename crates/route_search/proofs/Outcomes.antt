@@ -6,7 +6,7 @@ use Rattle.road_graph.specs.Roads.{Roads}
 use Rattle.road_graph.proofs.Places.{get_some, get_within}
 use Rattle.route_search.specs.Walks.{AreNear, ArePotentials, AreReached, CanReach, IsPotential, IsRoute, IsWalk, every, flagged}
 use Rattle.route_search.specs.Heights.{AreLengths}
-use Rattle.route_search.specs.declared.reach.Way.TheVariants.{Forth}
+use Rattle.route_search.specs.declared.walks.Way.TheVariants.{Forth}
 use Rattle.route_search.specs.Reaching.{AreMarked, IsMarked}
 use Rattle.route_search.specs.Founds.{IsCutFound, IsNoRoadFound, IsRouteFound, IsShortestRoute}
 

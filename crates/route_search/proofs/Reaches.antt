@@ -1,18 +1,19 @@
 -- The steps of the search for reached nodes.
-use Rattle.std.proofs.Common.{◌≡◌, ◌⊎◌, ◌+◌, ◌<◌, ◌≤◌, ◌∷◌, ◌++◌, [], ℕ, suc, zero, List, Bool, true, false, Some, length, set, refl, ap, sym, subst, inl, inr, arith, ◌∙◌, length-set, length-append, map, replicate}
-use Rattle.std.proofs.lemmas.List.{length-replicate}
+use Rattle.std.proofs.Common.{◌≡◌, ◌⊎◌, ◌+◌, ◌<◌, ◌≤◌, ◌∷◌, ◌++◌, [], ℕ, suc, zero, List, Bool, true, false, Some, length, get_or, set, take, refl, ap, sym, subst, inl, inr, arith, ◌∙◌, length-set, length-append, map, replicate}
+use Rattle.std.proofs.lemmas.List.{length-map, length-replicate, take_more}
 use Rattle.std.specs.Prelude.{slice_get, option_map, Contains}
 use Rattle.std.proofs.lemmas.List.Elements.{Contains-append_left, Contains-push, Contains-push_cases}
 use Rattle.std.proofs.lemmas.Bool.{cases_eq, false≢true}
 use Rattle.road_graph.specs.declared.segment.Segment.{Segment}
 use Rattle.road_graph.specs.declared.segment.Arrival.{Arrival}
-use Rattle.road_graph.specs.Roads.{IsIncoming, IsRoads, Roads}
-use Rattle.std.proofs.lemmas.Option.{slice_get-map}
+use Rattle.road_graph.specs.Roads.{IsIncoming, IsOutgoing, IsRoads, Roads, incoming_of, outgoing_of}
+use Rattle.std.proofs.lemmas.Option.{get_or_from_slice_get, slice_get-get_or, slice_get-map}
 use Rattle.road_graph.proofs.Places.{get-push_cases, get-set_other, get-set_same, get_within}
-use Rattle.route_search.specs.declared.reach.Way.{Way}
-use Rattle.route_search.specs.declared.reach.Way.TheVariants.{Back, Forth}
+use Rattle.route_search.specs.declared.reach.Step.{Step}
+use Rattle.route_search.specs.declared.walks.Way.{Way}
+use Rattle.route_search.specs.declared.walks.Way.TheVariants.{Back, Forth}
 use Rattle.route_search.specs.Walks.{CanReach, IsAmong, IsWalk}
-use Rattle.route_search.specs.Reaching.{AreMarked, IsMarked, IsMarkedToo, IsReaching, IsSpread, IsSpreading, Leads, begin_of, end_of, to_do}
+use Rattle.route_search.specs.Reaching.{AreMarked, IsMarked, IsMarkedToo, IsReaching, IsSpread, IsSpreading, IsStep, Leads, begin_of, end_of, entered_at, to_do}
 
 pub segment_is : (s t : Segment) → Some s ≡ Some t → s ≡ t
 segment_is s t e = cc
@@ -55,11 +56,43 @@ module _ (roads : Roads) (may : ℕ → Bool) (marked : List Bool) where
   led Forth root v spread m (path, walk) = along path root v spread m walk
   led Back root v spread m (path, walk) = against path v root spread m walk
 
--- the arrivals at a node have the numbers of all segments into it
-pub arrivals_all : (segments : List Segment) (node : ℕ) (arrivals : List Arrival) → IsIncoming segments node arrivals → (i : ℕ) (s : Segment) → slice_get segments i ≡ Some s → s.to ≡ node → IsAmong (map (λ (a : Arrival). a.segment) arrivals) i
-arrivals_all segments node arrivals all i s at end =
-    let (k, a, there, is) = all.complete i s at end in
-    (k, slice_get-map (λ (a : Arrival). a.segment) arrivals k ∙ ap (option_map (λ (a : Arrival). a.segment)) there ∙ ap (λ (n : ℕ). Some n) is)
+-- the segment at a place among those that begin at a node, and of those that end there
+pub step_forth : (segments : List Segment) (node k : ℕ) (list : List ℕ) (s : Segment) → list ≡ outgoing_of segments node → IsOutgoing segments node list → k < length (entered_at Forth segments node) → slice_get segments (get_or list k 0) ≡ Some s
+    → IsStep Forth segments node k (record { segment = get_or list k 0; to = s.to })
+step_forth segments node k list s value all within here =
+    let i : ℕ = get_or list k 0 in
+    let at = slice_get-get_or list k 0 (omega (arith, within, ap length value)) in
+    let (t, there, begin) = all.sound k i at in
+    record {
+      place = subst (λ (l : List ℕ). slice_get l k ≡ Some i) value at;
+      segment = s;
+      at = here;
+      begin = ap (λ (x : Segment). x.from) (segment_is s t (sym here ∙ there)) ∙ begin;
+      end = refl;
+    }
+
+pub step_back : (segments : List Segment) (node k : ℕ) (list : List Arrival) (none : Arrival) → list ≡ incoming_of segments node → IsIncoming segments node list → k < length (entered_at Back segments node)
+    → IsStep Back segments node k (record { segment = (get_or list k none).segment; to = (get_or list k none).from })
+step_back segments node k list none value all within =
+    let a : Arrival = get_or list k none in
+    let many : length (map (λ (x : Arrival). x.segment) (incoming_of segments node)) ≡ length (incoming_of segments node) = length-map (incoming_of segments node) (λ (x : Arrival). x.segment) in
+    let at = slice_get-get_or list k none (omega (arith, within, many, ap length value)) in
+    let (s, there, ends, begin, feet) = all.sound k a at in
+    record {
+      place = subst (λ (l : List Arrival). slice_get (map (λ (x : Arrival). x.segment) l) k ≡ Some a.segment) value (slice_get-map (λ (x : Arrival). x.segment) list k ∙ ap (option_map (λ (x : Arrival). x.segment)) at);
+      segment = s;
+      at = there;
+      begin = ends;
+      end = sym begin;
+    }
+
+-- it is there, and with it one more is tried
+pub step_within : (way : Way) (roads : Roads) (node k : ℕ) (step : Step) → IsRoads roads → IsStep way roads.segments node k step → step.to < length roads.nodes
+step_within Forth roads node k step ok is = subst (λ (v : ℕ). v < length roads.nodes) is.end (ok.each step.segment is.segment is.at).to
+step_within Back roads node k step ok is = subst (λ (v : ℕ). v < length roads.nodes) is.end (ok.each step.segment is.segment is.at).from
+
+pub one_tried : (list : List ℕ) (k i : ℕ) → slice_get list k ≡ Some i → take (k + 1) list ≡ take k list ++ i ∷ []
+one_tried list k i at = take_more list k 0 (get_within list k i at) ∙ ap (λ (x : ℕ). take k list ++ x ∷ []) (get_or_from_slice_get list k i 0 at)
 
 to_do-set : (ms : List Bool) (u : ℕ) → slice_get ms u ≡ Some false → to_do (set ms u true) + 1 ≡ to_do ms
 to_do-set [] u h = cc

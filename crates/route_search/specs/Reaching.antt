@@ -1,10 +1,12 @@
 -- What holds while nodes are marked.
-use Rattle.std.specs.Prelude.{◌≡◌, ◌⊎◌, ℕ, ◌+◌, ◌≤◌, ◌++◌, ◌∷◌, [], Bool, true, false, List, length, slice_get, slice_set, Some, Contains}
+use Rattle.std.specs.Prelude.{◌≡◌, ◌⊎◌, ℕ, ◌+◌, ◌≤◌, ◌++◌, ◌∷◌, [], Bool, true, false, List, length, map, slice_get, slice_set, Some, Contains}
 use Rattle.road_graph.specs.declared.segment.Segment.{Segment}
-use Rattle.road_graph.specs.Roads.{Roads}
-use Rattle.route_search.specs.declared.reach.Way.{Way}
-use Rattle.route_search.specs.declared.reach.Way.TheVariants.{Back, Forth}
-use Rattle.route_search.specs.Walks.{CanReach, flagged}
+use Rattle.road_graph.specs.Roads.{Roads, incoming_of, outgoing_of}
+use Rattle.route_search.specs.declared.reach.Step.{Step}
+use Rattle.route_search.specs.declared.walks.Walks.{Walks}
+use Rattle.route_search.specs.declared.walks.Way.{Way}
+use Rattle.route_search.specs.declared.walks.Way.TheVariants.{Back, Forth}
+use Rattle.route_search.specs.Walks.{CanReach, IsAmong, flagged}
 
 -- where a segment is entered that is taken in a direction
 abbrev pub begin_of : Way → Segment → ℕ
@@ -15,6 +17,23 @@ begin_of Back s = s.to
 abbrev pub end_of : Way → Segment → ℕ
 end_of Forth s = s.to
 end_of Back s = s.from
+
+-- the numbers of the segments that are entered at a node, rising
+abbrev pub entered_at : Way → List Segment → ℕ → List ℕ
+entered_at Forth segments node = outgoing_of segments node
+entered_at Back segments node = map (λ a. a.segment) (incoming_of segments node)
+
+-- these are all of them
+abbrev pub IsWhole : Way → List Segment → ℕ → Type 0
+IsWhole way segments node = (i : ℕ) (s : Segment) → slice_get segments i ≡ Some s → begin_of way s ≡ node → IsAmong (entered_at way segments node) i
+
+-- the segment at a place among them, and where it is left
+pub record IsStep (way : Way) (segments : List Segment) (node k : ℕ) (step : Step) : Type 0 where
+  pub place : slice_get (entered_at way segments node) k ≡ Some step.segment
+  pub segment : Segment
+  pub at : slice_get segments step.segment ≡ Some segment
+  pub begin : begin_of way segment ≡ node
+  pub end : end_of way segment ≡ step.to
 
 -- some walk leads from the root to a node, or, against the direction, from the node to the root
 abbrev pub Leads : Way → List Segment → (ℕ → Bool) → ℕ → ℕ → Type 0
@@ -67,13 +86,13 @@ pub record IsSpreading (way : Way) (roads : Roads) (may : ℕ → Bool) (root : 
   pub here : IsMarked marked node
   pub tried_all : (k i : ℕ) (s : Segment) → slice_get tried k ≡ Some i → slice_get roads.segments i ≡ Some s → may i ≡ true → IsMarked marked (end_of way s)
 
--- the marking over the flagged segments goes on with these marks and these nodes that wait
-abbrev pub IsReachingOver : Way → Roads → List Bool → ℕ → List Bool → List ℕ → Type 0
-IsReachingOver way roads passable root marked waiting = IsReaching way roads (flagged passable) root marked waiting
+-- the marking of what these walks reach goes on with these marks and these nodes that wait
+abbrev pub IsReachingOver : Walks → List Bool → List ℕ → Type 0
+IsReachingOver walks marked waiting = IsReaching walks.way walks.roads.network.now (flagged walks.roads.flags.now) walks.root marked waiting
 
 -- the same but for a node, none of whose segments is tried yet
-abbrev pub IsSpreadingOver : Way → Roads → List Bool → ℕ → List Bool → List ℕ → ℕ → Type 0
-IsSpreadingOver way roads passable root marked waiting node = IsSpreading way roads (flagged passable) root marked waiting node []
+abbrev pub IsSpreadingOver : Walks → List Bool → List ℕ → ℕ → Type 0
+IsSpreadingOver walks marked waiting node = IsSpreading walks.way walks.roads.network.now (flagged walks.roads.flags.now) walks.root marked waiting node []
 
 -- no more is left to do with these marks and these nodes that wait than with those before
 abbrev pub IsNoMoreToMark : List Bool → List ℕ → List Bool → List ℕ → Type 0

@@ -1,7 +1,7 @@
 -- The part of a network around a node, as passable walks join it.
 use Rattle.std.specs.Prelude.{ℕ, Bool, false, not, ◌&&◌, List, Option, IfNone, IfSome, slice_index_or}
 use Rattle.road_graph.specs.Roads.{Roads}
-use Rattle.route_search.specs.declared.reach.Way.TheVariants.{Back, Forth}
+use Rattle.route_search.specs.declared.walks.Way.TheVariants.{Back, Forth}
 use Rattle.route_search.specs.declared.region.Reached.{Reached}
 use Rattle.route_search.specs.declared.region.Region.{Region}
 use Rattle.route_search.specs.declared.shortest.Shortest.{Shortest}

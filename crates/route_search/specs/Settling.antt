@@ -84,15 +84,15 @@ pub record IsRelaxing (roads : Roads) (may : ℕ → Bool) (start : Option ℕ) 
 
 -- the search for what is asked goes on with these potentials and this queue
 abbrev pub IsSearchingFor : Query → List (Option ℕ) → List Waiting → Type 0
-IsSearchingFor query potentials queue = IsSearching query.network.now (flagged query.passable.now) query.start query.goal potentials queue
+IsSearchingFor query potentials queue = IsSearching query.roads.network.now (flagged query.roads.flags.now) query.start query.goal potentials queue
 
 -- the same but for a node that was taken from the queue, no arrival of which is settled yet
 abbrev pub IsRelaxingFor : Query → List (Option ℕ) → List Waiting → Waiting → Type 0
-IsRelaxingFor query potentials queue near = IsRelaxing query.network.now (flagged query.passable.now) query.start query.goal potentials queue near.node near.length []
+IsRelaxingFor query potentials queue near = IsRelaxing query.roads.network.now (flagged query.roads.flags.now) query.start query.goal potentials queue near.node near.length []
 
--- no walk by u that goes on for so many feet is asked for
-abbrev pub IsLeftOut : Query → List (Option ℕ) → ℕ → ℕ → Type 0
-IsLeftOut query potentials u feet = IsOut query.network.now.segments query.start potentials u feet
+-- no walk by a node that goes on for so many feet is asked for
+abbrev pub IsLeftOut : Query → List (Option ℕ) → Waiting → Type 0
+IsLeftOut query potentials near = IsOut query.roads.network.now.segments query.start potentials near.node near.length
 
 -- no more is left to do with these potentials and this queue than with those before
 abbrev pub IsNoMoreWork : List (Option ℕ) → List Waiting → List (Option ℕ) → List Waiting → Type 0
@@ -121,8 +121,8 @@ abbrev pub IsTried : Roads → Option ℕ → List (Option ℕ) → List Waiting
 IsTried roads start potentials queue now waiting u d = IsShortened potentials queue now waiting u d ⊎ IsLeft roads start potentials queue now waiting u d
 
 -- the same for what is asked
-abbrev pub IsTriedFor : Query → List (Option ℕ) → List Waiting → List (Option ℕ) → List Waiting → ℕ → ℕ → Type 0
-IsTriedFor query potentials queue now waiting u d = IsTried query.network.now query.start potentials queue now waiting u d
+abbrev pub IsTriedFor : Query → List (Option ℕ) → List Waiting → List (Option ℕ) → List Waiting → Waiting → Type 0
+IsTriedFor query potentials queue now waiting next = IsTried query.roads.network.now query.start potentials queue now waiting next.node next.length
 
 -- what a search tells: all potentials, or those that are asked for one start alone
 abbrev pub AreAskedFrom : Roads → List Bool → Option ℕ → ℕ → List (Option ℕ) → Type 0
@@ -130,4 +130,4 @@ AreAskedFrom roads passable None goal potentials = ArePotentialsOver roads passa
 AreAskedFrom roads passable (Some start) goal potentials = AreNearOver roads passable start goal potentials
 
 abbrev pub AreAsked : Query → List (Option ℕ) → Type 0
-AreAsked query potentials = AreAskedFrom query.network.now query.passable.now query.start query.goal potentials
+AreAsked query potentials = AreAskedFrom query.roads.network.now query.roads.flags.now query.start query.goal potentials

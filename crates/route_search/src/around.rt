@@ -1,37 +1,42 @@
 // A region is made around a node, and tells why trips have no route.
 
 ghost use Rattle.std.specs.Prelude.{◌≡◌, ◌<◌, ℕ, Bool, List, length, IfOk};
-ghost use Rattle.road_graph.specs.Roads.{IsRoads, Roads};
+ghost use Rattle.road_graph.specs.Roads.{Roads};
 ghost use Rattle.route_search.specs.Founds.{IsShortest};
 ghost use Rattle.route_search.specs.Regions.{AreReachedFrom, IsCutOff, IsRegion, IsTold, IsToldAll, is_cut_off};
 ghost use Rattle.route_search.specs.Walks.{flagged};
 
-use crate::reach::{Way, listed, reach};
+use crate::passable::Passable;
+use crate::reach::{listed, reach};
 use crate::region::{Reached, Region};
 use crate::shortest::Shortest;
+use crate::walks::{Walks, Way};
 use names::NoMemory;
-use road_graph::{Network, Numbers};
+use road_graph::Numbers;
 use std::alloc::{AllocError, Global};
 
 impl Region {
     /// The region around a node. `NoMemory` where no memory was left.
-    pub fn around(
-        alloc: Global,
-        network: &Network,
-        passable: &[bool],
-        root: u32,
-    ) -> Result<Region, NoMemory>
-        requires flags { length passable.now ≡ length network.now.segments }
-        requires root { root < length network.now.nodes }
-        ensures { IfOk result (IsRegion network.now passable.now root) }
+    pub fn around(alloc: Global, roads: &Passable, root: u32) -> Result<Region, NoMemory>
+        requires { root < length roads.now.network.now.nodes }
+        ensures { IfOk result (IsRegion roads.now.network.now roads.now.flags.now root) }
     {
+        let network = roads.network;
         let open = vec![in alloc; true; network.segments() as usize]?;
-        let by_any = reach_from(alloc, network, &open, root)?;
-        let by_passable = reach_from(alloc, network, passable, root)?;
-        let leading_in = reach(alloc, network, passable, Way::Back, root)?;
+        let flags = open.as_slice();
+        let any = reach_from(alloc, &Passable { network, flags }, root)?;
+        let passable = reach_from(alloc, roads, root)?;
+        let leading_in = reach(
+            alloc,
+            &Walks {
+                roads: *roads,
+                way: Way::Back,
+                root,
+            },
+        )?;
         Ok(Region {
-            passable: by_passable,
-            any: by_any,
+            passable,
+            any,
             leading_in,
         })
     }
@@ -82,19 +87,17 @@ impl Region {
 }
 
 // The nodes that walks from the root reach.
-fn reach_from(
-    alloc: Global,
-    network: &Network,
-    passable: &[bool],
-    root: u32,
-) -> Result<Reached, AllocError>
-    requires flags { length passable.now ≡ length network.now.segments }
-    requires root { root < length network.now.nodes }
-    ensures { IfOk result (AreReachedFrom network.now (flagged passable.now) root) }
+fn reach_from(alloc: Global, roads: &Passable, root: u32) -> Result<Reached, AllocError>
+    requires { root < length roads.now.network.now.nodes }
+    ensures { IfOk result (AreReachedFrom roads.now.network.now (flagged roads.now.flags.now) root) }
 {
-    network.lists_are_in_order();
-    let marks = reach(alloc, network, passable, Way::Forth, root)?;
-    let numbers = listed(alloc, network, passable, root, &marks)?;
+    let walks = Walks {
+        roads: *roads,
+        way: Way::Forth,
+        root,
+    };
+    let marks = reach(alloc, &walks)?;
+    let numbers = listed(alloc, &walks, &marks)?;
     Ok(Reached {
         marks,
         numbers: Numbers::of(numbers),

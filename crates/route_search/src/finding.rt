@@ -1,7 +1,6 @@
 // The search from one node to another.
 
 ghost use Rattle.std.specs.Prelude.{◌≡◌, ◌<◌, length, IfOk};
-ghost use Rattle.road_graph.specs.Roads.{IsRoads};
 ghost use Rattle.route_search.specs.Walks.{CanReach, flagged};
 ghost use Rattle.route_search.specs.Founds.{AreNearOver, ArePotentialsOver, IsFound, IsRouteOrNone, IsShortest};
 ghost use Rattle.route_search.specs.Heights.{AreHeights};
@@ -9,11 +8,13 @@ ghost use Rattle.route_search.specs.Heights.{AreHeights};
 use crate::follow::follow;
 use crate::found::{Found, Potentials};
 use crate::heights::Heights;
+use crate::passable::Passable;
 use crate::query::Query;
-use crate::reach::{Way, listed, reach};
+use crate::reach::{listed, reach};
 use crate::settle::{settle, settle_all};
 use crate::shortest::Shortest;
-use crate::waiting::Waiting;
+use crate::trip::Trip;
+use crate::walks::{Walks, Way};
 use names::NoMemory;
 use road_graph::{Network, Numbers};
 use std::alloc::{AllocError, Global};
@@ -38,124 +39,84 @@ pub fn search(
     requires to { to < length network.now.nodes }
     ensures { IfOk result (IsFound network.now passable.now from to) }
 {
-    Ok(find(alloc, network, passable, from, to)?)
+    network.lists_are_in_order();
+    let roads = Passable {
+        network,
+        flags: passable,
+    };
+    Ok(find(alloc, &Trip { roads, from, to })?)
 }
 
 /// For each node the least length of a passable walk to a node. `NoMemory` where no memory was left.
-pub fn potentials(
-    alloc: Global,
-    network: &Network,
-    passable: &[bool],
-    to: u32,
-) -> Result<Potentials, NoMemory>
-    requires flags { length passable.now ≡ length network.now.segments }
-    requires to { to < length network.now.nodes }
-    ensures { IfOk result (ArePotentialsOver network.now passable.now to) }
+pub fn potentials(alloc: Global, roads: &Passable, to: u32) -> Result<Potentials, NoMemory>
+    requires { to < length roads.now.network.now.nodes }
+    ensures { IfOk result (ArePotentialsOver roads.now.network.now roads.now.flags.now to) }
 {
-    let list = settle_all(alloc, network, passable, to)?;
+    let list = settle_all(alloc, roads, to)?;
     Ok(Potentials::of(list))
 }
 
-/// What `search` finds, without the potentials. Where heights are given, nodes that they show to lead away from `from` are
-/// left out. `NoMemory` where no memory was left.
-pub fn shortest_walk(
-    alloc: Global,
-    network: &Network,
-    passable: &[bool],
-    heights: &Heights,
-    from: u32,
-    to: u32,
-) -> Result<Shortest, NoMemory>
-    requires flags { length passable.now ≡ length network.now.segments }
-    requires heights { AreHeights network.now.segments heights.now }
-    requires from { from < length network.now.nodes }
-    requires to { to < length network.now.nodes }
-    ensures { IfOk result (IsShortest network.now passable.now from to) }
+/// What `search` finds, without the potentials. Where heights are given, nodes that they show to lead away from the start
+/// are left out. `NoMemory` where no memory was left.
+pub fn shortest_walk(alloc: Global, trip: &Trip, heights: &Heights) -> Result<Shortest, NoMemory>
+    requires { AreHeights trip.now.roads.network.now.segments heights.now }
+    ensures { IfOk result (IsShortest trip.now.roads.network.now trip.now.roads.flags.now trip.now.from trip.now.to) }
 {
-    let found = shortest_route(alloc, network, passable, heights, from, to)?;
-    Ok(or_why(alloc, network, passable, from, to, found)?)
+    let found = shortest_route(alloc, trip, heights)?;
+    Ok(or_why(alloc, trip, found)?)
 }
 
 /// The same, where the potentials are known. `NoMemory` where no memory was left.
 pub fn shortest_walk_by(
     alloc: Global,
-    network: &Network,
-    passable: &[bool],
+    trip: &Trip,
     potentials: &Potentials,
-    from: u32,
-    to: u32,
 ) -> Result<Shortest, NoMemory>
-    requires flags { length passable.now ≡ length network.now.segments }
-    requires from { from < length network.now.nodes }
-    requires to { to < length network.now.nodes }
-    requires potentials { ArePotentialsOver network.now passable.now to potentials.now }
-    ensures { IfOk result (IsShortest network.now passable.now from to) }
+    requires { ArePotentialsOver trip.now.roads.network.now trip.now.roads.flags.now trip.now.to potentials.now }
+    ensures { IfOk result (IsShortest trip.now.roads.network.now trip.now.roads.flags.now trip.now.from trip.now.to) }
 {
-    let found = shortest_route_by(alloc, network, passable, potentials, from, to)?;
-    Ok(or_why(alloc, network, passable, from, to, found)?)
+    let found = shortest_route_by(alloc, trip, potentials)?;
+    Ok(or_why(alloc, trip, found)?)
 }
 
 /// The route that `shortest_walk` answers, or `None` where no passable walk leads there. `NoMemory` where no memory was left.
 pub fn shortest_route(
     alloc: Global,
-    network: &Network,
-    passable: &[bool],
+    trip: &Trip,
     heights: &Heights,
-    from: u32,
-    to: u32,
 ) -> Result<Option<Shortest>, NoMemory>
-    requires flags { length passable.now ≡ length network.now.segments }
-    requires heights { AreHeights network.now.segments heights.now }
-    requires from { from < length network.now.nodes }
-    requires to { to < length network.now.nodes }
-    ensures { IfOk result (IsRouteOrNone network.now passable.now from to) }
+    requires { AreHeights trip.now.roads.network.now.segments heights.now }
+    ensures { IfOk result (IsRouteOrNone trip.now.roads.network.now trip.now.roads.flags.now trip.now.from trip.now.to) }
 {
     let query = Query {
-        network,
-        passable,
-        start: Some(from),
-        goal: to,
+        roads: trip.roads,
+        start: Some(trip.from),
+        goal: trip.to,
         heights,
     };
     let list = settle(alloc, &query)?;
-    Ok(route_shown(alloc, network, passable, &list, from, to)?)
+    Ok(route_shown(alloc, trip, &list)?)
 }
 
 /// The same, where the potentials are known. `NoMemory` where no memory was left.
 pub fn shortest_route_by(
     alloc: Global,
-    network: &Network,
-    passable: &[bool],
+    trip: &Trip,
     potentials: &Potentials,
-    from: u32,
-    to: u32,
 ) -> Result<Option<Shortest>, NoMemory>
-    requires flags { length passable.now ≡ length network.now.segments }
-    requires from { from < length network.now.nodes }
-    requires to { to < length network.now.nodes }
-    requires potentials { ArePotentialsOver network.now passable.now to potentials.now }
-    ensures { IfOk result (IsRouteOrNone network.now passable.now from to) }
+    requires { ArePotentialsOver trip.now.roads.network.now trip.now.roads.flags.now trip.now.to potentials.now }
+    ensures { IfOk result (IsRouteOrNone trip.now.roads.network.now trip.now.roads.flags.now trip.now.from trip.now.to) }
 {
-    network.lists_are_in_order();
-    Ok(route_shown(alloc, network, passable, potentials.as_slice(), from, to)?)
+    Ok(route_shown(alloc, trip, potentials.as_slice())?)
 }
 
 // The potentials first, and then what they show.
-fn find(
-    alloc: Global,
-    network: &Network,
-    passable: &[bool],
-    from: u32,
-    to: u32,
-) -> Result<Found, AllocError>
-    requires flags { length passable.now ≡ length network.now.segments }
-    requires from { from < length network.now.nodes }
-    requires to { to < length network.now.nodes }
-    ensures { IfOk result (IsFound network.now passable.now from to) }
+fn find(alloc: Global, trip: &Trip) -> Result<Found, AllocError>
+    ensures { IfOk result (IsFound trip.now.roads.network.now trip.now.roads.flags.now trip.now.from trip.now.to) }
 {
-    let list = settle_all(alloc, network, passable, to)?;
-    let route = route_shown(alloc, network, passable, &list, from, to)?;
-    let found = or_why(alloc, network, passable, from, to, route)?;
+    let list = settle_all(alloc, &trip.roads, trip.to)?;
+    let route = route_shown(alloc, trip, &list)?;
+    let found = or_why(alloc, trip, route)?;
     match found {
         Shortest::Route { segments, length } => Ok(Found::Route {
             segments,
@@ -170,24 +131,16 @@ fn find(
 // The route that potentials show, or none.
 fn route_shown(
     alloc: Global,
-    network: &Network,
-    passable: &[bool],
+    trip: &Trip,
     potentials: &[Option<u64>],
-    from: u32,
-    to: u32,
 ) -> Result<Option<Shortest>, AllocError>
-    requires roads { IsRoads network.now }
-    requires flags { length passable.now ≡ length network.now.segments }
-    requires from { from < length network.now.nodes }
-    requires to { to < length network.now.nodes }
-    requires potentials { AreNearOver network.now passable.now from to potentials.now }
-    ensures { IfOk result (IsRouteOrNone network.now passable.now from to) }
+    requires { AreNearOver trip.now.roads.network.now trip.now.roads.flags.now trip.now.from trip.now.to potentials.now }
+    ensures { IfOk result (IsRouteOrNone trip.now.roads.network.now trip.now.roads.flags.now trip.now.from trip.now.to) }
 {
-    let nearest = potentials[from as usize];
+    let nearest = potentials[trip.from as usize];
     match nearest {
         Some(length) => {
-            let start = Waiting { length, node: from };
-            let segments = follow(alloc, network, passable, potentials, start, to)?;
+            let segments = follow(alloc, trip, potentials, length)?;
             Ok(Some(Shortest::Route {
                 segments: Numbers::of(segments),
                 length,
@@ -198,50 +151,38 @@ fn route_shown(
 }
 
 // What was found, or why nothing was.
-fn or_why(
-    alloc: Global,
-    network: &Network,
-    passable: &[bool],
-    from: u32,
-    to: u32,
-    found: Option<Shortest>,
-) -> Result<Shortest, AllocError>
-    requires flags { length passable.now ≡ length network.now.segments }
-    requires from { from < length network.now.nodes }
-    requires to { to < length network.now.nodes }
-    requires found { IsRouteOrNone network.now passable.now from to found }
-    ensures { IfOk result (IsShortest network.now passable.now from to) }
+fn or_why(alloc: Global, trip: &Trip, found: Option<Shortest>) -> Result<Shortest, AllocError>
+    requires { IsRouteOrNone trip.now.roads.network.now trip.now.roads.flags.now trip.now.from trip.now.to found }
+    ensures { IfOk result (IsShortest trip.now.roads.network.now trip.now.roads.flags.now trip.now.from trip.now.to) }
 {
     match found {
         Some(route) => Ok(route),
-        None => no_route(alloc, network, passable, from, to),
+        None => no_route(alloc, trip),
     }
 }
 
 // Why there is no passable walk.
-fn no_route(
-    alloc: Global,
-    network: &Network,
-    passable: &[bool],
-    from: u32,
-    to: u32,
-) -> Result<Shortest, AllocError>
-    requires flags { length passable.now ≡ length network.now.segments }
-    requires from { from < length network.now.nodes }
-    requires to { to < length network.now.nodes }
-    requires none { CanReach network.now.segments (flagged passable.now) from to → ⊥ }
-    ensures { IfOk result (IsShortest network.now passable.now from to) }
+fn no_route(alloc: Global, trip: &Trip) -> Result<Shortest, AllocError>
+    requires { CanReach trip.now.roads.network.now.segments (flagged trip.now.roads.flags.now) trip.now.from trip.now.to → ⊥ }
+    ensures { IfOk result (IsShortest trip.now.roads.network.now trip.now.roads.flags.now trip.now.from trip.now.to) }
 {
+    let network = trip.roads.network;
     let open = vec![in alloc; true; network.segments() as usize]?;
-    let all = reach(alloc, network, open.as_slice(), Way::Forth, from)?;
-    if all[to as usize] {
-        let marked = reach(alloc, network, passable, Way::Forth, from)?;
-        let reached = listed(alloc, network, passable, from, marked.as_slice())?;
+    let flags = open.as_slice();
+    let roads = Passable { network, flags };
+    let (way, root) = (Way::Forth, trip.from);
+    let any = Walks { roads, way, root };
+    let all = reach(alloc, &any)?;
+    if all[trip.to as usize] {
+        let roads = trip.roads;
+        let passable = Walks { roads, way, root };
+        let marked = reach(alloc, &passable)?;
+        let reached = listed(alloc, &passable, marked.as_slice())?;
         Ok(Shortest::Cut {
             reached: Numbers::of(reached),
         })
     } else {
-        let reached = listed(alloc, network, open.as_slice(), from, all.as_slice())?;
+        let reached = listed(alloc, &any, all.as_slice())?;
         Ok(Shortest::NoRoad {
             reached: Numbers::of(reached),
         })

@@ -1,52 +1,39 @@
 // The walk that the potentials show.
 ghost use Rattle.std.specs.Prelude.{◌≡◌, ◌↔◌, ℕ, ◌+◌, ◌<◌, ◌≤◌, length, IfOk, IfSome, IfNone, IsTrue, slice_get, Some, None};
-ghost use Rattle.road_graph.specs.Roads.{IsRoads};
 ghost use Rattle.route_search.specs.Walks.{IsRoute, flagged};
 ghost use Rattle.route_search.specs.Founds.{AreNearOver};
 ghost use Rattle.route_search.specs.Following.{IsFirstTightOver, IsNoneTightOver, IsTightOver};
 
+use crate::passable::Passable;
 use crate::settle::is_known;
+use crate::trip::Trip;
 use crate::waiting::Waiting;
-use road_graph::Network;
 use std::alloc::{AllocError, Global};
 
-fn is_tight(
-    network: &Network,
-    passable: &[bool],
-    potentials: &[Option<u64>],
-    node: u32,
-    left: u64,
-    i: u32,
-) -> bool
-    requires flags { length passable.now ≡ length network.now.segments }
-    requires potentials { length potentials.now ≡ length network.now.nodes }
-    requires there { i < length network.now.segments }
-    ensures { IsTrue result ↔ IsTightOver network.now passable.now potentials.now node left i }
+fn is_tight(roads: &Passable, potentials: &[Option<u64>], near: Waiting, i: u32) -> bool
+    requires potentials { length potentials.now ≡ length roads.now.network.now.nodes }
+    requires there { i < length roads.now.network.now.segments }
+    ensures { IsTrue result ↔ IsTightOver roads.now.network.now roads.now.flags.now potentials.now near.node near.length i }
 {
-    let segment = network.segment(i);
+    let segment = roads.network.segment(i);
     let feet = u64::from(segment.feet);
-    if segment.from == node && passable[i as usize] && feet <= left {
-        is_known(potentials[segment.to as usize], left - feet)
+    if segment.from == near.node && roads.flags[i as usize] && feet <= near.length {
+        is_known(potentials[segment.to as usize], near.length - feet)
     } else {
         false
     }
 }
 
-fn first_tight(
-    network: &Network,
-    passable: &[bool],
-    potentials: &[Option<u64>],
-    node: u32,
-    left: u64,
-) -> Option<u32>
-    requires flags { length passable.now ≡ length network.now.segments }
-    requires potentials { length potentials.now ≡ length network.now.nodes }
-    requires there { node < length network.now.nodes }
-    ensures some { IfSome result (IsFirstTightOver network.now passable.now potentials.now node left) }
-    ensures none { IfNone result (IsNoneTightOver network.now passable.now potentials.now node left) }
+fn first_tight(roads: &Passable, potentials: &[Option<u64>], near: Waiting) -> Option<u32>
+    requires potentials { length potentials.now ≡ length roads.now.network.now.nodes }
+    requires there { near.node < length roads.now.network.now.nodes }
+    ensures some { IfSome result
+        (IsFirstTightOver roads.now.network.now roads.now.flags.now potentials.now near.node near.length) }
+    ensures none { IfNone result
+        (IsNoneTightOver roads.now.network.now roads.now.flags.now potentials.now near.node near.length) }
 {
-    for i in network.outgoing(node) {
-        if is_tight(network, passable, potentials, node, left, *i) {
+    for i in roads.network.outgoing(near.node) {
+        if is_tight(roads, potentials, near, *i) {
             return Some(*i);
         }
     }
@@ -56,28 +43,27 @@ fn first_tight(
 // From each node the least-numbered segment that leads on a shortest walk.
 pub(crate) fn follow(
     alloc: Global,
-    network: &Network,
-    passable: &[bool],
+    trip: &Trip,
     potentials: &[Option<u64>],
-    start: Waiting,
-    to: u32,
+    feet: u64,
 ) -> Result<Vec<u32>, AllocError>
-    requires roads { IsRoads network.now }
-    requires flags { length passable.now ≡ length network.now.segments }
-    requires potentials { AreNearOver network.now passable.now start.node to potentials.now }
-    requires start { slice_get potentials.now start.node ≡ Some (Some start.length) }
-    ensures { IfOk result (λ r. IsRoute network.now.segments (flagged passable.now) start.node to r.items) }
+    requires potentials { AreNearOver trip.now.roads.network.now trip.now.roads.flags.now trip.now.from trip.now.to potentials.now }
+    requires start { slice_get potentials.now trip.now.from ≡ Some (Some feet) }
+    ensures { IfOk result
+        (λ r. IsRoute trip.now.roads.network.now.segments (flagged trip.now.roads.flags.now) trip.now.from trip.now.to r.items) }
 {
     let mut route = Vec::new(alloc);
-    let mut node = start.node;
-    let mut left = start.length;
-    'follow: while left > 0 {
-        match first_tight(network, passable, potentials, node, left) {
+    let mut near = Waiting {
+        length: feet,
+        node: trip.from,
+    };
+    'follow: while near.length > 0 {
+        match first_tight(&trip.roads, potentials, near) {
             Some(i) => {
-                let segment = network.segment(i);
+                let segment = trip.roads.network.segment(i);
                 route.push(i)?;
-                node = segment.to;
-                left -= u64::from(segment.feet);
+                near.node = segment.to;
+                near.length -= u64::from(segment.feet);
             }
             None => unreachable!(),
         }

@@ -3,6 +3,7 @@
 ghost use Rattle.std.specs.Prelude.{◌≡◌, ◌<◌, ◌≤◌, length, IfOk};
 ghost use Rattle.route_search.specs.Heights.{AreLengths, AreLevel, AreZeros, IsColumn, IsLeastFall, IsRaised, height_of};
 
+use crate::passable::Passable;
 use crate::settle::settle_all;
 use names::NoMemory;
 use road_graph::Network;
@@ -182,7 +183,8 @@ fn lengths(alloc: Global, network: &Network, node: u32) -> Result<Vec<Option<u64
     ensures { IfOk result (λ r. AreLengths network.now node r.items) }
 {
     let open = vec![in alloc; true; network.segments() as usize]?;
-    let lengths = settle_all(alloc, network, &open, node)?;
+    let flags = open.as_slice();
+    let lengths = settle_all(alloc, &Passable { network, flags }, node)?;
     Ok(lengths)
 }
 

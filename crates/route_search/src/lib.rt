@@ -22,12 +22,15 @@ mod follow;
 mod found;
 mod heights;
 mod laws;
+mod passable;
 mod query;
 mod reach;
 mod region;
 mod settle;
 mod shortest;
+mod trip;
 mod waiting;
+mod walks;
 mod width;
 
 pub use finding::{
@@ -36,5 +39,7 @@ pub use finding::{
 pub use found::{Found, Potentials};
 pub use heights::Heights;
 pub use laws::{cuts_hold, findings_are_one, potentials_certify};
+pub use passable::Passable;
 pub use region::Region;
 pub use shortest::Shortest;
+pub use trip::Trip;

@@ -1,18 +1,55 @@
 // The nodes that walks reach, and those from which walks come.
-ghost use Rattle.std.specs.Prelude.{◌≡◌, ◌↔◌, ℕ, ◌+◌, ◌<◌, ◌≤◌, length, IfOk, OnOk, IsTrue, slice_get, Some, None, [], take};
-ghost use Rattle.road_graph.specs.Roads.{IsRoads, Roads};
-ghost use Rattle.route_search.specs.declared.reach.Way.TheVariants.{Back, Forth};
+ghost use Rattle.std.specs.Prelude.{◌≡◌, ◌<◌, length, IfOk, OnOk};
+ghost use Rattle.route_search.specs.declared.walks.Way.TheVariants.{Forth};
 ghost use Rattle.route_search.specs.Walks.{AreReached, flagged};
-ghost use Rattle.route_search.specs.Reaching.{AreMarked, IsMarkedToo, IsNoMoreToMark, IsReachingOver, IsSpreadingOver};
+ghost use Rattle.route_search.specs.Reaching.{AreMarked, IsMarkedToo, IsNoMoreToMark, IsReachingOver, IsSpreadingOver, IsStep, IsWhole, entered_at};
 
+use crate::walks::{Walks, Way};
 use road_graph::Network;
 use std::alloc::{AllocError, Global};
 
-// The direction in which segments are taken: as they lead, or against it.
+// A segment as it is taken: its number, and the node at which it is left.
 #[derive(Clone, Copy)]
-pub(crate) enum Way {
-    Forth,
-    Back,
+struct Step {
+    segment: u32,
+    to: u32,
+}
+
+impl Way {
+    // How many segments are entered at a node.
+    fn count(self, network: &Network, node: u32) -> usize
+        requires { node < length network.now.nodes }
+        ensures count { result ≡ length (entered_at self network.now.segments node) }
+        ensures whole { IsWhole self network.now.segments node }
+    {
+        match self {
+            Way::Forth => network.outgoing(node).len(),
+            Way::Back => network.incoming(node).len(),
+        }
+    }
+
+    // The segment of a place among those that are entered at a node.
+    fn step(self, network: &Network, node: u32, k: usize) -> Step
+        requires node { node < length network.now.nodes }
+        requires k { k < length (entered_at self network.now.segments node) }
+        ensures { IsStep self network.now.segments node k result }
+    {
+        match self {
+            Way::Forth => {
+                let segment = network.outgoing(node)[k];
+                let to = network.segment(segment).to;
+                Step { segment, to }
+            }
+            Way::Back => {
+                let arrival = network.incoming(node)[k];
+                let to = arrival.from;
+                Step {
+                    segment: arrival.segment,
+                    to,
+                }
+            }
+        }
+    }
 }
 
 // Marks a node, if it is not yet marked, and notes that its segments are to be tried.
@@ -28,97 +65,52 @@ fn mark(marked: &mut Vec<bool>, waiting: &mut Vec<u32>, node: u32) -> Result<(),
     Ok(())
 }
 
-// Tries the segments from a node.
-fn spread_forth(
-    network: &Network,
-    passable: &[bool],
-    root: u32,
+// Tries the segments that are entered at a node.
+fn spread(
+    walks: &Walks,
     marked: &mut Vec<bool>,
     waiting: &mut Vec<u32>,
     node: u32,
 ) -> Result<(), AllocError>
-    requires flags { length passable.now ≡ length network.now.segments }
-    requires roads { IsRoads network.now }
-    requires before { IsSpreadingOver Forth network.now passable.now root marked.old.items waiting.old.items node }
-    ensures after { OnOk result
-        (IsReachingOver Forth network.now passable.now root marked.new.items waiting.new.items) }
+    requires { IsSpreadingOver walks.now marked.old.items waiting.old.items node }
+    ensures after { OnOk result (IsReachingOver walks.now marked.new.items waiting.new.items) }
     ensures less { OnOk result
         (IsNoMoreToMark marked.old.items waiting.old.items marked.new.items waiting.new.items) }
 {
-    for i in network.outgoing(node) {
-        if passable[*i as usize] {
-            let segment = network.segment(*i);
-            mark(marked, waiting, segment.to)?;
-        }
-    }
-    Ok(())
-}
-
-// Tries the segments into a node, against their direction.
-fn spread_back(
-    network: &Network,
-    passable: &[bool],
-    root: u32,
-    marked: &mut Vec<bool>,
-    waiting: &mut Vec<u32>,
-    node: u32,
-) -> Result<(), AllocError>
-    requires flags { length passable.now ≡ length network.now.segments }
-    requires roads { IsRoads network.now }
-    requires before { IsSpreadingOver Back network.now passable.now root marked.old.items waiting.old.items node }
-    ensures after { OnOk result
-        (IsReachingOver Back network.now passable.now root marked.new.items waiting.new.items) }
-    ensures less { OnOk result
-        (IsNoMoreToMark marked.old.items waiting.old.items marked.new.items waiting.new.items) }
-{
-    for arrival in network.incoming(node) {
-        if passable[arrival.segment as usize] {
-            mark(marked, waiting, arrival.from)?;
+    let network = walks.roads.network;
+    for k in 0..walks.way.count(network, node) {
+        let step = walks.way.step(network, node, k);
+        if walks.roads.flags[step.segment as usize] {
+            mark(marked, waiting, step.to)?;
         }
     }
     Ok(())
 }
 
 // Marks the nodes that walks from the root reach, or those from which walks reach it.
-pub(crate) fn reach(
-    alloc: Global,
-    network: &Network,
-    passable: &[bool],
-    way: Way,
-    root: u32,
-) -> Result<Vec<bool>, AllocError>
-    requires flags { length passable.now ≡ length network.now.segments }
-    requires there { root < length network.now.nodes }
-    ensures { IfOk result (λ r. AreMarked way network.now (flagged passable.now) root r.items) }
+pub(crate) fn reach(alloc: Global, walks: &Walks) -> Result<Vec<bool>, AllocError>
+    ensures { IfOk result
+        (λ r. AreMarked walks.now.way walks.now.roads.network.now (flagged walks.now.roads.flags.now) walks.now.root r.items) }
 {
-    let nodes = network.nodes() as usize;
+    let nodes = walks.roads.network.nodes() as usize;
     let mut marked = vec![in alloc; false; nodes]?;
     let mut waiting = Vec::with_capacity(alloc, nodes)?;
-    mark(&mut marked, &mut waiting, root)?;
+    mark(&mut marked, &mut waiting, walks.root)?;
     'nodes: while let Some(node) = waiting.pop() {
-        match way {
-            Way::Forth => spread_forth(network, passable, root, &mut marked, &mut waiting, node)?,
-            Way::Back => spread_back(network, passable, root, &mut marked, &mut waiting, node)?,
-        }
+        spread(walks, &mut marked, &mut waiting, node)?;
     }
     Ok(marked)
 }
 
 // The numbers of the nodes that are marked, rising.
-pub(crate) fn listed(
-    alloc: Global,
-    network: &Network,
-    passable: &[bool],
-    from: u32,
-    marked: &[bool],
-) -> Result<Vec<u32>, AllocError>
-    requires roads { IsRoads network.now }
-    requires marks { AreMarked Forth network.now (flagged passable.now) from marked.now }
-    ensures { IfOk result (λ r. AreReached network.now.segments (flagged passable.now) from r.items) }
+pub(crate) fn listed(alloc: Global, walks: &Walks, marked: &[bool]) -> Result<Vec<u32>, AllocError>
+    requires { AreMarked Forth walks.now.roads.network.now (flagged walks.now.roads.flags.now) walks.now.root marked.now }
+    ensures { IfOk result
+        (λ r. AreReached walks.now.roads.network.now.segments (flagged walks.now.roads.flags.now) walks.now.root r.items) }
 {
     let count = marked.iter().filter(|is_marked| **is_marked).count();
     let mut numbers = Vec::with_capacity(alloc, count)?;
-    for i in 0..network.nodes() {
+    for i in 0..walks.roads.network.nodes() {
         if marked[i as usize] {
             numbers.push(i)?;
         }

@@ -1,14 +1,13 @@
 // The least lengths to a goal.
 ghost use Rattle.std.specs.Prelude.{◌≡◌, ◌↔◌, ◌<◌, length, IfOk, IfNone, OnOk, IsTrue, true, replicate, Some, None};
-ghost use Rattle.road_graph.specs.Roads.{IsRoads};
 ghost use Rattle.route_search.specs.Founds.{ArePotentialsOver};
 ghost use Rattle.route_search.specs.Settling.{AreAsked, IsLeftOut, IsMore, IsNoMoreWork, IsRelaxingFor, IsSearchingFor, IsTriedFor, beyond, weight_of};
 
 use crate::heights::Heights;
+use crate::passable::Passable;
 use crate::query::Query;
 use crate::waiting::{Queue, Waiting};
 use crate::width::shift;
-use road_graph::Network;
 use std::alloc::{AllocError, Global};
 
 fn is_shorter(known: Option<u64>, feet: u64) -> bool
@@ -45,15 +44,16 @@ fn none_known(alloc: Global, nodes: usize) -> Result<Vec<Option<u64>>, AllocErro
 
 // How long a walk from the start by a node is at least, that goes on for so many feet; none where a shorter one is known.
 // Where no start is named, how many feet it goes on.
-fn through(query: &Query, potentials: &[Option<u64>], node: u32, feet: u64) -> Option<u64>
-    requires many { length potentials.now ≡ length query.now.network.now.nodes }
-    requires near { feet < beyond }
-    ensures { IfNone result (IsLeftOut query.now potentials.now node feet) }
+fn through(query: &Query, potentials: &[Option<u64>], near: Waiting) -> Option<u64>
+    requires many { length potentials.now ≡ length query.now.roads.network.now.nodes }
+    requires near { near.length < beyond }
+    ensures { IfNone result (IsLeftOut query.now potentials.now near) }
 {
     let Some(start) = query.start else {
-        return Some(feet);
+        return Some(near.length);
     };
-    let least = feet + u64::from(query.heights.fall(query.network, start, node));
+    let fall = query.heights.fall(query.roads.network, start, near.node);
+    let least = near.length + u64::from(fall);
     if is_longer(least, potentials[start as usize]) {
         None
     } else {
@@ -66,19 +66,18 @@ fn improve(
     query: &Query,
     potentials: &mut Vec<Option<u64>>,
     queue: &mut Queue,
-    node: u32,
-    feet: u64,
+    next: Waiting,
 ) -> Result<(), AllocError>
-    requires many { length potentials.old.items ≡ length query.now.network.now.nodes }
-    requires within { node < length potentials.old.items }
-    requires near { feet < beyond }
+    requires many { length potentials.old.items ≡ length query.now.roads.network.now.nodes }
+    requires within { next.node < length potentials.old.items }
+    requires near { next.length < beyond }
     ensures { OnOk result
-        (IsTriedFor query.now potentials.old.items queue.old potentials.new.items queue.new node feet) }
+        (IsTriedFor query.now potentials.old.items queue.old potentials.new.items queue.new next) }
 {
-    if is_shorter(potentials[node as usize], feet) {
-        if let Some(place) = through(query, potentials, node, feet) {
-            potentials[node as usize] = Some(feet);
-            queue.push(Waiting { length: feet, node }, place)?;
+    if is_shorter(potentials[next.node as usize], next.length) {
+        if let Some(place) = through(query, potentials, next) {
+            potentials[next.node as usize] = Some(next.length);
+            queue.push(next, place)?;
         }
     }
     Ok(())
@@ -86,11 +85,11 @@ fn improve(
 
 // Whether no walk from the start by a node is the shortest that goes on as this one.
 fn is_out(query: &Query, potentials: &[Option<u64>], near: Waiting) -> bool
-    requires many { length potentials.now ≡ length query.now.network.now.nodes }
+    requires many { length potentials.now ≡ length query.now.roads.network.now.nodes }
     requires near { near.length < beyond }
-    ensures { result ≡ true → IsLeftOut query.now potentials.now near.node near.length }
+    ensures { result ≡ true → IsLeftOut query.now potentials.now near }
 {
-    through(query, potentials, near.node, near.length).is_none()
+    through(query, potentials, near).is_none()
 }
 
 // Tries the segments into a node for shorter ways, where a walk from the start by it may be the shortest.
@@ -100,8 +99,7 @@ fn relax(
     queue: &mut Queue,
     near: Waiting,
 ) -> Result<(), AllocError>
-    requires roads { IsRoads query.now.network.now }
-    requires there { near.node < length query.now.network.now.nodes }
+    requires there { near.node < length query.now.roads.network.now.nodes }
     requires before { IsRelaxingFor query.now potentials.old.items queue.old near }
     ensures after { OnOk result (IsSearchingFor query.now potentials.new.items queue.new) }
     ensures less { OnOk result
@@ -110,12 +108,13 @@ fn relax(
     if is_out(query, potentials, near) {
         return Ok(());
     }
-    let passable = query.passable;
-    let arrivals = query.network.incoming(near.node);
+    let passable = query.roads.flags;
+    let arrivals = query.roads.network.incoming(near.node);
     for arrival in arrivals {
         if passable[arrival.segment as usize] {
-            let feet = near.length + u64::from(arrival.feet);
-            improve(query, potentials, queue, arrival.from, feet)?;
+            let length = near.length + u64::from(arrival.feet);
+            let node = arrival.from;
+            improve(query, potentials, queue, Waiting { length, node })?;
         }
     }
     Ok(())
@@ -123,14 +122,13 @@ fn relax(
 
 // The least lengths that are asked for.
 pub(crate) fn settle(alloc: Global, query: &Query) -> Result<Vec<Option<u64>>, AllocError>
-    ensures roads { OnOk result (IsRoads query.now.network.now) }
-    ensures least { IfOk result (λ r. AreAsked query.now r.items) }
+    ensures { IfOk result (λ r. AreAsked query.now r.items) }
 {
     let goal = query.goal;
-    let nodes = query.network.nodes() as usize;
+    let nodes = query.roads.network.nodes() as usize;
     let mut potentials = none_known(alloc, nodes)?;
     potentials[goal as usize] = Some(0);
-    let mut queue = Queue::new(alloc, shift(query.network))?;
+    let mut queue = Queue::new(alloc, shift(query.roads.network))?;
     queue.push(
         Waiting {
             length: 0,
@@ -149,19 +147,15 @@ pub(crate) fn settle(alloc: Global, query: &Query) -> Result<Vec<Option<u64>>, A
 // The least length to a goal from each node.
 pub(crate) fn settle_all(
     alloc: Global,
-    network: &Network,
-    passable: &[bool],
+    roads: &Passable,
     goal: u32,
 ) -> Result<Vec<Option<u64>>, AllocError>
-    requires flags { length passable.now ≡ length network.now.segments }
-    requires there { goal < length network.now.nodes }
-    ensures roads { OnOk result (IsRoads network.now) }
-    ensures least { IfOk result (λ r. ArePotentialsOver network.now passable.now goal r.items) }
+    requires { goal < length roads.now.network.now.nodes }
+    ensures { IfOk result (λ r. ArePotentialsOver roads.now.network.now roads.now.flags.now goal r.items) }
 {
     let none = Heights::none(alloc);
     let query = Query {
-        network,
-        passable,
+        roads: *roads,
         start: None,
         goal,
         heights: &none,

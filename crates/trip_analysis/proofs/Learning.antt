@@ -6,13 +6,15 @@ use Rattle.std.proofs.lemmas.List.{get_or-set_other, get_or-set_same, length-set
 use Rattle.restriction_log.specs.States.{InForce}
 use Rattle.route_search.specs.Heights.{AreHeights}
 use Rattle.trip_analysis.specs.declared.analyst.Analyst.{Analyst}
+use Rattle.trip_analysis.specs.declared.kept.Kept.{Kept}
 use Rattle.trip_analysis.specs.declared.known.Known.{Known}
 use Rattle.fleet.specs.Bases.{BaseLists}
-use Rattle.trip_analysis.specs.Known.{AreKnown, IsKnown, IsOfRoads}
+use Rattle.trip_analysis.specs.Known.{AreKnown, IsKept, IsKnown}
 
 -- what is known of a truck stays known while it may pass the same segments, and what is kept beside them is over these
-pub known_after : (base : BaseLists) (state : InForce) (truck : ℕ) (old new : Known) → IsKnown base state truck old → new.passable.items ≡ old.passable.items → IsOfRoads base.roads new → IsKnown base state truck new
-known_after base state truck old new is same of_roads = record { passable = same ∙ is.passable; of_roads = of_roads }
+pub known_after : (base : BaseLists) (state : InForce) (truck : ℕ) (known : Known) (kept : Kept) → IsKnown base state truck known → IsKept base.roads known.passable.items kept
+    → IsKnown base state truck (record { passable = known.passable; kept = kept })
+known_after base state truck known kept is are = record { passable = is.passable; of_roads = record { many = is.of_roads.many; kept = are } }
 
 -- what is known of the trucks stays known where that of one of them is replaced by what is known of it too
 module _ (base : BaseLists) (state : InForce) (a b : Analyst) (truck number : ℕ) (known : Option Known) (all : AreKnown base state a) (same : truck ≡ number) (there : number < length base.fleet) where

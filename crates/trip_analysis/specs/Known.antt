@@ -6,8 +6,9 @@ use Rattle.route_search.specs.Heights.{AreHeights}
 use Rattle.route_search.specs.Regions.{IsRegion}
 use Rattle.route_search.specs.declared.region.Region.{Region}
 use Rattle.restriction_log.specs.States.{InForce}
+use Rattle.trip_analysis.specs.declared.kept.Kept.{Kept}
 use Rattle.trip_analysis.specs.declared.known.Known.{Known}
-use Rattle.trip_analysis.specs.declared.known.Settled.{Settled}
+use Rattle.trip_analysis.specs.declared.kept.Settled.{Settled}
 use Rattle.trip_analysis.specs.declared.analyst.Analyst.{Analyst}
 use Rattle.fleet.specs.Bases.{BaseLists}
 use Rattle.fleet.specs.Passing.{flags_of, is_passable}
@@ -21,12 +22,16 @@ pub record IsSettled (roads : Roads) (passable : List Bool) (settled : Settled) 
 abbrev pub IsRegionOver : Roads → List Bool → Region → Type 0
 IsRegionOver roads passable region = (root : ℕ) × IsRegion roads passable root region
 
+-- what is kept of searches, if anything is, is over the segments that may be passed
+pub record IsKept (roads : Roads) (passable : List Bool) (kept : Kept) : Type 0 where
+  pub settled : IfSome kept.settled (IsSettled roads passable)
+  pub region : IfSome kept.region (IsRegionOver roads passable)
+
 -- what is known of a truck is of the roads, whatever is posted: it says of each segment whether the truck may pass it, and
--- what is kept beside this, if anything is, is over the segments that it may pass
+-- what is kept beside this is over the segments that it may pass
 pub record IsOfRoads (roads : Roads) (known : Known) : Type 0 where
   pub many : length known.passable.items ≡ length roads.segments
-  pub settled : IfSome known.settled (IsSettled roads known.passable.items)
-  pub region : IfSome known.region (IsRegionOver roads known.passable.items)
+  pub kept : IsKept roads known.passable.items known.kept
 
 -- what is known of a truck in a state: which segments it may pass there, and what is kept beside this
 pub record IsKnown (base : BaseLists) (state : InForce) (truck : ℕ) (known : Known) : Type 0 where

@@ -14,8 +14,7 @@ use clearance_rules::Steps;
 use fleet::{Base, TruckOn};
 use names::NoMemory;
 use restriction_log::State;
-use road_graph::Network;
-use route_search::{Heights, Shortest, shortest_walk};
+use route_search::{Heights, Passable, Shortest, Trip, shortest_walk};
 use snapshot_store::Snapshot;
 use std::alloc::Global;
 use std::sync::ledger::Ledger;
@@ -116,25 +115,20 @@ fn find_free<L: Ledger>(
     let truck = application.truck();
     let on = TruckOn { base, state, truck };
     let passable = on.flags(alloc, steps)?;
+    let network = base.network();
+    network.lists_are_in_order();
+    let flags = passable.as_slice();
+    let roads = Passable { network, flags };
     let (from, to) = (application.from(), application.to());
-    search_flagged(alloc, base.network(), &passable, from, to)
+    search_along(alloc, &Trip { roads, from, to })
 }
 
-// What a search over the flagged segments finds, as it is proposed.
-fn search_flagged(
-    alloc: Global,
-    network: &Network,
-    passable: &[bool],
-    from: u32,
-    to: u32,
-) -> Result<What, NoMemory>
-    requires flags { length passable.now ≡ length network.now.segments }
-    requires from { from < length network.now.nodes }
-    requires to { to < length network.now.nodes }
-    ensures { IfOk result (IsSearched network.now passable.now from to) }
+// What a search for a trip finds, as it is proposed.
+fn search_along(alloc: Global, trip: &Trip) -> Result<What, NoMemory>
+    ensures { IfOk result (IsSearched trip.now.roads.network.now trip.now.roads.flags.now trip.now.from trip.now.to) }
 {
     let heights = Heights::none(alloc);
-    let found = shortest_walk(alloc, network, passable, &heights, from, to)?;
+    let found = shortest_walk(alloc, trip, &heights)?;
     proposed(alloc, found)
 }
 

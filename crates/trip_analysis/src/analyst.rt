@@ -18,7 +18,7 @@ use fleet::{Base, TruckOn};
 use names::NoMemory;
 use restriction_log::State;
 use road_graph::Network;
-use route_search::Heights;
+use route_search::{Heights, Passable, Trip};
 use snapshot_store::Snapshot;
 use std::alloc::Global;
 use std::sync::ledger::Ledger;
@@ -98,9 +98,13 @@ impl Analyst {
             Some(known) => known,
             None => Known::at(alloc, base, snapshot, truck, steps)?,
         };
-        let heights = &mut self.heights;
+        let network = base.network();
+        network.lists_are_in_order();
+        let flags = known.passable.as_slice();
+        let roads = Passable { network, flags };
         let (from, to) = (application.from(), application.to());
-        let found = known.search(alloc, base.network(), heights, from, to);
+        let trip = Trip { roads, from, to };
+        let found = known.kept.search(alloc, &trip, &mut self.heights);
         *slot = Some(known);
         proposed(alloc, found?)
     }

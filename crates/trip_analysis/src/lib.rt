@@ -13,6 +13,7 @@ mod analysis;
 mod analyst;
 mod finding;
 mod follower;
+mod kept;
 mod known;
 mod laws;
 mod node_set;

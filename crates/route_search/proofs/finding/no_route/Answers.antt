@@ -10,21 +10,21 @@ bit_at all i x b at e = at ∙ ap (λ (y : Bool). Some y) e
 
 pub returns-then-index : goal.returns-then-index
 returns-then-index c =
-    let roads = c.args.network.now in
+    let t = c.args.trip.now in let roads = t.roads.network.now in
     let flags = rw c.segments.ensures.count at (c.in_ok-open.ensures.items_if_clones_equal (λ y h. h)) in
-    let marks = rw c.as_slice.ensures.value at c.in_ok-all.ensures in
+    let marks = rw c.as_slice-flags.ensures.value at c.in_ok-all.ensures in
     let all = c.in_ok-all.all.items in
-    let within : c.args.to < length all = omega (arith, marks.many, c.requires.to) in
-    let at = slice_get_read all (length all) c.args.to c.index.result.now refl within c.index.ensures in
-    rw c.of.ensures (cut_found roads c.args.passable.now c.in_ok-open.open.items c.args.from c.args.to all c.in_ok-reached.reached.items flags c.requires.none marks (bit_at all c.args.to c.index.result.now true at c.if-index.true) c.in_ok-reached.ensures)
+    let within : t.to < length all = omega (arith, marks.many, t.to_is_there) in
+    let at = slice_get_read all (length all) t.to c.index.result.now refl within c.index.ensures in
+    rw c.of.ensures (cut_found roads t.roads.flags.now c.in_ok-open.open.items t.from t.to all c.in_ok-reached.reached.items flags c.requires marks (bit_at all t.to c.index.result.now true at c.if-index.true) c.in_ok-reached.ensures)
 
 pub returns : goal.returns
 returns c =
-    let roads = c.args.network.now in
+    let t = c.args.trip.now in let roads = t.roads.network.now in
     let flags = rw c.segments.ensures.count at (c.in_ok-open.ensures.items_if_clones_equal (λ y h. h)) in
-    let marks = rw c.as_slice.ensures.value at c.in_ok-all.ensures in
+    let marks = rw c.as_slice-flags.ensures.value at c.in_ok-all.ensures in
     let all = c.in_ok-all.all.items in
-    let within : c.args.to < length all = omega (arith, marks.many, c.requires.to) in
-    let at = slice_get_read all (length all) c.args.to c.index.result.now refl within c.index.ensures in
-    let listed = rw c.as_slice-else-index.ensures.value at c.in_ok-reached-2.ensures in
-    rw c.of-else-index.ensures (no_road_found roads c.in_ok-open.open.items c.args.from c.args.to all c.in_ok-reached-2.reached.items flags marks (bit_at all c.args.to c.index.result.now false at c.if-index.false) listed)
+    let within : t.to < length all = omega (arith, marks.many, t.to_is_there) in
+    let at = slice_get_read all (length all) t.to c.index.result.now refl within c.index.ensures in
+    let listed = rw c.as_slice-flags.ensures.value at c.in_ok-reached-2.ensures in
+    rw c.of-else-index.ensures (no_road_found roads c.in_ok-open.open.items t.from t.to all c.in_ok-reached-2.reached.items flags marks (bit_at all t.to c.index.result.now false at c.if-index.false) listed)

@@ -10,17 +10,17 @@ read_at ps i p within e = slice_get-get_or ps i None within ∙ ap (λ (y : Opti
 
 pub follow-requires-clause-start : goal.follow-requires-clause-start
 follow-requires-clause-start c =
-    let ps = c.args.potentials.now in
-    read_at ps c.args.from (Some c.in-Some.length) (omega (arith, c.requires.potentials.many, c.requires.from)) c.in-Some.is
+    let t = c.args.trip.now in let ps = c.args.potentials.now in
+    read_at ps t.from (Some c.in-Some.length) (omega (arith, c.requires.many, t.from_is_there)) c.in-Some.is
 
 pub returns-in-None : goal.returns-in-None
 returns-in-None c =
-    let ps = c.args.potentials.now in
-    let at = read_at ps c.args.from None (omega (arith, c.requires.potentials.many, c.requires.from)) c.in-None.is in
-    none_found c.args.network.now c.args.passable.now c.args.from c.args.to ps c.requires.potentials at
+    let t = c.args.trip.now in let ps = c.args.potentials.now in
+    let at = read_at ps t.from None (omega (arith, c.requires.many, t.from_is_there)) c.in-None.is in
+    none_found t.roads.network.now t.roads.flags.now t.from t.to ps c.requires at
 
 pub returns-in_ok-segments-in-Some : goal.returns-in_ok-segments-in-Some
 returns-in_ok-segments-in-Some c =
-    let ps = c.args.potentials.now in
-    let at = read_at ps c.args.from (Some c.in-Some.length) (omega (arith, c.requires.potentials.many, c.requires.from)) c.in-Some.is in
-    rw c.of.ensures (route_found c.args.network.now c.args.passable.now c.args.from c.args.to c.in_ok-segments-in-Some.segments.items c.in-Some.length ps c.in_ok-segments-in-Some.ensures c.requires.potentials at)
+    let t = c.args.trip.now in let ps = c.args.potentials.now in
+    let at = read_at ps t.from (Some c.in-Some.length) (omega (arith, c.requires.many, t.from_is_there)) c.in-Some.is in
+    rw c.of.ensures (route_found t.roads.network.now t.roads.flags.now t.from t.to c.in_ok-segments-in-Some.segments.items c.in-Some.length ps c.in_ok-segments-in-Some.ensures c.requires at)

@@ -5,4 +5,4 @@ use Rattle.route_search.specs.Following.{IsTight}
 use Rattle.route_search.proofs.follow.first_tight.Given as goal
 
 abbrev pub invariant-loop-i : goal.invariant-loop-i
-invariant-loop-i l = (j m : ℕ) → j < l.i-index → slice_get l.i-items j ≡ Some m → IsTight l.network.segments (flagged l.passable) l.potentials l.node l.left m → ⊥
+invariant-loop-i l = (j m : ℕ) → j < l.i-index → slice_get l.i-items j ≡ Some m → IsTight l.roads.network.now.segments (flagged l.roads.flags.now) l.potentials l.near.node l.near.length m → ⊥

@@ -5,5 +5,6 @@ use Rattle.route_search.proofs.reach.listed.Goals as goal
 
 pub returns : goal.returns
 returns c =
-    let end : c.loop-i.i ≡ length c.args.network.now.nodes = omega (arith, c.loop-i-test.false, c.loop-i.auto.i-end, c.nodes-i-end.ensures.count) in
-    rw (c.loop-i.invariant, end) (listed_all c.args.network.now (flagged c.args.passable.now) c.args.from c.args.marked.now c.requires.marks)
+    let w = c.args.walks.now in
+    let end : c.loop-i.i ≡ length w.roads.network.now.nodes = omega (arith, c.loop-i-test.false, c.loop-i.auto.i-end, c.nodes-i-end.ensures.count) in
+    rw (c.loop-i.invariant, end) (listed_all w.roads.network.now (flagged w.roads.flags.now) w.root c.args.marked.now c.requires)

@@ -18,6 +18,7 @@ returns-clause-known g c =
           subst (IsKnown base state truck) (sym w.known-is) (subst (λ (o : Option Known). IfSome o (IsKnown base state truck)) some (c.requires.known.each truck slot there))
       | in-None+in_ok-known-in-None w ↦ subst (IsKnown base state truck) (sym w.known-is) w.in_ok-known-in-None.ensures.known
     ] in
-    let now = rw c.network.ensures at c.search-found.ensures in
-    let is = known_after base state truck c.match-take.known c.search-found.new.self was now.passable now.known in
-    known_with base state a.self.now _ truck truck (Some c.search-found.new.self) c.requires.known refl there refl now.heights is
+    let now = rw (c.network-network.ensures, c.as_slice-flags.ensures.value) at c.search-found.ensures in
+    let is = known_after base state truck c.match-take.known c.search-found.new.self was now.kept in
+    let known : Known = record { passable = c.match-take.known.passable; kept = c.search-found.new.self } in
+    known_with base state a.self.now _ truck truck (Some known) c.requires.known refl there refl now.heights is

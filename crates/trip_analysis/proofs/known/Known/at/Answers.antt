@@ -7,5 +7,8 @@ returns-clause-known g c =
     let a = c.args in let flags = c.in_ok-flags.ensures.flags in
     record {
       passable = flags;
-      of_roads = record { many = flags_many a.base.now (state_now a.snapshot.now) a.truck c.in_ok-flags.field-0.items flags; settled = tt; region = tt };
+      of_roads = record {
+        many = flags_many a.base.now (state_now a.snapshot.now) a.truck c.in_ok-flags.field-0.items flags;
+        kept = record { settled = tt; region = tt };
+      };
     }

@@ -1,11 +1,10 @@
 use Rattle.std.proofs.Common.{[], refl}
-use Rattle.trip_analysis.proofs.known.Known.learn_region.Goals as goal
+use Rattle.trip_analysis.proofs.kept.Kept.learn_region.Goals as goal
 
 pub returns-clause-found : goal.returns-clause-found
 returns-clause-found c =
-    let a = c.args in
-    let is = rw c.deref.ensures.value at c.in_ok-region.ensures in
-    let told = c.why.ensures a.network.now a.self.now.passable.items a.from a.from is (record {
+    let t = c.args.trip.now in
+    let told = c.why.ensures t.roads.network.now t.roads.flags.now t.from t.from c.in_ok-region.ensures (record {
       joined = record { forth = ([], refl); back = ([], refl) };
       none = c.requires.none;
     }) in
