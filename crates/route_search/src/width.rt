@@ -5,7 +5,7 @@ ghost use Rattle.std.specs.Prelude.{◌<◌, ◌≤◌};
 use road_graph::Network;
 
 /// About how many nodes are looked at.
-const SAMPLE: u32 = 64;
+const SAMPLE: u32 = 16;
 
 // The binary logarithm of a length, rounded down.
 fn logarithm(feet: u32) -> u32
