@@ -1,3 +1,5 @@
 pub mod Rising
+pub mod Blocks
+pub mod Sifting
 pub mod Lists
 pub mod Filters

@@ -1,20 +1,17 @@
 -- The lists of an index, while a number is added to those of a route or taken out of them.
-use Rattle.std.proofs.Common.{◌≡◌, ◌≢◌, ◌∷◌, ◌++◌, [], List, ℕ, ◌+◌, ◌<◌, ◌⊎◌, inl, inr, Bool, true, false, nat_eq, not, ◌||◌, cond, length, get_or, set, take, refl, ap, sym, ◌∙◌, arith}
+use Rattle.std.proofs.Common.{◌≡◌, ◌≢◌, ◌∷◌, ◌++◌, [], List, ℕ, ◌+◌, ◌<◌, ◌⊎◌, inl, inr, Bool, true, false, nat_eq, not, ◌||◌, cond, length, get_or, set, take, refl, ap, sym, subst, ◌∙◌, arith}
 use Rattle.std.specs.List.{All}
-use Rattle.std.proofs.lemmas.Bool.{cases_eq, eq-eqb, ne_eqb, or_right, true≢false}
+use Rattle.std.proofs.lemmas.Bool.{cases_eq, eq-eqb, ne_eqb, or_right}
 use Rattle.std.proofs.lemmas.List.{append-nil, ext_get_or, get_or-set_other, get_or-set_same, length-set, set-get_or}
-use Rattle.std.proofs.lemmas.List.Elements.{filter-append, filter_passes}
+use Rattle.std.specs.List.Sorted.{IsStrictlyIncreasing}
+use Rattle.std.proofs.lemmas.List.Elements.{All-cons, All-nil, filter-append}
 use Rattle.std.proofs.lemmas.List.Folds.{list_any-append, list_any_more}
-use Rattle.recall_index.specs.Uses.{AreBelow, IsAdded, IsRemoved, IsTakenOut, IsThere, Lists, is_in, using_in, with_last, without}
-use Rattle.recall_index.proofs.Rising.{absent, without_absent}
+use Rattle.recall_index.specs.Uses.{AreAllOrNone, AreBelow, AreRemoved, AreTakenOut, AreThere, IsAdded, IsRemoved, IsThere, Lists, is_in, using_in, with_last, without, without_each}
+use Rattle.recall_index.proofs.Rising.{absent, either, none_left, without_absent, without_both, without_none, without_one}
 
 -- a place more is in the front of a list
 in_more : (s at : ℕ) (route : List ℕ) (i : ℕ) → i < length route → at ≡ get_or route i 0 → is_in s (take (i + 1) route) ≡ (is_in s (take i route) || nat_eq at s)
 in_more s at route i low is = list_any_more (λ k. nat_eq k s) route i 0 low ∙ ap (λ k. is_in s (take i route) || nat_eq k s) (sym is)
-
-either : (b : Bool) → (b || false) ≡ b
-either true = refl
-either false = refl
 
 -- a number below which all are is not among them
 above_absent : (n : ℕ) (xs : List ℕ) → All (λ k. k < n) xs → is_in n xs ≡ false
@@ -47,15 +44,24 @@ with_end n xs b below = ap (λ c. cond c (xs ++ end n b) ((xs ++ end n b) ++ n �
     by true = refl
     by false = ap (λ l. l ++ n ∷ []) (append-nil xs)
 
-without_twice : (n : ℕ) (xs : List ℕ) → without n (without n xs) ≡ without n xs
-without_twice n xs = without_absent n (without n xs) (absent n (without n xs) (λ k low e. true≢false (sym (filter_passes (λ j. not (nat_eq j n)) xs k 0 low) ∙ ap not (eq-eqb (get_or (without n xs) k 0) n e))))
+abbrev taken : List ℕ → List ℕ → Bool → List ℕ
+taken ns xs b = cond b (without_each ns xs) xs
 
-abbrev taken : ℕ → List ℕ → Bool → List ℕ
-taken n xs b = cond b (without n xs) xs
+taken_again : (ns xs : List ℕ) (b : Bool) → without_each ns (taken ns xs b) ≡ taken ns xs true
+taken_again ns xs true = without_none ns (without_each ns xs) (none_left ns xs)
+taken_again ns xs false = refl
 
-taken_again : (n : ℕ) (xs : List ℕ) (b : Bool) → without n (taken n xs b) ≡ taken n xs true
-taken_again n xs true = without_twice n xs
-taken_again n xs false = refl
+-- all or none of the numbers are still there
+taken_among : (ns xs : List ℕ) (b : Bool) → AreAllOrNone ns xs → AreAllOrNone ns (taken ns xs b)
+taken_among ns xs true among = (false, none_left ns xs)
+taken_among ns xs false among = among
+
+-- one number is there or not
+pub one_alone : (n : ℕ) (xs : List ℕ) → AreAllOrNone (n ∷ []) xs
+one_alone n xs = (is_in n xs, All-cons (λ k. is_in k xs ≡ is_in n xs) n [] refl (All-nil (λ k. is_in k xs ≡ is_in n xs)))
+
+pub one_rises : (n : ℕ) → IsStrictlyIncreasing (n ∷ [])
+one_rises n = λ k low. absurd (omega (arith, low))
 
 -- one list is another
 at_one : (lists : Lists) (at s : ℕ) (xs : List ℕ) → at ≡ s → at < length lists → using_in (set lists at xs) s ≡ xs
@@ -64,20 +70,25 @@ at_one lists at s xs e here = ap (λ k. using_in (set lists at xs) k) (sym e) �
 at_others : (lists : Lists) (at s : ℕ) (xs : List ℕ) → at ≢ s → using_in (set lists at xs) s ≡ using_in lists s
 at_others lists at s xs ne = get_or-set_other lists at s xs [] (λ e. ne (sym e))
 
-module _ (old lists new : Lists) (n at : ℕ) (route : List ℕ) (i : ℕ) (low : i < length route) (is : at ≡ get_or route i 0) (here : at < length lists) where
-  pub taken_more : IsTakenOut old n (take i route) lists → new ≡ set lists at (without n (using_in lists at)) → IsTakenOut old n (take (i + 1) route) new
+module _ (old lists new : Lists) (ns : List ℕ) (at : ℕ) (route : List ℕ) (i : ℕ) (low : i < length route) (is : at ≡ get_or route i 0) (here : at < length lists) where
+  pub taken_more : AreTakenOut old ns (take i route) lists → new ≡ set lists at (without_each ns (using_in lists at)) → AreTakenOut old ns (take (i + 1) route) new
   taken_more had now = record {
-    many = ap length now ∙ (length-set lists at (without n (using_in lists at)) ∙ had.many);
-    using = λ s within. (ap (λ l. using_in l s) now ∙ (by s within (cases_eq at s) ∙ ap (taken n (using_in old s)) (sym (in_more s at route i low is))));
+    many = ap length now ∙ (length-set lists at (without_each ns (using_in lists at)) ∙ had.many);
+    using = λ s within. (ap (λ l. using_in l s) now ∙ (by s within (cases_eq at s) ∙ ap (taken ns (using_in old s)) (sym (in_more s at route i low is))));
   }
     where
-      by : (s : ℕ) → s < length old → (at ≡ s) ⊎ (at ≡ s → ⊥) → using_in (set lists at (without n (using_in lists at))) s ≡ taken n (using_in old s) (is_in s (take i route) || nat_eq at s)
-      by s within (inl e) = at_one lists at s (without n (using_in lists at)) e here
-          ∙ (ap (λ k. without n (using_in lists k)) e ∙ (ap (without n) (had.using s within) ∙ (taken_again n (using_in old s) (is_in s (take i route))
-          ∙ ap (taken n (using_in old s)) (sym (or_right (is_in s (take i route)) (nat_eq at s) (eq-eqb at s e))))))
-      by s within (inr ne) = at_others lists at s (without n (using_in lists at)) ne ∙ (had.using s within
-          ∙ ap (taken n (using_in old s)) (sym (ap (λ b. is_in s (take i route) || b) (ne_eqb at s ne) ∙ either (is_in s (take i route)))))
+      by : (s : ℕ) → s < length old → (at ≡ s) ⊎ (at ≡ s → ⊥) → using_in (set lists at (without_each ns (using_in lists at))) s ≡ taken ns (using_in old s) (is_in s (take i route) || nat_eq at s)
+      by s within (inl e) = at_one lists at s (without_each ns (using_in lists at)) e here
+          ∙ (ap (λ k. without_each ns (using_in lists k)) e ∙ (ap (without_each ns) (had.using s within) ∙ (taken_again ns (using_in old s) (is_in s (take i route))
+          ∙ ap (taken ns (using_in old s)) (sym (or_right (is_in s (take i route)) (nat_eq at s) (eq-eqb at s e))))))
+      by s within (inr ne) = at_others lists at s (without_each ns (using_in lists at)) ne ∙ (had.using s within
+          ∙ ap (taken ns (using_in old s)) (sym (ap (λ b. is_in s (take i route) || b) (ne_eqb at s ne) ∙ either (is_in s (take i route)))))
 
+  -- all or none of the numbers are at the next segment
+  pub next_among : AreTakenOut old ns (take i route) lists → AreAllOrNone ns (using_in old at) → AreAllOrNone ns (using_in lists at)
+  next_among had among = subst (AreAllOrNone ns) (sym (had.using at (omega (arith, here, had.many)))) (taken_among ns (using_in old at) (is_in at (take i route)) among)
+
+module _ (old lists new : Lists) (n at : ℕ) (route : List ℕ) (i : ℕ) (low : i < length route) (is : at ≡ get_or route i 0) (here : at < length lists) where
   pub added_more : AreBelow n old → IsAdded old n (take i route) lists → new ≡ set lists at (with_last n (using_in lists at)) → IsAdded old n (take (i + 1) route) new
   added_more below had now = record {
     many = ap length now ∙ (length-set lists at (with_last n (using_in lists at)) ∙ had.many);
@@ -92,26 +103,44 @@ module _ (old lists new : Lists) (n at : ℕ) (route : List ℕ) (i : ℕ) (low 
           ∙ ap (λ b. using_in old s ++ end n b) (sym (ap (λ b. is_in s (take i route) || b) (ne_eqb at s ne) ∙ either (is_in s (take i route)))))
 
 -- what was added is taken out again
-pub undone : (old lists new : Lists) (n : ℕ) (route : List ℕ) → AreBelow n old → IsAdded old n route lists → IsTakenOut lists n route new → new ≡ old
-undone old lists new n route below had gone = ext_get_or [] new old (gone.many ∙ had.many) (λ s low.
-    let here : s < length lists = omega (arith, low, gone.many) in
+pub undone : (old lists new : Lists) (n : ℕ) (route : List ℕ) → AreBelow n old → IsAdded old n route lists → AreTakenOut lists (n ∷ []) route new → new ≡ old
+undone old lists new n route below had out = ext_get_or [] new old (out.many ∙ had.many) (λ s low.
+    let here : s < length lists = omega (arith, low, out.many) in
     let within : s < length old = omega (arith, here, had.many) in
-    gone.using s here ∙ (ap (λ l. taken n l (is_in s route)) (had.using s within) ∙ by s within (is_in s route)))
+    out.using s here ∙ (ap (λ l. taken (n ∷ []) l (is_in s route)) (had.using s within) ∙ by s within (is_in s route)))
   where
-    by : (s : ℕ) → s < length old → (b : Bool) → taken n (using_in old s ++ end n b) b ≡ using_in old s
-    by s within true = end_gone n (using_in old s) true (below s within)
+    by : (s : ℕ) → s < length old → (b : Bool) → taken (n ∷ []) (using_in old s ++ end n b) b ≡ using_in old s
+    by s within true = without_one n (using_in old s ++ end n true) ∙ end_gone n (using_in old s) true (below s within)
     by s within false = append-nil (using_in old s)
 
--- taken out of its own segments it is gone from each
-pub gone_from_all : (old new : Lists) (n : ℕ) (route : List ℕ) → IsThere old n route → IsTakenOut old n route new → IsRemoved old n new
-gone_from_all old new n route there gone = record {
-  many = gone.many;
-  using = λ s low. gone.using s low ∙ by s low (is_in s route) refl;
+-- numbers that are there with a route are all at a segment of it, or none is
+pub there_among : (old : Lists) (ns route : List ℕ) → AreThere old ns route → (s : ℕ) → s < length old → AreAllOrNone ns (using_in old s)
+there_among old ns route there s low = (is_in s route, λ k d h. there k d h s low)
+
+-- taken out of their own segments they are gone from each
+pub gone_from_all : (old new : Lists) (ns route : List ℕ) → AreThere old ns route → AreTakenOut old ns route new → AreRemoved old ns new
+gone_from_all old new ns route there out = record {
+  many = out.many;
+  using = λ s low. out.using s low ∙ by s low (is_in s route) refl;
 }
   where
-    by : (s : ℕ) → s < length old → (b : Bool) → is_in s route ≡ b → taken n (using_in old s) b ≡ without n (using_in old s)
+    by : (s : ℕ) → s < length old → (b : Bool) → is_in s route ≡ b → taken ns (using_in old s) b ≡ without_each ns (using_in old s)
     by s low true e = refl
-    by s low false e = sym (without_absent n (using_in old s) (there s low ∙ e))
+    by s low false e = sym (without_none ns (using_in old s) (λ k d h. there k d h s low ∙ e))
+
+-- and so is one
+pub one_from_all : (old new : Lists) (n : ℕ) (route : List ℕ) → IsThere old n route → AreTakenOut old (n ∷ []) route new → IsRemoved old n new
+one_from_all old new n route there out = let each = gone_from_all old new (n ∷ []) route (All-cons (λ k. IsThere old k route) n [] there (All-nil (λ k. IsThere old k route))) out in record {
+  many = each.many;
+  using = λ s low. each.using s low ∙ without_one n (using_in old s);
+}
+
+-- numbers that are removed one after the other are removed
+pub removed_both : (old mid new : Lists) (ns ms : List ℕ) → AreRemoved old ms mid → AreRemoved mid ns new → AreRemoved old (ns ++ ms) new
+removed_both old mid new ns ms one other = record {
+  many = other.many ∙ one.many;
+  using = λ s low. other.using s (omega (arith, low, one.many)) ∙ (ap (without_each ns) (one.using s low) ∙ without_both ns ms (using_in old s));
+}
 
 -- a list that is put back leaves all as they were
 pub put_back : (lists : Lists) (at : ℕ) (found put : List ℕ) → found ≡ get_or lists at found → put ≡ found → set lists at put ≡ lists

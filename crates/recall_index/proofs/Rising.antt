@@ -1,19 +1,19 @@
 -- Rising numbers: whether one is among them, and what is left without it.
-use Rattle.std.proofs.Common.{◌≡◌, ◌≢◌, ◌∷◌, ◌++◌, [], List, ℕ, suc, ◌+◌, ◌-◌, ◌<◌, ◌≤◌, ◌⊎◌, inl, inr, Bool, true, false, nat_eq, not, ◌||◌, cond, length, get_or, take, drop, Ok, Err, Result, Some, refl, ap, sym, ◌∙◌, arith}
-use Rattle.std.specs.Prelude.{IfNone, slice_get}
-use Rattle.std.specs.Result.{result_ok}
-use Rattle.std.specs.List.{All, remove}
+use Rattle.std.proofs.Common.{◌≡◌, ◌≢◌, ◌∷◌, ◌++◌, [], List, ℕ, ◌+◌, ◌-◌, ◌<◌, ◌≤◌, ◌⊎◌, inl, inr, Bool, true, false, nat_eq, not, ◌||◌, cond, filter, length, get_or, take, Ok, Err, refl, ap, sym, ◌∙◌, arith}
+use Rattle.std.specs.List.{All}
 use Rattle.std.specs.List.Sorted.{IsBinarySearchResult, IsStrictlyIncreasing}
 use Rattle.std.specs.Ordering.{nat_cmp}
-use Rattle.std.proofs.lemmas.Bool.{cases_eq, cases_lt, eq-eqb, ne_eqb, true≢false}
-use Rattle.std.proofs.lemmas.List.{get_or_default, get_or-drop, get_or-take, length-drop, length-take, take-append-drop}
-use Rattle.std.proofs.Math.Seq.{drop-cons}
-use Rattle.std.proofs.lemmas.List.Elements.{filter-append}
-use Rattle.std.proofs.lemmas.List.Folds.{list_any_none, list_any-from_Any}
+use Rattle.std.proofs.lemmas.Bool.{cases_eq, cases_lt, eq-eqb, eqb-true, ne_eqb, or_right, true≢false}
+use Rattle.std.proofs.lemmas.List.{get_or_default, get_or-take, length-take}
+use Rattle.std.proofs.lemmas.List.Elements.{All-head, All-tail, filter_agree, filter_passes}
+use Rattle.std.proofs.lemmas.List.Folds.{Any-from_list_any, list_any-append, list_any_none, list_any-from_Any}
 use Rattle.std.proofs.lemmas.List.Kept.{AllPairs-from_increasing}
 use Rattle.std.proofs.lemmas.List.Sorted.{searched}
-use Rattle.std.proofs.lemmas.Option.{get_or_from_slice_get}
-use Rattle.recall_index.specs.Uses.{is_in, without}
+use Rattle.recall_index.specs.Uses.{is_in, without, without_each}
+
+pub either : (b : Bool) → (b || false) ≡ b
+either true = refl
+either false = refl
 
 -- a number from which all differ is not among them
 pub absent : (n : ℕ) (xs : List ℕ) → ((k : ℕ) → k < length xs → get_or xs k 0 ≢ n) → is_in n xs ≡ false
@@ -34,56 +34,97 @@ is_last n last xs rising below some is = by (cases_eq last n)
         at k low e (inl more) = let next : get_or xs (k + 1) 0 ≤ n = below (k + 1) 0 more in let up : get_or xs k 0 < get_or xs (k + 1) 0 = rising k more in omega (arith, e, next, up)
         at k low e (inr end) = let same : k ≡ length xs - 1 = omega (arith, low, end) in ne (is ∙ (ap (λ j. get_or xs j 0) (sym same) ∙ e))
 
+-- numbers that pass a test stay, and those that fail it are gone
+pub stay : (p : ℕ → Bool) (xs : List ℕ) → All (λ x. p x ≡ true) xs → filter p xs ≡ xs
+stay p [] all = refl
+stay p (x ∷ xs) all = ap (λ b. cond b (x ∷ filter p xs) (filter p xs)) (All-head (λ x. p x ≡ true) x xs all) ∙ ap (λ l. x ∷ l) (stay p xs (All-tail (λ x. p x ≡ true) x xs all))
+
+pub gone : (p : ℕ → Bool) (xs : List ℕ) → All (λ x. p x ≡ false) xs → filter p xs ≡ []
+gone p [] none = refl
+gone p (x ∷ xs) none = ap (λ b. cond b (x ∷ filter p xs) (filter p xs)) (All-head (λ x. p x ≡ false) x xs none) ∙ gone p xs (All-tail (λ x. p x ≡ false) x xs none)
+
+-- a number that is among them has a place
+pub place_in : (n : ℕ) (xs : List ℕ) → is_in n xs ≡ true → (k : ℕ) × (k < length xs) × (get_or xs k 0 ≡ n)
+place_in n xs e = let h = Any-from_list_any (λ k. nat_eq k n) xs e in (h.0, h.2, get_or_default xs h.0 0 h.1 h.2 ∙ (h.3 ∙ eqb-true h.1 n h.4))
+
 -- without a number that is not among them they stay
 pub without_absent : (n : ℕ) (xs : List ℕ) → is_in n xs ≡ false → without n xs ≡ xs
-without_absent n [] none = refl
-without_absent n (x ∷ xs) none = by (nat_eq x n) none (without_absent n xs)
+without_absent n xs none = stay (λ k. not (nat_eq k n)) xs (λ k d low. ap not (ne_eqb (get_or xs k d) n (λ e. true≢false (sym (there n xs k low (get_or_default xs k 0 d low ∙ e)) ∙ none))))
+
+-- without numbers none of which is among them they stay
+pub without_none : (ns xs : List ℕ) → All (λ n. is_in n xs ≡ false) ns → without_each ns xs ≡ xs
+without_none ns xs none = stay (λ k. not (is_in k ns)) xs (λ k d low. ap not (absent (get_or xs k d) ns (λ j l e. true≢false (sym (there (get_or ns j 0) xs k low (get_or_default xs k 0 d low ∙ sym e)) ∙ none j 0 l))))
+
+-- without one number they are as without the list of it
+pub without_one : (n : ℕ) (xs : List ℕ) → without_each (n ∷ []) xs ≡ without n xs
+without_one n xs = filter_agree (λ k. not (is_in k (n ∷ []))) (λ k. not (nat_eq k n)) (λ k. by k (cases_eq k n)) xs
   where
-    by : (b : Bool) → (b || is_in n xs) ≡ false → (is_in n xs ≡ false → without n xs ≡ xs) → cond (not b) (x ∷ without n xs) (without n xs) ≡ x ∷ xs
-    by true none rest = absurd (true≢false none)
-    by false none rest = ap (λ l. x ∷ l) (rest none)
+    by : (k : ℕ) → (k ≡ n) ⊎ (k ≡ n → ⊥) → not (nat_eq n k || false) ≡ not (nat_eq k n)
+    by k (inl e) = ap (λ b. not (b || false)) (eq-eqb n k (sym e)) ∙ ap not (sym (eq-eqb k n e))
+    by k (inr ne) = ap (λ b. not (b || false)) (ne_eqb n k (λ e. ne (sym e))) ∙ ap not (sym (ne_eqb k n ne))
 
--- the place of a number is taken out of rising ones
-pub taken_out : (n : ℕ) (xs : List ℕ) (i : ℕ) → IsStrictlyIncreasing xs → i < length xs → get_or xs i 0 ≡ n → remove xs i ≡ without n xs
-taken_out n xs i rising low is =
-    sym (ap (without n) (sym (ap (λ l. take i xs ++ l) (sym (drop-cons xs i 0 low)) ∙ take-append-drop i xs))
-    ∙ (filter-append (λ k. not (nat_eq k n)) (take i xs) (get_or xs i 0 ∷ drop (suc i) xs)
-    ∙ (ap (λ l. l ++ without n (get_or xs i 0 ∷ drop (suc i) xs)) front
-    ∙ (ap (λ b. take i xs ++ cond (not b) (get_or xs i 0 ∷ without n (drop (suc i) xs)) (without n (drop (suc i) xs))) (eq-eqb (get_or xs i 0) n is)
-    ∙ ap (λ l. take i xs ++ l) back))))
+-- none of them is among what is left without them
+pub none_left : (ns xs : List ℕ) → All (λ n. is_in n (without_each ns xs) ≡ false) ns
+none_left ns xs = λ j d low. absent (get_or ns j d) (without_each ns xs) (λ k l e. true≢false (
+    sym (filter_passes (λ n. not (is_in n ns)) xs k 0 l) ∙ ap not (there (get_or (without_each ns xs) k 0) ns j low (get_or_default ns j 0 d low ∙ sym e))))
+
+-- without some and then without others they are without both
+pub without_both : (xs ys l : List ℕ) → without_each xs (without_each ys l) ≡ without_each (xs ++ ys) l
+without_both xs ys [] = refl
+without_both xs ys (n ∷ l) = by (is_in n xs) (is_in n ys) refl refl (without_both xs ys l)
   where
-    apart : (j k : ℕ) → j < k → k < length xs → get_or xs j 0 < get_or xs k 0
-    apart j k = AllPairs-from_increasing xs rising j k 0
+    in_both : (b c : Bool) → is_in n xs ≡ b → is_in n ys ≡ c → is_in n (xs ++ ys) ≡ (b || c)
+    in_both b c e f = list_any-append (λ k. nat_eq k n) xs ys ∙ (ap (λ d. d || is_in n ys) e ∙ ap (λ d. b || d) f)
 
-    front : without n (take i xs) ≡ take i xs
-    front = without_absent n (take i xs) (absent n (take i xs) (λ k h e.
-        let first : k < i = omega (arith, h, length-take i xs) in
-        let below : get_or xs k 0 < get_or xs i 0 = apart k i first low in
-        omega (arith, e, get_or-take i xs k 0 first, below, is)))
+    by : (b c : Bool) → is_in n xs ≡ b → is_in n ys ≡ c → without_each xs (without_each ys l) ≡ without_each (xs ++ ys) l
+        → without_each xs (without_each ys (n ∷ l)) ≡ without_each (xs ++ ys) (n ∷ l)
+    by b true e f rest = ap (λ d. without_each xs (cond (not d) (n ∷ without_each ys l) (without_each ys l))) f ∙ (rest
+        ∙ sym (ap (λ d. cond (not d) (n ∷ without_each (xs ++ ys) l) (without_each (xs ++ ys) l)) (in_both b true e f ∙ or_right b true refl)))
+    by b false e f rest = ap (λ d. without_each xs (cond (not d) (n ∷ without_each ys l) (without_each ys l))) f
+        ∙ (ap (λ d. cond (not d) (n ∷ without_each xs (without_each ys l)) (without_each xs (without_each ys l))) e
+        ∙ (ap (λ r. cond (not b) (n ∷ r) r) rest
+        ∙ sym (ap (λ d. cond (not d) (n ∷ without_each (xs ++ ys) l) (without_each (xs ++ ys) l)) (in_both b false e f ∙ either b))))
 
-    back : without n (drop (suc i) xs) ≡ drop (suc i) xs
-    back = without_absent n (drop (suc i) xs) (absent n (drop (suc i) xs) (λ k h e.
-        let above : get_or xs i 0 < get_or xs (suc i + k) 0 = apart i (suc i + k) (omega arith) (omega (arith, h, length-drop (suc i) xs)) in
-        omega (arith, e, get_or-drop (suc i) xs k 0, above, is)))
-
-not_falling : (xs : List ℕ) → IsStrictlyIncreasing xs → (i j : ℕ) → i ≤ j → j < length xs → get_or xs i 0 ≤ get_or xs j 0
+-- rising numbers do not fall
+pub not_falling : (xs : List ℕ) → IsStrictlyIncreasing xs → (i j : ℕ) → i ≤ j → j < length xs → get_or xs i 0 ≤ get_or xs j 0
 not_falling xs rising i j within low = by (cases_lt i j)
   where
     by : (i < j) ⊎ (j ≤ i) → get_or xs i 0 ≤ get_or xs j 0
     by (inl less) = let h : get_or xs i 0 < get_or xs j 0 = AllPairs-from_increasing xs rising i j 0 less low in omega (arith, h)
     by (inr more) = let same : i ≡ j = omega (arith, within, more) in let e : get_or xs i 0 ≡ get_or xs j 0 = ap (λ k. get_or xs k 0) same in omega (arith, e)
 
--- a number that a search of rising ones does not find is not among them
-pub none_found : (n : ℕ) (xs : List ℕ) (r : Result ℕ ℕ) → IsStrictlyIncreasing xs → IsBinarySearchResult (λ y. nat_cmp y n) xs r → IfNone (result_ok r) (is_in n xs ≡ false)
-none_found n xs (Ok i) rising found = tt
-none_found n xs (Err i) rising none =
-    let at = searched xs n (Err i) none (not_falling xs rising) in
-    absent n xs (λ k low e. by k low e (cases_lt k i) at)
-  where
-    by : (k : ℕ) → k < length xs → get_or xs k 0 ≡ n → (k < i) ⊎ (i ≤ k) → (i ≤ length xs) × ((k : ℕ) → k < i → get_or xs k 0 < n) × ((k : ℕ) → i ≤ k → k < length xs → n < get_or xs k 0) → ⊥
-    by k low e (inl front) at = let h = at.1 k front in omega (arith, e, h)
-    by k low e (inr back) at = let h = at.2 k back low in omega (arith, e, h)
+-- those before a place are below the number there, and so are those before where a search says that a number stands or would
+pub below_place : (xs : List ℕ) (at n : ℕ) → IsStrictlyIncreasing xs → at < length xs → get_or xs at 0 ≡ n → All (λ k. k < n) (take at xs)
+below_place xs at n rising low is = λ k d h. let first : k < at = omega (arith, h, length-take at xs) in
+    let below : get_or xs k d < get_or xs at d = AllPairs-from_increasing xs rising k at d first low in
+    let same : get_or xs at d ≡ get_or xs at 0 = get_or_default xs at d 0 low in
+    let e : get_or (take at xs) k d ≡ get_or xs k d = get_or-take at xs k d first in omega (arith, e, below, same, is)
 
--- the place of a number taken out leaves the others
-pub out : (n : ℕ) (xs : List ℕ) (i : ℕ) → IsStrictlyIncreasing xs → i < length xs → slice_get xs i ≡ Some n → remove xs i ≡ without n xs
-out n xs i rising low at = taken_out n xs i rising low (get_or_from_slice_get xs i n 0 at)
+pub below_found : (n : ℕ) (xs : List ℕ) (at : ℕ) → IsStrictlyIncreasing xs → IsBinarySearchResult (λ y. nat_cmp y n) xs (Ok at) → All (λ k. k < n) (take at xs)
+below_found n xs at rising found = let h = searched xs n (Ok at) found (not_falling xs rising) in below_place xs at n rising h.0 h.1
+
+pub below_missed : (n : ℕ) (xs : List ℕ) (at : ℕ) → IsStrictlyIncreasing xs → IsBinarySearchResult (λ y. nat_cmp y n) xs (Err at) → All (λ k. k < n) (take at xs)
+below_missed n xs at rising none = let h = searched xs n (Err at) none (not_falling xs rising) in
+    λ k d low. (let first : k < at = omega (arith, low, length-take at xs) in let within : k < length xs = omega (arith, low, length-take at xs) in
+        let below : get_or xs k 0 < n = h.1 k first in
+        let e : get_or (take at xs) k d ≡ get_or xs k 0 = get_or-take at xs k d first ∙ get_or_default xs k d 0 within in omega (arith, e, below))
+
+-- whether a number is among rising ones shows at the first that is not below it
+module _ (n : ℕ) (xs : List ℕ) (place : ℕ) (rising : IsStrictlyIncreasing xs) (below : All (λ k. k < n) (take place xs)) where
+  front : (k : ℕ) → k < place → k < length xs → get_or xs k 0 < n
+  front k first low = let h : k < length (take place xs) = omega (arith, first, low, length-take place xs) in
+      let b : get_or (take place xs) k 0 < n = below k 0 h in let e : get_or (take place xs) k 0 ≡ get_or xs k 0 = get_or-take place xs k 0 first in omega (arith, b, e)
+
+  pub all_below : length xs ≤ place → is_in n xs ≡ false
+  all_below end = absent n xs (λ k low e. let h = front k (omega (arith, low, end)) low in omega (arith, e, h))
+
+  pub is_first : place < length xs → n ≤ get_or xs place 0 → nat_eq (get_or xs place 0) n ≡ is_in n xs
+  is_first here up = by (cases_eq (get_or xs place 0) n)
+    where
+      by : (get_or xs place 0 ≡ n) ⊎ (get_or xs place 0 ≡ n → ⊥) → nat_eq (get_or xs place 0) n ≡ is_in n xs
+      by (inl e) = eq-eqb (get_or xs place 0) n e ∙ sym (there n xs place here e)
+      by (inr ne) = ne_eqb (get_or xs place 0) n ne ∙ sym (absent n xs (λ k low e. at k low e (cases_lt k place)))
+        where
+          at : (k : ℕ) → k < length xs → get_or xs k 0 ≡ n → (k < place) ⊎ (place ≤ k) → ⊥
+          at k low e (inl first) = let h = front k first low in omega (arith, e, h)
+          at k low e (inr later) = let h = not_falling xs rising place k later low in ne (omega (arith, e, h, up))

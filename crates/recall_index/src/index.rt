@@ -2,7 +2,7 @@
 
 ghost use Rattle.std.specs.Prelude.{◌≡◌, ◌<◌, length, All, IfOk, OnOk, OnErr};
 ghost use Rattle.std.specs.List.Sorted.{IsStrictlyIncreasing};
-ghost use Rattle.recall_index.specs.Uses.{AreBelow, IsAdded, IsRemoved, IsTakenOut, IsThere, unused, using_in};
+ghost use Rattle.recall_index.specs.Uses.{AreAllOrNone, AreBelow, AreRemoved, AreTakenOut, AreThere, IsAdded, IsRemoved, IsThere, unused, using_in};
 
 use crate::users::Users;
 use names::NoMemory;
@@ -47,7 +47,7 @@ impl Index {
     {
         for i in 0..route.len() {
             if let Err(NoMemory) = self.users[route[i] as usize].add(number) {
-                self.take_out(number, &route[..i]);
+                self.take_out(&[number], &route[..i]);
                 return Err(NoMemory);
             }
         }
@@ -60,7 +60,17 @@ impl Index {
         requires there { IsThere self.old number route.now }
         ensures { IsRemoved self.old number self.new }
     {
-        self.take_out(number, route);
+        self.take_out(&[number], route);
+    }
+
+    /// Takes out rising numbers, each of which was added with this route. Takes no memory.
+    pub fn remove_each(&mut self, numbers: &[u32], route: &[u32])
+        requires segments { All (λ s. s < length self.old) route.now }
+        requires rising { IsStrictlyIncreasing numbers.now }
+        requires there { AreThere self.old numbers.now route.now }
+        ensures { AreRemoved self.old numbers.now self.new }
+    {
+        self.take_out(numbers, route);
     }
 
     /// The numbers whose route holds the segment, rising and each once. Takes no memory.
@@ -72,13 +82,15 @@ impl Index {
         self.users[segment as usize].as_slice()
     }
 
-    // Takes out a number at each of these segments.
-    fn take_out(&mut self, number: u32, segments: &[u32])
-        requires { All (λ s. s < length self.old) segments.now }
-        ensures { IsTakenOut self.old number segments.now self.new }
+    // Takes out rising numbers at each of these segments, where all of them are or none.
+    fn take_out(&mut self, numbers: &[u32], segments: &[u32])
+        requires segments { All (λ s. s < length self.old) segments.now }
+        requires rising { IsStrictlyIncreasing numbers.now }
+        requires among { All (λ s. AreAllOrNone numbers.now (using_in self.old s)) segments.now }
+        ensures { AreTakenOut self.old numbers.now segments.now self.new }
     {
         for i in 0..segments.len() {
-            self.users[segments[i] as usize].remove(number);
+            self.users[segments[i] as usize].remove_each(numbers);
         }
     }
 }

@@ -1,10 +1,13 @@
-use Rattle.std.proofs.Common.{◌≡◌, false, sym, subst}
-use Rattle.std.specs.Prelude.{IfNone}
-use Rattle.recall_index.specs.Uses.{is_in}
-use Rattle.recall_index.proofs.Rising.{none_found}
+use Rattle.std.proofs.Common.{◌-◌, length, slice_index, arith}
+use Rattle.recall_index.proofs.Rising.{below_found, below_missed, below_place}
 use Rattle.recall_index.proofs.users.place_of.Goals as goal
 
-pub returns-in_default-clause-none : goal.returns-in_default-clause-none
-returns-in_default-clause-none c =
-    subst (λ o. IfNone o (is_in c.args.number c.args.numbers.now ≡ false)) (sym c.ok.ensures.value)
-    (none_found c.args.number c.args.numbers.now c.binary_search.result c.requires c.binary_search.ensures.position)
+pub returns-then-all-end-clause-below : goal.returns-then-all-end-clause-below
+returns-then-all-end-clause-below c = below_place c.args.all.now (length c.args.all.now - length c.args.these.now) (slice_index c.args.these.now 0) c.requires.rising
+    (omega (arith, c.if-these-all.true, c.requires.some)) c.if-all-end.true
+
+pub returns-in-Ok-clause-below : goal.returns-in-Ok-clause-below
+returns-in-Ok-clause-below c = below_found (slice_index c.args.these.now 0) c.args.all.now c.in-Ok.at c.requires.rising c.in-Ok.ensures.position
+
+pub returns-in-Err-clause-below : goal.returns-in-Err-clause-below
+returns-in-Err-clause-below c = below_missed (slice_index c.args.these.now 0) c.args.all.now c.in-Err.at c.requires.rising c.in-Err.ensures.position

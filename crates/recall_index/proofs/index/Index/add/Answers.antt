@@ -1,14 +1,17 @@
-use Rattle.std.proofs.Common.{◌<◌, List, ℕ, length, take, slice_index_or, slice_set, [], ap, refl, sym, subst, ◌∙◌, arith}
+use Rattle.std.proofs.Common.{◌<◌, ◌∷◌, List, ℕ, length, take, slice_index_or, slice_set, [], ap, refl, sym, subst, ◌∙◌, arith}
 use Rattle.std.proofs.lemmas.List.{get_or_default}
-use Rattle.recall_index.specs.Uses.{IsAdded, IsTakenOut, Lists, with_last}
-use Rattle.recall_index.proofs.Lists.{added_more, put_back, undone}
+use Rattle.recall_index.specs.Uses.{AreTakenOut, IsAdded, Lists, with_last}
+use Rattle.recall_index.proofs.Lists.{added_more, one_alone, put_back, undone}
 use Rattle.recall_index.proofs.index.Index.add.Goals as goal
+
+pub take_out-requires-clause-among : goal.take_out-requires-clause-among
+take_out-requires-clause-among c = λ k d low. one_alone c.args.number _
 
 pub returns-in-Err-clause-unchanged : goal.returns-in-Err-clause-unchanged
 returns-in-Err-clause-unchanged c =
     let front : List ℕ = take c.loop-i.i c.args.route.now in
     let back = put_back c.self.inside.users.items _ c.index_mut.result.now c.add.new.self c.index_mut.ensures.value c.in-Err.ensures.unchanged in
-    let gone = subst (λ (l : Lists). IsTakenOut l c.args.number front c.take_out.new.self) (back ∙ c.self.view_is) c.take_out.ensures in
+    let gone = subst (λ (l : Lists). AreTakenOut l (c.args.number ∷ []) front c.take_out.new.self) (back ∙ c.self.view_is) c.take_out.ensures in
     undone c.args.self.now c.loop-i.self c.take_out.new.self c.args.number front c.requires.above c.loop-i.invariant gone
 
 pub loop-i-preserved : goal.loop-i-preserved
