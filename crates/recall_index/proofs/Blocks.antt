@@ -1,6 +1,6 @@
 -- Rising numbers that stand among rising ones as one block.
 use Rattle.std.proofs.Common.{◌≡◌, ◌++◌, [], List, ℕ, zero, suc, ◌+◌, ◌-◌, ◌<◌, ◌≤◌, ◌⊎◌, inl, inr, Bool, true, false, not, filter, length, get_or, take, drop, ap, sym, subst, ◌∙◌, arith}
-use Rattle.std.specs.List.{All, between}
+use Rattle.std.specs.List.{between}
 use Rattle.std.specs.List.Sorted.{IsStrictlyIncreasing}
 use Rattle.std.proofs.lemmas.Bool.{cases_lt, true≢false}
 use Rattle.std.proofs.lemmas.List.{ext_get_or, get_or_default, get_or-drop, get_or-take, length-drop, length-take}

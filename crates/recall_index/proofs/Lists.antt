@@ -1,13 +1,14 @@
 -- The lists of an index, while a number is added to those of a route or taken out of them.
-use Rattle.std.proofs.Common.{◌≡◌, ◌≢◌, ◌∷◌, ◌++◌, [], List, ℕ, ◌+◌, ◌<◌, ◌⊎◌, inl, inr, Bool, true, false, nat_eq, not, ◌||◌, cond, length, get_or, set, take, refl, ap, sym, subst, ◌∙◌, arith}
-use Rattle.std.specs.List.{All}
+use Rattle.std.proofs.Common.{◌≡◌, ◌≢◌, ◌∷◌, ◌++◌, [], List, ℕ, ◌+◌, ◌<◌, ◌≤◌, ◌⊎◌, inl, inr, Bool, true, false, nat_eq, not, ◌||◌, cond, length, get_or, set, take, drop, refl, ap, sym, subst, ◌∙◌, arith}
+use Rattle.std.specs.List.{All, between}
 use Rattle.std.proofs.lemmas.Bool.{cases_eq, eq-eqb, ne_eqb, or_right}
-use Rattle.std.proofs.lemmas.List.{append-nil, ext_get_or, get_or-set_other, get_or-set_same, length-set, set-get_or}
+use Rattle.std.proofs.lemmas.List.{append-nil, ext_get_or, get_or-set_other, get_or-set_same, get_or_default, length-set, set-get_or}
+use Rattle.std.proofs.lemmas.List.Edits.{get_or-between, length-between}
 use Rattle.std.specs.List.Sorted.{IsStrictlyIncreasing}
 use Rattle.std.proofs.lemmas.List.Elements.{All-cons, All-nil, filter-append}
-use Rattle.std.proofs.lemmas.List.Folds.{list_any-append, list_any_more}
+use Rattle.std.proofs.lemmas.List.Folds.{drop_split, list_any-append, list_any_more}
 use Rattle.recall_index.specs.Uses.{AreAllOrNone, AreBelow, AreRemoved, AreTakenOut, AreThere, IsAdded, IsRemoved, IsThere, Lists, is_in, using_in, with_last, without, without_each}
-use Rattle.recall_index.proofs.Rising.{absent, either, none_left, without_absent, without_both, without_none, without_one}
+use Rattle.recall_index.proofs.Rising.{absent, either, none_left, not_behind, other_stays, without_absent, without_both, without_none, without_one}
 
 -- a place more is in the front of a list
 in_more : (s at : ℕ) (route : List ℕ) (i : ℕ) → i < length route → at ≡ get_or route i 0 → is_in s (take (i + 1) route) ≡ (is_in s (take i route) || nat_eq at s)
@@ -136,11 +137,31 @@ one_from_all old new n route there out = let each = gone_from_all old new (n ∷
 }
 
 -- numbers that are removed one after the other are removed
-pub removed_both : (old mid new : Lists) (ns ms : List ℕ) → AreRemoved old ms mid → AreRemoved mid ns new → AreRemoved old (ns ++ ms) new
+removed_both : (old mid new : Lists) (ns ms : List ℕ) → AreRemoved old ms mid → AreRemoved mid ns new → AreRemoved old (ns ++ ms) new
 removed_both old mid new ns ms one other = record {
   many = other.many ∙ one.many;
   using = λ s low. other.using s (omega (arith, low, one.many)) ∙ (ap (without_each ns) (one.using s low) ∙ without_both ns ms (using_in old s));
 }
+
+-- where nothing is removed all is as it was
+pub none_removed : (lists : Lists) → AreRemoved lists [] lists
+none_removed lists = record { many = refl; using = λ s low. sym (without_none [] (using_in lists s) (All-nil (λ n. is_in n (using_in lists s) ≡ false))) }
+
+-- where numbers from a place on are removed, those before it are still there with their route
+pub still_there : (old mid : Lists) (ns route : List ℕ) (start end : ℕ) → IsStrictlyIncreasing ns → end ≤ length ns → AreRemoved old (drop end ns) mid
+    → ((k : ℕ) → start ≤ k → k < end → IsThere old (get_or ns k 0) route) → AreThere mid (between start end ns) route
+still_there old mid ns route start end rising within out there = λ j d low s h.
+    let long = length-between ns start end within in
+    let before : start + j < end = omega (arith, low, long) in
+    let is : get_or (between start end ns) j d ≡ get_or ns (start + j) 0 = get_or-between ns start end j d before ∙ get_or_default ns (start + j) d 0 (omega (arith, before, within)) in
+    let here : s < length old = omega (arith, h, out.many) in
+    ap (λ n. is_in n (using_in mid s)) is ∙ (ap (is_in (get_or ns (start + j) 0)) (out.using s here)
+    ∙ (other_stays (get_or ns (start + j) 0) (drop end ns) (using_in old s) (not_behind ns (start + j) end rising before (omega (arith, before, within)))
+    ∙ there (start + j) (omega arith) before s here))
+
+-- with those of a run before the place it is those from the run on that are removed
+pub run_removed : (old mid new : Lists) (ns : List ℕ) (start end : ℕ) → start ≤ end → AreRemoved old (drop end ns) mid → AreRemoved mid (between start end ns) new → AreRemoved old (drop start ns) new
+run_removed old mid new ns start end order one other = subst (λ (l : List ℕ). AreRemoved old l new) (sym (drop_split ns start end order)) (removed_both old mid new (between start end ns) (drop end ns) one other)
 
 -- a list that is put back leaves all as they were
 pub put_back : (lists : Lists) (at : ℕ) (found put : List ℕ) → found ≡ get_or lists at found → put ≡ found → set lists at put ≡ lists

@@ -1,10 +1,11 @@
 -- Rising numbers: whether one is among them, and what is left without it.
-use Rattle.std.proofs.Common.{◌≡◌, ◌≢◌, ◌∷◌, ◌++◌, [], List, ℕ, ◌+◌, ◌-◌, ◌<◌, ◌≤◌, ◌⊎◌, inl, inr, Bool, true, false, nat_eq, not, ◌||◌, cond, filter, length, get_or, take, Ok, Err, refl, ap, sym, ◌∙◌, arith}
-use Rattle.std.specs.List.{All}
+use Rattle.std.proofs.Common.{◌≡◌, ◌≢◌, ◌∷◌, ◌++◌, [], List, ℕ, ◌+◌, ◌-◌, ◌<◌, ◌≤◌, ◌⊎◌, inl, inr, Bool, true, false, nat_eq, not, ◌&&◌, ◌||◌, cond, filter, length, get_or, take, drop, Ok, Err, refl, ap, sym, ◌∙◌, arith}
+use Rattle.std.specs.List.{All, between}
 use Rattle.std.specs.List.Sorted.{IsBinarySearchResult, IsStrictlyIncreasing}
 use Rattle.std.specs.Ordering.{nat_cmp}
-use Rattle.std.proofs.lemmas.Bool.{cases_eq, cases_lt, eq-eqb, eqb-true, ne_eqb, or_right, true≢false}
-use Rattle.std.proofs.lemmas.List.{get_or_default, get_or-take, length-take}
+use Rattle.std.proofs.lemmas.Bool.{cases_eq, cases_lt, eq-eqb, eqb-true, ne_eqb, true≢false}
+use Rattle.std.proofs.lemmas.List.{get_or_default, get_or-drop, get_or-take, length-drop, length-take}
+use Rattle.std.proofs.lemmas.List.Edits.{get_or-between, length-between}
 use Rattle.std.proofs.lemmas.List.Elements.{All-head, All-tail, filter_agree, filter_passes}
 use Rattle.std.proofs.lemmas.List.Folds.{Any-from_list_any, list_any-append, list_any_none, list_any-from_Any}
 use Rattle.std.proofs.lemmas.List.Kept.{AllPairs-from_increasing}
@@ -69,21 +70,41 @@ none_left ns xs = λ j d low. absent (get_or ns j d) (without_each ns xs) (λ k 
     sym (filter_passes (λ n. not (is_in n ns)) xs k 0 l) ∙ ap not (there (get_or (without_each ns xs) k 0) ns j low (get_or_default ns j 0 d low ∙ sym e))))
 
 -- without some and then without others they are without both
-pub without_both : (xs ys l : List ℕ) → without_each xs (without_each ys l) ≡ without_each (xs ++ ys) l
-without_both xs ys [] = refl
-without_both xs ys (n ∷ l) = by (is_in n xs) (is_in n ys) refl refl (without_both xs ys l)
+filter_both : (p q r : ℕ → Bool) → ((n : ℕ) → r n ≡ (q n && p n)) → (l : List ℕ) → filter p (filter q l) ≡ filter r l
+filter_both p q r both [] = refl
+filter_both p q r both (n ∷ l) = by (q n) (both n) (filter_both p q r both l)
   where
-    in_both : (b c : Bool) → is_in n xs ≡ b → is_in n ys ≡ c → is_in n (xs ++ ys) ≡ (b || c)
-    in_both b c e f = list_any-append (λ k. nat_eq k n) xs ys ∙ (ap (λ d. d || is_in n ys) e ∙ ap (λ d. b || d) f)
+    by : (b : Bool) → r n ≡ (b && p n) → filter p (filter q l) ≡ filter r l → filter p (cond b (n ∷ filter q l) (filter q l)) ≡ cond (r n) (n ∷ filter r l) (filter r l)
+    by true e rest = ap (λ t. cond (p n) (n ∷ t) t) rest ∙ ap (λ c. cond c (n ∷ filter r l) (filter r l)) (sym e)
+    by false e rest = rest ∙ ap (λ c. cond c (n ∷ filter r l) (filter r l)) (sym e)
 
-    by : (b c : Bool) → is_in n xs ≡ b → is_in n ys ≡ c → without_each xs (without_each ys l) ≡ without_each (xs ++ ys) l
-        → without_each xs (without_each ys (n ∷ l)) ≡ without_each (xs ++ ys) (n ∷ l)
-    by b true e f rest = ap (λ d. without_each xs (cond (not d) (n ∷ without_each ys l) (without_each ys l))) f ∙ (rest
-        ∙ sym (ap (λ d. cond (not d) (n ∷ without_each (xs ++ ys) l) (without_each (xs ++ ys) l)) (in_both b true e f ∙ or_right b true refl)))
-    by b false e f rest = ap (λ d. without_each xs (cond (not d) (n ∷ without_each ys l) (without_each ys l))) f
-        ∙ (ap (λ d. cond (not d) (n ∷ without_each xs (without_each ys l)) (without_each xs (without_each ys l))) e
-        ∙ (ap (λ r. cond (not b) (n ∷ r) r) rest
-        ∙ sym (ap (λ d. cond (not d) (n ∷ without_each (xs ++ ys) l) (without_each (xs ++ ys) l)) (in_both b false e f ∙ either b))))
+neither : (a b : Bool) → not (a || b) ≡ (not b && not a)
+neither true true = refl
+neither true false = refl
+neither false true = refl
+neither false false = refl
+
+pub without_both : (xs ys l : List ℕ) → without_each xs (without_each ys l) ≡ without_each (xs ++ ys) l
+without_both xs ys l = filter_both (λ n. not (is_in n xs)) (λ n. not (is_in n ys)) (λ n. not (is_in n (xs ++ ys)))
+    (λ n. ap not (list_any-append (λ k. nat_eq k n) xs ys) ∙ neither (is_in n xs) (is_in n ys)) l
+
+-- and it does not matter which go first
+pub without_next : (k : ℕ) (ns l : List ℕ) → without_each ns (without k l) ≡ without_each (k ∷ ns) l
+without_next k ns l = ap (without_each ns) (sym (without_one k l)) ∙ filter_both (λ n. not (is_in n ns)) (λ n. not (is_in n (k ∷ []))) (λ n. not (is_in n (k ∷ ns)))
+    (λ n. by n (nat_eq k n)) l
+  where
+    by : (n : ℕ) (b : Bool) → not (b || is_in n ns) ≡ (not (b || false) && not (is_in n ns))
+    by n true = refl
+    by n false = refl
+
+-- a number stays among them or not where others go
+pub other_stays : (n : ℕ) (gone l : List ℕ) → is_in n gone ≡ false → is_in n (without_each gone l) ≡ is_in n l
+other_stays n gone [] none = refl
+other_stays n gone (k ∷ l) none = by (is_in k gone) refl (other_stays n gone l none)
+  where
+    by : (b : Bool) → is_in k gone ≡ b → is_in n (without_each gone l) ≡ is_in n l → is_in n (cond (not b) (k ∷ without_each gone l) (without_each gone l)) ≡ (nat_eq k n || is_in n l)
+    by true e rest = rest ∙ sym (ap (λ b. b || is_in n l) (ne_eqb k n (λ same. true≢false (sym e ∙ (ap (λ j. is_in j gone) same ∙ none)))))
+    by false e rest = ap (λ b. nat_eq k n || b) rest
 
 -- rising numbers do not fall
 pub not_falling : (xs : List ℕ) → IsStrictlyIncreasing xs → (i j : ℕ) → i ≤ j → j < length xs → get_or xs i 0 ≤ get_or xs j 0
@@ -106,8 +127,8 @@ below_found n xs at rising found = let h = searched xs n (Ok at) found (not_fall
 pub below_missed : (n : ℕ) (xs : List ℕ) (at : ℕ) → IsStrictlyIncreasing xs → IsBinarySearchResult (λ y. nat_cmp y n) xs (Err at) → All (λ k. k < n) (take at xs)
 below_missed n xs at rising none = let h = searched xs n (Err at) none (not_falling xs rising) in
     λ k d low. (let first : k < at = omega (arith, low, length-take at xs) in let within : k < length xs = omega (arith, low, length-take at xs) in
-        let below : get_or xs k 0 < n = h.1 k first in
-        let e : get_or (take at xs) k d ≡ get_or xs k 0 = get_or-take at xs k d first ∙ get_or_default xs k d 0 within in omega (arith, e, below))
+    let below : get_or xs k 0 < n = h.1 k first in
+    let e : get_or (take at xs) k d ≡ get_or xs k 0 = get_or-take at xs k d first ∙ get_or_default xs k d 0 within in omega (arith, e, below))
 
 -- whether a number is among rising ones shows at the first that is not below it
 module _ (n : ℕ) (xs : List ℕ) (place : ℕ) (rising : IsStrictlyIncreasing xs) (below : All (λ k. k < n) (take place xs)) where
@@ -128,3 +149,20 @@ module _ (n : ℕ) (xs : List ℕ) (place : ℕ) (rising : IsStrictlyIncreasing 
           at : (k : ℕ) → k < length xs → get_or xs k 0 ≡ n → (k < place) ⊎ (place ≤ k) → ⊥
           at k low e (inl first) = let h = front k first low in omega (arith, e, h)
           at k low e (inr later) = let h = not_falling xs rising place k later low in ne (omega (arith, e, h, up))
+
+-- numbers from a place on are above one before it
+pub not_behind : (xs : List ℕ) (k end : ℕ) → IsStrictlyIncreasing xs → k < end → k < length xs → is_in (get_or xs k 0) (drop end xs) ≡ false
+not_behind xs k end rising before low = absent (get_or xs k 0) (drop end xs) (λ j l e.
+    let here : end + j < length xs = omega (arith, l, length-drop end xs) in
+    let h : get_or xs k 0 < get_or xs (end + j) 0 = AllPairs-from_increasing xs rising k (end + j) 0 (omega (arith, before)) here in
+    omega (arith, h, e, get_or-drop end xs j 0))
+
+-- a part of rising numbers rises
+pub part_rises : (xs : List ℕ) (start end : ℕ) → IsStrictlyIncreasing xs → end ≤ length xs → IsStrictlyIncreasing (between start end xs)
+part_rises xs start end rising within = λ k low.
+    let long = length-between xs start end within in
+    let next : start + (k + 1) < end = omega (arith, low, long) in
+    let here : get_or (between start end xs) k 0 ≡ get_or xs (start + k) 0 = get_or-between xs start end k 0 (omega (arith, next)) in
+    let there : get_or (between start end xs) (k + 1) 0 ≡ get_or xs (start + (k + 1)) 0 = get_or-between xs start end (k + 1) 0 next in
+    let h : get_or xs (start + k) 0 < get_or xs (start + (k + 1)) 0 = AllPairs-from_increasing xs rising (start + k) (start + (k + 1)) 0 (omega arith) (omega (arith, next, within)) in
+    omega (arith, here, there, h)

@@ -1,11 +1,11 @@
 -- Rising numbers, while others are taken out of them one after another.
-use Rattle.std.proofs.Common.{◌≡◌, List, ℕ, ◌+◌, ◌<◌, ◌≤◌, Bool, true, false, not, cond, filter, length, get_or, set, take, drop, refl, ap, sym, ◌∙◌, arith}
+use Rattle.std.proofs.Common.{◌≡◌, List, ℕ, ◌+◌, ◌<◌, ◌≤◌, Bool, true, false, not, cond, length, get_or, set, take, refl, ap, sym, ◌∙◌, arith}
 use Rattle.std.specs.List.{All}
 use Rattle.std.specs.List.Sorted.{IsStrictlyIncreasing}
-use Rattle.std.proofs.lemmas.List.{get_or_default, get_or-drop, get_or-take, length-take}
+use Rattle.std.proofs.lemmas.List.{get_or_default, get_or-drop}
 use Rattle.std.proofs.lemmas.List.Elements.{All-weaker}
 use Rattle.std.proofs.lemmas.List.Filters.{FiltersInPlace, FiltersInPlace-more_no, FiltersInPlace-more_set}
-use Rattle.recall_index.specs.Uses.{is_in, without_each}
+use Rattle.recall_index.specs.Uses.{is_in}
 use Rattle.recall_index.proofs.Rising.{absent, not_falling, stay}
 
 abbrev pub keeps : List ℕ → ℕ → Bool
