@@ -58,7 +58,7 @@ numbered-map : (f : Permit → Permit) → ((p : Permit) → (f p).number ≡ p.
 numbered-map f keep n [] h = tt
 numbered-map f keep n (p ∷ ps) h = (keep p ∙ h.0, numbered-map f keep (n + 1) ps h.1)
 
-numbered-mark : (m : Mark) (n k : ℕ) (ps : List Permit) → AreNumbered n ps → AreNumbered n (set ps k (record (get_or ps k no_permit) { mark = m }))
+pub numbered-mark : (m : Mark) (n k : ℕ) (ps : List Permit) → AreNumbered n ps → AreNumbered n (set ps k (record (get_or ps k no_permit) { mark = m }))
 numbered-mark m n k [] h = h
 numbered-mark m n zero (p ∷ ps) h = h
 numbered-mark m n (suc k) (p ∷ ps) h = (h.0, numbered-mark m (n + 1) k ps h.1)

@@ -8,11 +8,15 @@ use Rattle.std.proofs.lemmas.Option.{slice_get-get_or}
 use Rattle.permit_book.specs.declared.permit.Permit.{Permit}
 use Rattle.permit_book.specs.declared.permit.Mark.{Mark}
 use Rattle.permit_book.specs.Permits.{AreNumbered, is_issued, is_live, marked, no_permit, permit_of}
-use Rattle.recall_index.specs.Uses.{AreBelow, IsAdded, IsRemoved, IsThere, Lists, using_in, without}
+use Rattle.recall_index.specs.Uses.{AreBelow, AreRemoved, IsAdded, IsRemoved, IsThere, Lists, using_in, without, without_each}
+use Rattle.recall_index.specs.Uses.{is_in as index_is_in}
 use Rattle.recall_index.proofs.Lists.{end_gone}
+use Rattle.recall_index.proofs.Rising.{without_next, without_none}
 use Rattle.trip_analysis.specs.Findings.{is_in}
 use Rattle.trip_analysis.proofs.Found.{is_in_from_among}
+use Rattle.office_core.specs.Recalls.{AreLive, marked_all}
 use Rattle.office_core.specs.Users.{IsIndexed, IsUser, IsOnRoads, users_of, uses}
+use Rattle.office_core.proofs.Goods.{numbered-mark}
 use Rattle.office_core.proofs.Lists.{pick}
 use Rattle.office_core.proofs.Recalling.{in_numbers, numbered}
 
@@ -58,6 +62,22 @@ users_marked s b (suc k) (p ∷ ps) m off h = kept (uses s p) (users_marked s (b
         ap (λ l. p.number ∷ l) (e ∙ ap (λ n. without n (users_of s ps)) same) ∙ sym (ap (λ c. cond c (p.number ∷ without (b + suc k + 1) (users_of s ps)) (without (b + suc k + 1) (users_of s ps))) other)
     kept false e = let same : b + 1 + k + 1 ≡ b + suc k + 1 = omega arith in e ∙ ap (λ n. without n (users_of s ps)) same
 
+users_without : (s n : ℕ) (ps : List Permit) (m : Mark) → is_live m ≡ false → AreNumbered 0 ps → is_issued ps n ≡ true → users_of s (marked ps n m) ≡ without n (users_of s ps)
+users_without s n ps m off h issued = let some : 1 ≤ n = grind (arith, nat_tests, issued) in let at : 0 + (n - 1) + 1 ≡ n = omega (arith, some) in
+    users_marked s 0 (n - 1) ps m off h ∙ ap (λ k. without k (users_of s ps)) at
+
+-- and so do many
+users_without_each : (s : ℕ) (m : Mark) → is_live m ≡ false → (ps : List Permit) (ns : List ℕ) → AreNumbered 0 ps → AreLive m ps ns → users_of s (marked_all m ps ns) ≡ without_each ns (users_of s ps)
+users_without_each s m off ps [] h live = sym (without_none [] (users_of s ps) (All-nil (λ n. index_is_in n (users_of s ps) ≡ false)))
+users_without_each s m off ps (n ∷ ns) h live =
+    users_without_each s m off (marked ps n m) ns (numbered-mark m 0 (n - 1) ps h) live.2
+    ∙ (ap (without_each ns) (users_without s n ps m off h live.0) ∙ without_next n ns (users_of s ps))
+
+on_roads_still : (segments : ℕ) (m : Mark) (ps : List Permit) (ns : List ℕ) → AreLive m ps ns → All (IsOnRoads segments) ps → All (IsOnRoads segments) (marked_all m ps ns)
+on_roads_still segments m ps [] live inside = inside
+on_roads_still segments m ps (n ∷ ns) live inside = let issued = live.0 in let low : n - 1 < length ps = grind (arith, nat_tests, issued) in
+    on_roads_still segments m (marked ps n m) ns live.2 (All-set (IsOnRoads segments) ps (n - 1) _ (inside (n - 1) no_permit low) inside)
+
 -- what stands at the place of a number is its permit
 pub found_at : (items ps : List Permit) (n : ℕ) (p : Permit) → items ≡ ps → is_issued ps n ≡ true → p ≡ get_or items (n - 1) p → p ≡ permit_of ps n
 found_at items ps n p same issued is = let low : n - 1 < length ps = grind (arith, nat_tests, issued) in
@@ -101,6 +121,15 @@ module _ (segments : ℕ) (ps : List Permit) (index : Lists) (is : IsIndexed seg
     within = is.within;
   }
 
+  -- where many are taken out of it and marked as ended
+  pub index_marked_all : (next : Lists) (m : Mark) (ns : List ℕ) → is_live m ≡ false → AreLive m ps ns → AreRemoved index ns next → IsIndexed segments (marked_all m ps ns) next
+  index_marked_all next m ns off live gone = record {
+    many = gone.many ∙ is.many;
+    users = λ s low. (let here : s < length index = omega (arith, low, is.many) in
+        gone.using s here ∙ (ap (without_each ns) (is.users s low) ∙ sym (users_without_each s m off ps ns h live)));
+    within = on_roads_still segments m ps ns live is.within;
+  }
+
   module _ (n : ℕ) (issued : is_issued ps n ≡ true) where
     some : 1 ≤ n
     some = grind (arith, nat_tests, issued)
@@ -123,7 +152,7 @@ module _ (segments : ℕ) (ps : List Permit) (index : Lists) (is : IsIndexed seg
     pub index_marked : (next : Lists) (m : Mark) → is_live m ≡ false → IsRemoved index n next → IsIndexed segments (marked ps n m) next
     index_marked next m off gone = record {
       many = gone.many ∙ is.many;
-      users = λ s low. (let here : s < length index = omega (arith, low, is.many) in let at : 0 + (n - 1) + 1 ≡ n = omega (arith, some) in
-          gone.using s here ∙ (ap (without n) (is.users s low) ∙ (ap (λ k. without k (users_of s ps)) (sym at) ∙ sym (users_marked s 0 (n - 1) ps m off h))));
+      users = λ s low. (let here : s < length index = omega (arith, low, is.many) in
+          gone.using s here ∙ (ap (without n) (is.users s low) ∙ sym (users_without s n ps m off h issued)));
       within = (let low : n - 1 < length ps = omega (arith, some, few) in All-set (IsOnRoads segments) ps (n - 1) _ (is.within (n - 1) no_permit low) is.within);
     }

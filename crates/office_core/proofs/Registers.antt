@@ -6,6 +6,7 @@ use Rattle.std.proofs.lemmas.List.{append-nil, drop_all, get_or-replicate, lengt
 use Rattle.std.proofs.lemmas.Option.{get_or_from_slice_get, slice_get_within}
 use Rattle.std.specs.List.{All, concat}
 use Rattle.std.specs.Arc.{arc_value}
+use Rattle.std.specs.List.Sorted.{IsStrictlyIncreasing}
 use Rattle.road_graph.specs.Roads.{Roads}
 use Rattle.restriction_log.specs.declared.change.Change.{Change}
 use Rattle.restriction_log.specs.Changes.{touched}
@@ -26,13 +27,14 @@ use Rattle.trip_analysis.specs.Followers.{GoesOn}
 use Rattle.trip_analysis.proofs.Following.{goes_on_posted}
 use Rattle.office_core.specs.declared.register.Register.TheInside.{Inside}
 use Rattle.office_words.specs.declared.entry.Reply.TheVariants as reply
-use Rattle.office_core.specs.Recalls.{AreLive, AreVerdicts, InForceMeet, IsRanged, marked_all, recalled_by, recalled_now}
+use Rattle.office_core.specs.Recalls.{AreLive, AreVerdicts, InForceMeet, IsRanged, is_recalled, marked_all, recalled_by, recalled_now}
 use Rattle.office_core.specs.Users.{IsIndexed, IsUser, users_of}
 use Rattle.office_core.specs.Machine.{IsGood, Machine, machine_at, posted_reply, state_with, with_posting}
 use Rattle.office_core.specs.Registers.{HeldAt, IsNext, IsRegister, MeetElsewhere, RegisterParts, is_recalled_in, parts_of, posting_reply, recalls_of, state_now, stored_now}
 use Rattle.office_core.proofs.Founds.{found_in_range, holds_now}
 use Rattle.office_core.proofs.Goods.{good_entered, good_posted}
 use Rattle.office_core.proofs.ByNumber.{recalled_live, recalled_marked}
+use Rattle.office_core.proofs.Recalling.{are_increasing}
 use Rattle.office_core.proofs.Indexing.{are_users, index_issued, index_undone}
 use Rattle.office_core.proofs.Touching.{met_elsewhere}
 use Rattle.office_core.proofs.Among.{recalled_among, recalled_if_failing}
@@ -168,6 +170,12 @@ pub recalls_live : (i : Inside) (p : RegisterParts) (next : InForce) (v : ℕ) (
 recalls_live i p next v numbers seen inv are =
     let same : numbers ≡ recalled_by (arc_value i.base) next i.day i.book = are ∙ ap (λ (q : RegisterParts). recalls_of q next) (sym seen) in
     rw same (recalled_live (arc_value i.base) next i.day v i.book inv.good.numbered)
+
+-- and their numbers rise
+pub recalls_rise : (i : Inside) (p : RegisterParts) (next : InForce) (numbers : List ℕ) → parts_of i ≡ p → IsRegister i → numbers ≡ recalls_of p next → IsStrictlyIncreasing numbers
+recalls_rise i p next numbers seen inv are =
+    let same : numbers ≡ recalled_by (arc_value i.base) next i.day i.book = are ∙ ap (λ (q : RegisterParts). recalls_of q next) (sym seen) in
+    rw same (are_increasing (is_recalled (arc_value i.base) next i.day) i.book inv.good.numbered)
 
 -- what the posting of a change leaves
 pub record Posted (i : Inside) (p : RegisterParts) (change : Change) (next : Inside) : Type 0 where

@@ -58,6 +58,15 @@ abbrev pub AreLive : Mark → List Permit → List ℕ → Type 0
 AreLive m permits [] = Unit {0}
 AreLive m permits (n ∷ ns) = (is_issued permits n ≡ true) × (is_live (permit_of permits n).mark ≡ true) × AreLive m (marked permits n m) ns
 
+-- the permit of this number was issued, and is live
+pub record IsLiveIn (permits : List Permit) (n : ℕ) : Type 0 where
+  pub issued : is_issued permits n ≡ true
+  pub live : is_live (permit_of permits n).mark ≡ true
+
+-- the segments of the routes of the permit of a number
+abbrev pub segments_of : List Permit → ℕ → List ℕ
+segments_of permits n = concat (permit_of permits n).trip.routes
+
 -- for each truck, if it was judged, whether it may pass the segment in a state
 pub record AreVerdicts (base : BaseLists) (state : InForce) (segment : ℕ) (verdicts : List (Option Bool)) : Type 0 where
   pub many : length verdicts ≡ length base.fleet

@@ -1,36 +1,76 @@
 // Recalls of permits, in a book and its index.
 
-ghost use Rattle.std.specs.Prelude.{◌≡◌, length, true};
-ghost use Rattle.permit_book.specs.Permits.{is_issued, is_live, marked, permit_of};
+ghost use Rattle.std.specs.Prelude.{◌≡◌, ◌≤◌, length, All, true};
+ghost use Rattle.std.specs.List.{AllWithin};
+ghost use Rattle.std.specs.List.Sorted.{IsStrictlyIncreasing};
+ghost use Rattle.permit_book.specs.Permits.{AreNumbered, is_issued};
 ghost use Rattle.permit_book.specs.declared.permit.Mark.TheVariants as mark;
-ghost use Rattle.office_core.specs.Recalls.{AreLive, marked_all};
+ghost use Rattle.recall_index.specs.Uses.{AreRemoved};
+ghost use Rattle.office_core.specs.Recalls.{AreLive, IsLiveIn, marked_all, segments_of};
 ghost use Rattle.office_core.specs.Users.{IsIndexed};
 
-use permit_book::Book;
+use permit_book::{Book, Permit};
 use recall_index::Index;
 
-/// Recalls these permits, which are live, and takes them out of the index. The last comes first: numbers rise, so each stands at
-/// the end of its lists.
+/// Recalls these permits, which are live, and takes them out of the index.
 pub(crate) fn recall_each(book: &mut Book, index: &mut Index, numbers: &[u32], version: u32)
     requires live { AreLive (mark.Recalled version) book.old numbers.now }
+    requires rising { IsStrictlyIncreasing numbers.now }
     requires index { IsIndexed (length index.old) book.old index.old }
     ensures marked { book.new ≡ marked_all (mark.Recalled version) book.old numbers.now }
     ensures index { IsIndexed (length index.old) book.new index.new }
 {
-    for i in (0..numbers.len()).rev() {
-        recall(book, index, numbers[i], version);
+    take_out(book.permits(), index, numbers);
+    for i in 0..numbers.len() {
+        book.recall(numbers[i], version);
     }
 }
 
-// Recalls a permit, which is live, and takes it out of the index.
-fn recall(book: &mut Book, index: &mut Index, number: u32, version: u32)
-    requires issued { is_issued book.old number ≡ true }
-    requires live { is_live (permit_of book.old number).mark ≡ true }
-    requires index { IsIndexed (length index.old) book.old index.old }
-    ensures marked { book.new ≡ marked book.old number (mark.Recalled version) }
-    ensures index { IsIndexed (length index.old) book.new index.new }
+// Takes these permits out of the index, those of one route at once, and the last first: numbers rise, so they stand at the
+// end of its lists.
+fn take_out(permits: &[Permit], index: &mut Index, numbers: &[u32])
+    requires numbered { AreNumbered 0 permits.now }
+    requires live { All (IsLiveIn permits.now) numbers.now }
+    requires rising { IsStrictlyIncreasing numbers.now }
+    requires index { IsIndexed (length index.old) permits.now index.old }
+    ensures { AreRemoved index.old numbers.now index.new }
 {
-    let permit = &book.permits()[number as usize - 1];
-    index.remove(number, permit.trip.routes.all());
-    book.recall(number, version);
+    let mut end = numbers.len();
+    while 0 < end {
+        let route = segments_of(permits, numbers[end - 1]);
+        let start = begin_of_run(permits, numbers, end - 1, route);
+        index.remove_each(&numbers[start..end], route);
+        end = start;
+    }
+}
+
+// From where on up to an end the permits have this route.
+fn begin_of_run(permits: &[Permit], numbers: &[u32], end: usize, route: &[u32]) -> usize
+    requires live { All (IsLiveIn permits.now) numbers.now }
+    requires within { end ≤ length numbers.now }
+    ensures within { result ≤ end }
+    ensures alike { AllWithin (λ n. segments_of permits.now n ≡ route.now) numbers.now result end }
+{
+    for i in (0..end).rev() {
+        if !goes_along(permits, numbers[i], route) {
+            return i + 1;
+        }
+    }
+    0
+}
+
+// Whether a permit has this route. It is not said where it has not.
+fn goes_along(permits: &[Permit], number: u32, route: &[u32]) -> bool
+    requires { is_issued permits.now number ≡ true }
+    ensures { result ≡ true → segments_of permits.now number ≡ route.now }
+{
+    segments_of(permits, number) == route
+}
+
+// The segments of the routes of a permit.
+fn segments_of(permits: &[Permit], number: u32) -> &[u32]
+    requires { is_issued permits.now number ≡ true }
+    ensures { result.now ≡ segments_of permits.now number }
+{
+    permits[number as usize - 1].trip.routes.all()
 }
