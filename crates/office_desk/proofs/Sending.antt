@@ -18,25 +18,25 @@ use Rattle.office_turn.proofs.turn.Turn.TheSendSync as turn
 use Rattle.office_turn.specs.contracts.pass.Pass as Pass
 use Rattle.office_desk.specs.contracts.desk.Desk as Desk
 use Rattle.office_desk.specs.contracts.desk.Desk.TheInside.{the_row as inside_row, the_type as inside_type}
-use Rattle.office_desk.specs.contracts.desked.Desked as Desked
-use Rattle.office_desk.specs.contracts.desked.DeskedStoried.TheImpl.{ghosts as story, no_dict}
+use Rattle.office_desk.specs.contracts.shared_office.SharedOffice as SharedOffice
+use Rattle.office_desk.specs.contracts.shared_office.SharedOfficeStoried.TheImpl.{ghosts as story, no_dict}
 use Rattle.office_desk.specs.contracts.seat.Seat as Seat
 
 module _ (L : RattleType) (ledger : Ghosts L.Denot) where
-  abbrev desked : RattleType
-  desked = Desked.the_row L ledger
+  abbrev shared_office : RattleType
+  shared_office = SharedOffice.the_row L ledger
 
-  pub desked_send : IsSend desked
-  desked_send = search (declared_send, counted_send, tt) depth 8
+  pub shared_office_send : IsSend shared_office
+  shared_office_send = search (declared_send, counted_send, tt) depth 8
 
   abbrev terms_row : RattleType
   terms_row = Tuple (Base.the_row ∷ Day.the_row ∷ u32 ∷ [])
 
-  pub pass_send : IsSend (Pass.the_row desked Entry.the_row terms_row (story L ledger no_dict))
-  pass_send = pass.the_send desked Entry.the_row terms_row (story L ledger no_dict) desked_send
+  pub pass_send : IsSend (Pass.the_row shared_office Entry.the_row terms_row (story L ledger no_dict))
+  pass_send = pass.the_send shared_office Entry.the_row terms_row (story L ledger no_dict) shared_office_send
 
   inside_sync : IsSync (inside_row L ledger)
-  inside_sync = declared_sync (inside_type L ledger) (turn.the_sync desked Entry.the_row terms_row (story L ledger no_dict) desked_send, tt)
+  inside_sync = declared_sync (inside_type L ledger) (turn.the_sync shared_office Entry.the_row terms_row (story L ledger no_dict) shared_office_send, tt)
 
   pub desk_sync : IsSync (Desk.the_row L ledger)
   desk_sync = search (view_sync, inside_sync)

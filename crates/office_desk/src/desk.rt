@@ -9,7 +9,7 @@ ghost use Rattle.office_core.specs.Calls.{Answered, Looks};
 ghost use Rattle.office_core.specs.Promises.{KeepsPromises};
 ghost use Rattle.office_desk.specs.Desks.{MayAskWith, calls_of, terms_of};
 
-use crate::desked::Desked;
+use crate::shared_office::SharedOffice;
 use clearance_rules::Steps;
 use fleet::Base;
 use names::NoMemory;
@@ -23,10 +23,10 @@ use std::sync::ledger::{Blank, Ledger};
 use std::sync::{Arc, Wait};
 
 /// The right to call a desk, as one caller. It must be spent, in [`Desk::leave`].
-pub type Pass<L> = office_turn::Pass<Desked<L>>;
+pub type Pass<L> = office_turn::Pass<SharedOffice<L>>;
 
 /// The right to admit passes to a desk, to take them in, and to close it.
-pub type Root<L> = office_turn::Root<Desked<L>>;
+pub type Root<L> = office_turn::Root<SharedOffice<L>>;
 
 /// The office that threads share. [`Desk::close`] gives the office back. A desk that is let go drops it.
 ///
@@ -36,7 +36,7 @@ pub type Root<L> = office_turn::Root<Desked<L>>;
 /// the most entries of its history, and the most turns, which are as many. So no step in a turn finds the history full.
 #[derive(Drop)]
 pub struct Desk<L: Ledger> {
-    turn: Turn<Desked<L>>,
+    turn: Turn<SharedOffice<L>>,
 }
 
 impl<L: Ledger> Model for Desk<L> {
@@ -73,7 +73,7 @@ impl<L: Ledger> Desk<L> {
     {
         let office = Office::start(alloc, base, day, most)?;
         let counted = CountedOffice::new(office, blank);
-        match Turn::start(alloc, Desked { counted }, most) {
+        match Turn::start(alloc, SharedOffice { counted }, most) {
             Ok((turn, root)) => Ok((Desk { turn }, root)),
             Err(office_turn::NoMemory) => Err(NoMemory),
         }
@@ -125,7 +125,7 @@ impl<L: Ledger> Desk<L> {
         ensures counted { AreCounted result.0 result.1 }
     {
         let Desk { turn } = self;
-        let Desked { counted } = turn.close(root);
+        let SharedOffice { counted } = turn.close(root);
         let (office, steps) = counted.into_parts();
         let _entries = office.history();
         (office, steps)

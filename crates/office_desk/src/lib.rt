@@ -16,9 +16,9 @@
 #![tactic(auto)]
 
 mod desk;
-mod desked;
+mod shared_office;
 mod seat;
 
 pub use desk::{Desk, Pass, Root};
-pub use desked::Desked;
+pub use shared_office::SharedOffice;
 pub use seat::Seat;

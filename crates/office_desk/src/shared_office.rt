@@ -20,11 +20,11 @@ use std::sync::ledger::Ledger;
 /// An office under a lock, with the counter of what is tested in its turns. Its story is its history, and its terms are what it
 /// is about, the day on which it opened and the most entries that its history may hold.
 #[derive(Drop)]
-pub struct Desked<L: Ledger> {
+pub struct SharedOffice<L: Ledger> {
     pub(crate) counted: CountedOffice<L>,
 }
 
-impl<L: Ledger> Storied for Desked<L> {
+impl<L: Ledger> Storied for SharedOffice<L> {
     ghost use Rattle.office_desk.specs.Desks.{terms_of};
 
     type Entry = Entry;
@@ -38,7 +38,7 @@ impl<L: Ledger> Storied for Desked<L> {
     ghost terms = { λ d. terms_of d.counted.office };
 }
 
-impl<L: Ledger> Desked<L> {
+impl<L: Ledger> SharedOffice<L> {
     // Answers a call and adds its entry.
     pub(crate) fn step(&mut self, caller: u32, call: Call) -> Reply
         requires caller { caller < 65536 }

@@ -1,5 +1,5 @@
 use Rattle.office_desk.proofs.Looking.{told}
-use Rattle.office_desk.proofs.desked.Desked.look.Goals as goal
+use Rattle.office_desk.proofs.shared_office.SharedOffice.look.Goals as goal
 
 pub returns-in-Ok-clause-grown : goal.returns-in-Ok-clause-grown
 returns-in-Ok-clause-grown g c = told _ _ _ _ c.step.ensures.grown c.step.ensures.legal
