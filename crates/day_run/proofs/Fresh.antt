@@ -76,7 +76,7 @@ module _ {C : Type 0} (pass_of : C → Passing Entry Terms) where
       → AreReceivedFrom pass_of 0 receipts after → (e ≡ ended.Done → AreDoneFrom 0 after) → (e ≡ ended.Full → OneIsFull after)
       → HaveRun lock receipts scripts e
   all_run lock receipts scripts before after e count same fresh ran received done full = record {
-    each = λ i s near. let d = item before i (omega (arith, near, count)) in ((get_or after i d).outcome, run_at i s d near);
+    each = λ some i s near. let d = item before i (omega (arith, near, count)) in ((get_or after i d).outcome, run_at i s d near);
     done = λ yes i s near. let d = item before i (omega (arith, near, count)) in
         subst (HasRun lock receipts i (get_or scripts i s).items) (done yes i d (omega arith) (omega (arith, near, count, same))) (run_at i s d near);
     full = λ yes. let (k, w, inside, is, found) = full yes in let near : k < length scripts = omega (arith, inside, same, count) in let s = item scripts k near in

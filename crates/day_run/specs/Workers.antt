@@ -1,5 +1,5 @@
 -- What the actors of a day leave at their desk.
-use Rattle.std.specs.Prelude.{◌≡◌, ◌<◌, ◌≤◌, ℕ, List, [], Some, None, Option, length, slice_index_or, All, Any, Contains, Vec, vec_len, if◌then◌else◌}
+use Rattle.std.specs.Prelude.{◌≡◌, ◌≢◌, ◌<◌, ◌≤◌, ℕ, List, [], Some, None, Option, length, slice_index_or, All, Any, Contains, Vec, vec_len, if◌then◌else◌}
 use Rattle.std.specs.Global.{Global}
 use Rattle.fleet.specs.Bases.{BaseLists}
 use Rattle.office_words.specs.declared.entry.Command.{Command}
@@ -74,10 +74,10 @@ pub record HasRun (lock : Lock Terms) (receipts : List (Receipt Entry)) (actor :
   pub number : receipt.number ≡ actor
   pub adds : Adds actor script o receipt.own (full_by lock receipt)
 
--- each actor has run, and they ended so, all together
+-- unless memory was wanting each actor has run, and they ended so, all together
 pub record HaveRun (lock : Lock Terms) (receipts : List (Receipt Entry)) (scripts : List (Vec Command Global)) (e : Ended)
     : Type 0 where
-  pub each : (i : ℕ) (s : Vec Command Global) → i < length scripts
+  pub each : e ≢ ended.NoMemory → (i : ℕ) (s : Vec Command Global) → i < length scripts
       → (o : Outcome) × HasRun lock receipts i (slice_index_or scripts i s).items o
   pub done : e ≡ ended.Done → (i : ℕ) (s : Vec Command Global) → i < length scripts
       → HasRun lock receipts i (slice_index_or scripts i s).items outcome.Done

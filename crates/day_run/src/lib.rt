@@ -10,6 +10,7 @@
 #![tactic(auto)]
 
 mod ended;
+mod opening;
 mod serving;
 mod workers;
 

@@ -1,22 +1,23 @@
 // An office whose actors carry out the commands of a day file.
 
-ghost use Rattle.std.specs.Prelude.{◌≡◌, ◌<◌, IfOk, OnOk};
+ghost use Rattle.std.specs.Prelude.{◌≡◌, ◌≢◌, ◌<◌, IfOk, OnOk};
 ghost use Rattle.road_graph.specs.Roads.{IsRoads};
 ghost use Rattle.day_text.specs.Laws.{IsDayFile};
 ghost use Rattle.office_core.specs.Costs.{Counts};
+ghost use Rattle.day_run.specs.declared.ended.Ended.TheVariants as endings;
 ghost use Rattle.day_run.specs.Served.{IsServed, LoneActorsAreOne};
 
 use crate::ended::Ended;
+use crate::opening::{Opening, open};
 use crate::workers::work_all;
 use clearance_rules::Steps;
-use command_calls::{Gate, most_entries};
+use command_calls::Gate;
 use day_start::prepare;
 use day_text::DayFile;
 use names::NoMemory;
 use office_core::Office;
-use office_desk::Desk;
+use std::sync::Wait;
 use std::sync::ledger::{Blank, Ledger};
-use std::sync::{Arc, Wait};
 use std::thread::Threads;
 
 /// The office of a day file's roads and trucks, after its actors carried out their commands, each actor on a thread of its
@@ -69,16 +70,32 @@ fn serve_actors<R: Threads + Wait + AllocGlobal + Sync, G: Gate + Sync, L: Ledge
     ensures counted { IfOk result (λ done. Counts file.base file.day done.0.history done.1) }
     ensures roads { OnOk result (IsRoads file.base.roads) }
 {
-    let alloc = rt.alloc();
-    let most = most_entries(file.commands());
-    let (base, day, scripts) = file.into_scripts(alloc)?;
-    let base = Arc::new(alloc, base)?;
-    let (desk, mut root) = Desk::<L>::start(alloc, Arc::try_clone(&base)?, day, most, blank)?;
-    let ended = work_all(rt, &desk, &mut root, &base, scripts, gate)?;
-    let closed = desk.close(root);
+    let Opening {
+        desk,
+        mut root,
+        base,
+        scripts,
+    } = open::<L>(rt.alloc(), file, blank)?;
+    let ended = work_all(rt, &desk, &mut root, &base, scripts, gate);
+    drop(base);
+    finished(ended, desk.close(root))
+}
+
+// What a desk gave back when it was closed, where all actors are done.
+fn finished<L: Ledger>(
+    ended: Ended,
+    closed: (Office, Steps<L>),
+) -> Result<(Office, Steps<L>), NoMemory>
+    requires { ended ≢ endings.Full }
+    ensures closed { IfOk result (λ c. c ≡ closed) }
+    ensures done { OnOk result (ended ≡ endings.Done) }
+{
     match ended {
         Ended::Done => Ok(closed),
-        Ended::NoMemory => Err(NoMemory),
+        Ended::NoMemory => {
+            drop(closed);
+            Err(NoMemory)
+        }
         Ended::Full => unreachable!(),
     }
 }

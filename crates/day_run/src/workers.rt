@@ -1,6 +1,6 @@
 // The actors of a day at their desk.
 
-ghost use Rattle.std.specs.Prelude.{◌≡◌, ◌+◌, ◌<◌, ◌≤◌, [], length, vec_len, vec_capacity, IfOk};
+ghost use Rattle.std.specs.Prelude.{◌≡◌, ◌≢◌, ◌+◌, ◌<◌, ◌≤◌, [], length, vec_len, vec_capacity};
 ghost use Rattle.office_turn.specs.Told.{opening_root};
 ghost use Rattle.office_desk.specs.Desks.{terms_in};
 ghost use Rattle.day_run.specs.declared.ended.Ended.TheVariants as ended;
@@ -10,9 +10,9 @@ use crate::ended::Ended;
 use analyst_pool::{Worker, run_actors};
 use command_calls::Gate;
 use fleet::Base;
-use names::NoMemory;
 use office_desk::{Desk, Root, Seat};
 use office_words::Command;
+use std::alloc::AllocError;
 use std::sync::Wait;
 use std::sync::ledger::Ledger;
 use std::thread::Threads;
@@ -20,7 +20,8 @@ use std::thread::Threads;
 /// An actor with its script and its seat at the desk.
 type Actor<'a, R, L> = Worker<Seat<'a, R, L>>;
 
-/// Admits a pass for each script, has the actors carry out their scripts, all at once, and takes the passes in.
+/// Admits a pass for each script, has the actors carry out their scripts, all at once, and takes the passes in. How they ended:
+/// without memory also where there was none for the workers.
 pub(crate) fn work_all<
     R: Threads + Wait + AllocGlobal + Sync,
     G: Gate + Sync,
@@ -32,22 +33,25 @@ pub(crate) fn work_all<
     base: &Base,
     scripts: Vec<Vec<Command>>,
     gate: &G,
-) -> Result<Ended, NoMemory>
+) -> Ended
     requires root { root.old ≡ opening_root desk.now }
     requires base { (terms_in desk.now).0 ≡ base.now }
     requires sound { AreSound base.now scripts.items }
     requires short { AreShort scripts.items }
     requires few { vec_len scripts < 65536 }
     ensures lock { root.new.lock ≡ desk.now }
-    ensures admitted { IfOk result (λ _. root.new.admitted ≡ vec_len scripts) }
-    ensures joined { IfOk result (λ _. length root.new.receipts ≡ vec_len scripts) }
-    ensures run { IfOk result (HaveRun desk.now root.new.receipts scripts.items) }
+    ensures joined { length root.new.receipts ≡ root.new.admitted }
+    ensures admitted { result ≢ ended.NoMemory → root.new.admitted ≡ vec_len scripts }
+    ensures run { HaveRun desk.now root.new.receipts scripts.items result }
 {
     let alloc = rt.alloc();
-    let mut workers: Vec<Actor<'_, R, L>> = Vec::with_capacity(alloc, scripts.len())?;
+    let made: Result<Vec<Actor<'_, R, L>>, AllocError> = Vec::with_capacity(alloc, scripts.len());
+    let Ok(mut workers) = made else {
+        return Ended::NoMemory;
+    };
     admit_all(rt, desk, root, scripts, &mut workers);
     run_actors(rt, alloc, base, &mut workers, gate);
-    Ok(take_all(desk, root, workers))
+    take_all(desk, root, workers)
 }
 
 // Admits a pass for each script, in their order. There is room for the workers.
