@@ -7,7 +7,7 @@ use crate::fixtures::{holds, named, number, part, same};
 use names::Name;
 use road_graph::Network;
 use route_search::{
-    Found, Heights, Passable, Potentials, Region, Shortest, Trip, cuts_hold, findings_are_one,
+    Found, Heights, Passable, Potentials, Region, Shortest, TripEnds, cuts_hold, findings_are_one,
     potentials, potentials_certify, search, shortest_walk, shortest_walk_by,
 };
 use std::alloc::Global;
@@ -162,7 +162,7 @@ fn find_by(rt: &impl Abort, alloc: Global, network: &Network, passable: &[bool],
         network,
         flags: passable,
     };
-    let trip = Trip { roads, from, to };
+    let trip = TripEnds { roads, from, to };
     let known = potentials(alloc, &trip.roads, to).expect(rt, "memory");
     let found = shortest_walk_by(alloc, &trip, &known).expect(rt, "memory");
     drop(known);
@@ -188,7 +188,7 @@ fn find_near(
         network,
         flags: passable,
     };
-    let trip = Trip { roads, from, to };
+    let trip = TripEnds { roads, from, to };
     let found = shortest_walk(alloc, &trip, heights).expect(rt, "memory");
     holds(rt, is_told(parts_of_shortest(&found), line), line);
     drop(found);

@@ -13,7 +13,7 @@ use crate::query::Query;
 use crate::reach::{listed, reach};
 use crate::settle::{settle, settle_all};
 use crate::shortest::Shortest;
-use crate::trip::Trip;
+use crate::trip_ends::TripEnds;
 use crate::walks::{Walks, Way};
 use names::NoMemory;
 use road_graph::{Network, Numbers};
@@ -44,7 +44,7 @@ pub fn search(
         network,
         flags: passable,
     };
-    Ok(find(alloc, &Trip { roads, from, to })?)
+    Ok(find(alloc, &TripEnds { roads, from, to })?)
 }
 
 /// For each node the least length of a passable walk to a node. `NoMemory` where no memory was left.
@@ -58,7 +58,11 @@ pub fn potentials(alloc: Global, roads: &Passable, to: u32) -> Result<Potentials
 
 /// What `search` finds, without the potentials. Where heights are given, nodes that they show to lead away from the start
 /// are left out. `NoMemory` where no memory was left.
-pub fn shortest_walk(alloc: Global, trip: &Trip, heights: &Heights) -> Result<Shortest, NoMemory>
+pub fn shortest_walk(
+    alloc: Global,
+    trip: &TripEnds,
+    heights: &Heights,
+) -> Result<Shortest, NoMemory>
     requires { AreHeights trip.now.roads.network.now.segments heights.now }
     ensures { IfOk result (IsShortest trip.now.roads.network.now trip.now.roads.flags.now trip.now.from trip.now.to) }
 {
@@ -69,7 +73,7 @@ pub fn shortest_walk(alloc: Global, trip: &Trip, heights: &Heights) -> Result<Sh
 /// The same, where the potentials are known. `NoMemory` where no memory was left.
 pub fn shortest_walk_by(
     alloc: Global,
-    trip: &Trip,
+    trip: &TripEnds,
     potentials: &Potentials,
 ) -> Result<Shortest, NoMemory>
     requires { ArePotentialsOver trip.now.roads.network.now trip.now.roads.flags.now trip.now.to potentials.now }
@@ -82,7 +86,7 @@ pub fn shortest_walk_by(
 /// The route that `shortest_walk` answers, or `None` where no passable walk leads there. `NoMemory` where no memory was left.
 pub fn shortest_route(
     alloc: Global,
-    trip: &Trip,
+    trip: &TripEnds,
     heights: &Heights,
 ) -> Result<Option<Shortest>, NoMemory>
     requires { AreHeights trip.now.roads.network.now.segments heights.now }
@@ -101,7 +105,7 @@ pub fn shortest_route(
 /// The same, where the potentials are known. `NoMemory` where no memory was left.
 pub fn shortest_route_by(
     alloc: Global,
-    trip: &Trip,
+    trip: &TripEnds,
     potentials: &Potentials,
 ) -> Result<Option<Shortest>, NoMemory>
     requires { ArePotentialsOver trip.now.roads.network.now trip.now.roads.flags.now trip.now.to potentials.now }
@@ -111,7 +115,7 @@ pub fn shortest_route_by(
 }
 
 // The potentials first, and then what they show.
-fn find(alloc: Global, trip: &Trip) -> Result<Found, AllocError>
+fn find(alloc: Global, trip: &TripEnds) -> Result<Found, AllocError>
     ensures { IfOk result (IsFound trip.now.roads.network.now trip.now.roads.flags.now trip.now.from trip.now.to) }
 {
     let list = settle_all(alloc, &trip.roads, trip.to)?;
@@ -131,7 +135,7 @@ fn find(alloc: Global, trip: &Trip) -> Result<Found, AllocError>
 // The route that potentials show, or none.
 fn route_shown(
     alloc: Global,
-    trip: &Trip,
+    trip: &TripEnds,
     potentials: &[Option<u64>],
 ) -> Result<Option<Shortest>, AllocError>
     requires { AreNearOver trip.now.roads.network.now trip.now.roads.flags.now trip.now.from trip.now.to potentials.now }
@@ -151,7 +155,7 @@ fn route_shown(
 }
 
 // What was found, or why nothing was.
-fn or_why(alloc: Global, trip: &Trip, found: Option<Shortest>) -> Result<Shortest, AllocError>
+fn or_why(alloc: Global, trip: &TripEnds, found: Option<Shortest>) -> Result<Shortest, AllocError>
     requires { IsRouteOrNone trip.now.roads.network.now trip.now.roads.flags.now trip.now.from trip.now.to found }
     ensures { IfOk result (IsShortest trip.now.roads.network.now trip.now.roads.flags.now trip.now.from trip.now.to) }
 {
@@ -162,7 +166,7 @@ fn or_why(alloc: Global, trip: &Trip, found: Option<Shortest>) -> Result<Shortes
 }
 
 // Why there is no passable walk.
-fn no_route(alloc: Global, trip: &Trip) -> Result<Shortest, AllocError>
+fn no_route(alloc: Global, trip: &TripEnds) -> Result<Shortest, AllocError>
     requires { CanReach trip.now.roads.network.now.segments (flagged trip.now.roads.flags.now) trip.now.from trip.now.to → ⊥ }
     ensures { IfOk result (IsShortest trip.now.roads.network.now trip.now.roads.flags.now trip.now.from trip.now.to) }
 {

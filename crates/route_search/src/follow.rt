@@ -6,7 +6,7 @@ ghost use Rattle.route_search.specs.Following.{IsFirstTightOver, IsNoneTightOver
 
 use crate::passable::Passable;
 use crate::settle::is_known;
-use crate::trip::Trip;
+use crate::trip_ends::TripEnds;
 use crate::waiting::Waiting;
 use std::alloc::{AllocError, Global};
 
@@ -43,7 +43,7 @@ fn first_tight(roads: &Passable, potentials: &[Option<u64>], near: Waiting) -> O
 // From each node the least-numbered segment that leads on a shortest walk.
 pub(crate) fn follow(
     alloc: Global,
-    trip: &Trip,
+    trip: &TripEnds,
     potentials: &[Option<u64>],
     feet: u64,
 ) -> Result<Vec<u32>, AllocError>

@@ -14,7 +14,7 @@ use clearance_rules::Steps;
 use fleet::{Base, TruckOn};
 use names::NoMemory;
 use restriction_log::State;
-use route_search::{Heights, Passable, Shortest, Trip, shortest_walk};
+use route_search::{Heights, Passable, Shortest, TripEnds, shortest_walk};
 use snapshot_store::Snapshot;
 use std::alloc::Global;
 use std::sync::ledger::Ledger;
@@ -120,11 +120,11 @@ fn find_free<L: Ledger>(
     let flags = passable.as_slice();
     let roads = Passable { network, flags };
     let (from, to) = (application.from(), application.to());
-    search_along(alloc, &Trip { roads, from, to })
+    search_along(alloc, &TripEnds { roads, from, to })
 }
 
 // What a search for a trip finds, as it is proposed.
-fn search_along(alloc: Global, trip: &Trip) -> Result<What, NoMemory>
+fn search_along(alloc: Global, trip: &TripEnds) -> Result<What, NoMemory>
     ensures { IfOk result (IsSearched trip.now.roads.network.now trip.now.roads.flags.now trip.now.from trip.now.to) }
 {
     let heights = Heights::none(alloc);

@@ -18,7 +18,7 @@ use fleet::{Base, TruckOn};
 use names::NoMemory;
 use restriction_log::State;
 use road_graph::Network;
-use route_search::{Heights, Passable, Trip};
+use route_search::{Heights, Passable, TripEnds};
 use snapshot_store::Snapshot;
 use std::alloc::Global;
 use std::sync::ledger::Ledger;
@@ -103,7 +103,7 @@ impl Analyst {
         let flags = known.passable.as_slice();
         let roads = Passable { network, flags };
         let (from, to) = (application.from(), application.to());
-        let trip = Trip { roads, from, to };
+        let trip = TripEnds { roads, from, to };
         let found = known.kept.search(alloc, &trip, &mut self.heights);
         *slot = Some(known);
         proposed(alloc, found?)

@@ -8,7 +8,7 @@ ghost use Rattle.trip_analysis.specs.Known.{IsKept, IsSettled};
 use names::NoMemory;
 use road_graph::Network;
 use route_search::{
-    Heights, Passable, Potentials, Region, Shortest, Trip, potentials, shortest_route,
+    Heights, Passable, Potentials, Region, Shortest, TripEnds, potentials, shortest_route,
     shortest_route_by,
 };
 use std::alloc::Global;
@@ -37,7 +37,7 @@ impl Kept {
     pub fn search(
         &mut self,
         alloc: Global,
-        trip: &Trip,
+        trip: &TripEnds,
         heights: &mut Heights,
     ) -> Result<Shortest, NoMemory>
         requires kept { IsKept trip.now.roads.network.now trip.now.roads.flags.now self.old }
@@ -62,7 +62,7 @@ impl Kept {
     fn route(
         &mut self,
         alloc: Global,
-        trip: &Trip,
+        trip: &TripEnds,
         heights: &mut Heights,
     ) -> Result<Option<Shortest>, NoMemory>
         requires kept { IsKept trip.now.roads.network.now trip.now.roads.flags.now self.old }
@@ -118,7 +118,7 @@ impl Kept {
     }
 
     // Keeps the region around the start of a trip that has no route, and answers why.
-    fn learn_region(&mut self, alloc: Global, trip: &Trip) -> Result<Shortest, NoMemory>
+    fn learn_region(&mut self, alloc: Global, trip: &TripEnds) -> Result<Shortest, NoMemory>
         requires kept { IsKept trip.now.roads.network.now trip.now.roads.flags.now self.old }
         requires none { IsRouteOrNone trip.now.roads.network.now trip.now.roads.flags.now trip.now.from trip.now.to None }
         ensures found { IfOk result (IsShortest trip.now.roads.network.now trip.now.roads.flags.now trip.now.from trip.now.to) }

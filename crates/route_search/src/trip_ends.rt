@@ -1,4 +1,4 @@
-// What is searched: a way from one node to another.
+// The ends of a trip.
 
 ghost use Rattle.std.specs.Prelude.{◌<◌, length};
 
@@ -6,7 +6,7 @@ use crate::passable::Passable;
 
 /// Two nodes, and the roads that may be passed between them.
 #[derive(Clone, Copy)]
-pub struct Trip<'a> {
+pub struct TripEnds<'a> {
     pub roads: Passable<'a>,
     pub from: u32,
     pub to: u32,
