@@ -12,11 +12,11 @@ use Rattle.command_calls.specs.Leaves.{Grew}
 use Rattle.command_calls.specs.Unfolds.{AreFinished, IsBrokenOff, IsStopped, WentTo}
 
 -- the entries that a script adds with this outcome, to the own entries of calls that are then full so
-abbrev pub Adds : ℕ → List Command → Outcome → List Entry → Option ℕ → Type 0
-Adds caller script outcome.Waiting es full = es ≡ []
-Adds caller script outcome.Done es full = AreFinished caller script es
-Adds caller script (outcome.NoMemory k) es full = WentTo caller script k (IsBrokenOff caller) es
-Adds caller script (outcome.Full k most) es full =
+abbrev pub AddsEntries : ℕ → List Command → Outcome → List Entry → Option ℕ → Type 0
+AddsEntries caller script outcome.Waiting es full = es ≡ []
+AddsEntries caller script outcome.Done es full = AreFinished caller script es
+AddsEntries caller script (outcome.NoMemory k) es full = WentTo caller script k (IsBrokenOff caller) es
+AddsEntries caller script (outcome.Full k most) es full =
     WentTo caller script k (λ c last. IsStopped caller c last most) es × (full ≡ Some most)
 
 -- a script was carried out, as far as the outcome says
@@ -24,7 +24,7 @@ pub record CarriedOutAll {P : Type 0} (v : Calling P) (script : List Command) (o
   pub ended : o ≢ outcome.Waiting
   pub entries : List Entry
   pub grew : Grew v entries w
-  pub adds : Adds v.who.caller script o entries w.full
+  pub adds : AddsEntries v.who.caller script o entries w.full
 
 module _ {C P : Type 0} where
   -- a worker who has not begun, of an office that is about this, with a script that may be carried out
@@ -41,4 +41,4 @@ module _ {C P : Type 0} where
     pub ended : after.outcome ≢ outcome.Waiting
     pub entries : List Entry
     pub grew : Grew (view before.calls) entries (view after.calls)
-    pub adds : Adds (view before.calls).who.caller before.script.items after.outcome entries (view after.calls).full
+    pub adds : AddsEntries (view before.calls).who.caller before.script.items after.outcome entries (view after.calls).full

@@ -6,7 +6,7 @@ use Rattle.std.proofs.lemmas.Bool.Decides.{nat_tests}
 use Rattle.axle_train.specs.declared.axle.Axle.{Axle}
 use Rattle.axle_train.specs.Trains.{group_weight}
 use Rattle.axle_limits.specs.declared.worst_group.WorstGroup.{WorstGroup}
-use Rattle.axle_limits.specs.Limits.{limit_of}
+use Rattle.axle_limits.specs.Limits.{computed_limit_of}
 use Rattle.axle_limits.specs.declared.legal.TheConstants.{GROSS_LIMIT}
 use Rattle.axle_limits.specs.Groups.{gross_of, groups_of}
 use Rattle.axle_limits.specs.Findings.{is_legal_by_weight}
@@ -18,7 +18,7 @@ use Rattle.axle_limits.proofs.SoFar.{limit_some}
 -- where the worst group passes an allowance in thousandths of its limit, every group does
 pub all_pass : (axles : List Axle) (worst : WorstGroup) (allowance : ℕ) → IsWorst axles worst → 1000 * worst.weight ≤ allowance * worst.limit → AllPass axles allowance
 all_pass axles worst allowance is passes a b ordered within =
-    omega (arith, cross_trans (group_weight axles a b) (limit_of axles a b) worst.weight worst.limit allowance 1000 (is.greatest a b ordered within) (omega (arith, passes)) (rw is.is_group.limit_is (limit_some axles worst.i worst.j)))
+    omega (arith, cross_trans (group_weight axles a b) (computed_limit_of axles a b) worst.weight worst.limit allowance 1000 (is.greatest a b ordered within) (omega (arith, passes)) (rw is.is_group.limit_is (limit_some axles worst.i worst.j)))
 
 -- and where every group passes it, the worst one does
 pub worst_passes : (axles : List Axle) (worst : WorstGroup) (allowance : ℕ) → IsWorst axles worst → AllPass axles allowance → 1000 * worst.weight ≤ allowance * worst.limit
@@ -39,11 +39,11 @@ all_by_worst axles g allowance is = same (leb (1000 * g.weight) (allowance * g.l
 
     same : (b : Bool) → leb (1000 * g.weight) (allowance * g.limit) ≡ b → list_all p (groups_of axles) ≡ b
     same true passes = all_groups p axles (λ i j ordered within.
-        le-leb (1000 * group_weight axles i j) (allowance * limit_of axles i j)
+        le-leb (1000 * group_weight axles i j) (allowance * computed_limit_of axles i j)
         (all_pass axles g allowance is (leb-true (1000 * g.weight) (allowance * g.limit) passes) i j ordered within))
     same false fails = not_true (list_all p (groups_of axles)) (λ all.
         true≢false (sym (le-leb (1000 * g.weight) (allowance * g.limit)
-        (worst_passes axles g allowance is (λ i j ordered within. leb-true (1000 * group_weight axles i j) (allowance * limit_of axles i j) (each_group p axles i j all ordered within)))) ∙ fails))
+        (worst_passes axles g allowance is (λ i j ordered within. leb-true (1000 * group_weight axles i j) (allowance * computed_limit_of axles i j) (each_group p axles i j all ordered within)))) ∙ fails))
 
 -- some element passes a test exactly where not all fail it
 pub any_is_not_all : {X : Type 0} (p : X → Bool) (xs : List X) → list_any p xs ≡ not (list_all (λ x. not (p x)) xs)

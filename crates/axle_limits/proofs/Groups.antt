@@ -7,7 +7,7 @@ use Rattle.std.proofs.lemmas.List.FromFn.{get_or-map-range_with_len, length-map-
 use Rattle.std.proofs.lemmas.List.Sums.{AllPass-from_list_all, list_all-from_AllPass}
 use Rattle.axle_train.specs.declared.axle.Axle.{Axle}
 use Rattle.axle_limits.specs.declared.worst_group.WorstGroup.{WorstGroup}
-use Rattle.axle_limits.specs.Groups.{group_at, groups_from, groups_of, IsGroup, IsEarlier, GroupsAreListed}
+use Rattle.axle_limits.specs.Groups.{group_at, groups_from, groups_of, IsGroup, IsEarlierGroup, GroupsAreListed}
 use Rattle.axle_limits.proofs.Lists.{pairs_append}
 
 -- the groups of n first axles, from axle a on
@@ -49,16 +49,16 @@ rows_contain axles a (suc n) i j from to ordered within = elim (cases_lt a i) [
       (Contains-append_left (groups_from axles i) (groups_within axles (a + 1) n) (group_at axles i j) (row_contains axles i j ordered within)))
 ]
 
-row_rises : (axles : List Axle) (i : ℕ) → AllPairs IsEarlier (groups_from axles i)
+row_rises : (axles : List Axle) (i : ℕ) → AllPairs IsEarlierGroup (groups_from axles i)
 row_rises axles i k m d before inside =
     let last : m < length axles - i = omega (arith, inside, row_length axles i) in
     let first : k < length axles - i = omega (arith, last, before) in
     rw (row_at axles i k d first, row_at axles i m d last) (inr (refl, omega (arith, before)))
 
-rows_rise : (axles : List Axle) (a n : ℕ) → AllPairs IsEarlier (groups_within axles a n)
+rows_rise : (axles : List Axle) (a n : ℕ) → AllPairs IsEarlierGroup (groups_within axles a n)
 rows_rise axles a zero = λ k m d before inside. absurd (omega (arith, before, inside))
 rows_rise axles a (suc n) =
-    pairs_append IsEarlier (groups_from axles a) (groups_within axles (a + 1) n) (row_rises axles a) (rows_rise axles (a + 1) n) (λ x y in_row in_rows.
+    pairs_append IsEarlierGroup (groups_from axles a) (groups_within axles (a + 1) n) (row_rises axles a) (rows_rise axles (a + 1) n) (λ x y in_row in_rows.
     let here : x.i ≡ a = All-contains (λ g. g.i ≡ a) (groups_from axles a) x (row_all (λ g. g.i ≡ a) axles a (λ j ordered within. refl)) in_row in
     let there : a + 1 ≤ y.i = All-contains (λ g. a + 1 ≤ g.i) (groups_within axles (a + 1) n) y (rows_all (λ g. a + 1 ≤ g.i) axles (a + 1) n (λ i j from ordered within. from)) in_rows in
     inl (omega (arith, here, there)))
@@ -76,7 +76,7 @@ pub groups_contain : (axles : List Axle) (i j : ℕ) → i ≤ j → j < length 
 unfolding groups_of
 groups_contain axles i j ordered within = rows_contain axles 0 (length axles) i j (omega arith) (omega (arith, ordered, within)) ordered within
 
-pub groups_rise : (axles : List Axle) → AllPairs IsEarlier (groups_of axles)
+pub groups_rise : (axles : List Axle) → AllPairs IsEarlierGroup (groups_of axles)
 unfolding groups_of
 groups_rise axles = rows_rise axles 0 (length axles)
 

@@ -12,8 +12,8 @@ use Rattle.axle_limits.specs.declared.group.Rule.{Rule}
 use Rattle.axle_limits.specs.declared.group.Rule.TheVariants.{Single, Tandem, Formula, TwoTandem, Gross}
 use Rattle.axle_limits.specs.declared.finding.Finding.{Finding}
 use Rattle.axle_limits.specs.declared.worst_group.WorstGroup.{WorstGroup}
-use Rattle.axle_limits.specs.Limits.{IsGroupLimit, group_limit_of, limit_of}
-use Rattle.axle_limits.specs.Groups.{gross_of, group_at, groups_of, IsGroup, IsEarlier}
+use Rattle.axle_limits.specs.Limits.{IsGroupLimit, group_limit_of, computed_limit_of}
+use Rattle.axle_limits.specs.Groups.{gross_of, group_at, groups_of, IsGroup, IsEarlierGroup}
 use Rattle.axle_limits.specs.Findings.{IsGroupFinding, IsGrossFinding, ComesBefore, AreFindings, IsLegalByWeight, is_over_limit, finding_of, over_limit, gross_finding, findings_of}
 use Rattle.axle_limits.proofs.Lists.{contains_filter, contains_map, pairs_append, pairs_map}
 use Rattle.axle_limits.proofs.Groups.{groups_all, groups_contain, groups_rise}
@@ -52,9 +52,9 @@ group_findings_only axles f there = All-contains (IsGroupFinding axles) (over_li
 all_group_findings : (axles : List Axle) (f : Finding) → IsGroupFinding axles f → Contains (over_limit axles (groups_of axles)) f
 all_group_findings axles f is =
     let only : group_limit_of axles f.i f.j ≡ record { limit = f.limit; rule = f.rule } = group_limit_only axles f.i f.j f.limit f.rule is.ordered is.limit_is in
-    let limit : limit_of axles f.i f.j ≡ f.limit = ap (λ (l : GroupLimit). l.limit) only in
-    let high : limit_of axles f.i f.j < group_weight axles f.i f.j = omega (arith, limit, is.weight_is, is.over) in
-    let passes = lt-ltb (limit_of axles f.i f.j) (group_weight axles f.i f.j) high in
+    let limit : computed_limit_of axles f.i f.j ≡ f.limit = ap (λ (l : GroupLimit). l.limit) only in
+    let high : computed_limit_of axles f.i f.j < group_weight axles f.i f.j = omega (arith, limit, is.weight_is, is.over) in
+    let passes = lt-ltb (computed_limit_of axles f.i f.j) (group_weight axles f.i f.j) high in
     let told : finding_of axles (group_at axles f.i f.j) ≡ f =
     ap (λ (w : ℕ). record { i = f.i; j = f.j; weight = w; limit = (group_limit_of axles f.i f.j).limit; rule = (group_limit_of axles f.i f.j).rule }) (sym is.weight_is)
     ∙ ap (λ (l : GroupLimit). record { i = f.i; j = f.j; weight = f.weight; limit = l.limit; rule = l.rule }) only in
@@ -72,10 +72,10 @@ not_gross axles i j limit Gross h e = h
 
 group_findings_rise : (axles : List Axle) → AllPairs ComesBefore (over_limit axles (groups_of axles))
 group_findings_rise axles =
-    pairs_map IsEarlier ComesBefore (finding_of axles) (group_at axles 0 0) (over axles) (AllPairs-filter IsEarlier is_over_limit (groups_of axles) (groups_rise axles)) (λ g h one other earlier.
+    pairs_map IsEarlierGroup ComesBefore (finding_of axles) (group_at axles 0 0) (over axles) (AllPairs-filter IsEarlierGroup is_over_limit (groups_of axles) (groups_rise axles)) (λ g h one other earlier.
     let is = (All-contains (λ g. IsGroup axles g × (is_over_limit g ≡ true)) (over axles) g (each_is_over axles) one).0 in
     let limit = group_limit_is axles g.i g.j is.ordered in
-    (not_gross axles g.i g.j (limit_of axles g.i g.j) (group_limit_of axles g.i g.j).rule limit, inr earlier))
+    (not_gross axles g.i g.j (computed_limit_of axles g.i g.j) (group_limit_of axles g.i g.j).rule limit, inr earlier))
 
 -- the gross weight's finding, where it is over its limit
 abbrev gross_computed : List Axle → Finding

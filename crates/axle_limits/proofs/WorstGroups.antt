@@ -8,8 +8,8 @@ use Rattle.std.proofs.lemmas.List.Sums.{AllPass-from_list_all, list_all-from_All
 use Rattle.axle_train.specs.declared.axle.Axle.{Axle}
 use Rattle.axle_train.specs.Trains.{group_weight}
 use Rattle.axle_limits.specs.declared.worst_group.WorstGroup.{WorstGroup}
-use Rattle.axle_limits.specs.Limits.{limit_of}
-use Rattle.axle_limits.specs.Groups.{group_at, groups_of, IsEarlier}
+use Rattle.axle_limits.specs.Limits.{computed_limit_of}
+use Rattle.axle_limits.specs.Groups.{group_at, groups_of, IsEarlierGroup}
 use Rattle.axle_limits.specs.Worst.{IsWorst, IsBetter, is_no_worse, worst_of, WorstIsThere, WorstIsOne}
 use Rattle.axle_limits.proofs.Cross.{cross_trans}
 use Rattle.axle_limits.proofs.Lists.{IsFirst, found_first, found_none}
@@ -69,18 +69,18 @@ fails_then_better axles w g some passes fails = elim (cases_lt (g.weight * w.lim
       (leb-true (h.weight * w.limit) (w.weight * h.limit) (AllPass-from_list_all (is_no_worse w) (groups_of axles) passes k d inside)) equal some))) ∙ fails))
 ]
 
-not_itself : (g : WorstGroup) → IsEarlier g g → ⊥
+not_itself : (g : WorstGroup) → IsEarlierGroup g g → ⊥
 not_itself g (inl row) = omega (arith, row)
 not_itself g (inr (row, last)) = omega (arith, last)
 
-not_both : (g h : WorstGroup) → IsEarlier g h → IsEarlier h g → ⊥
+not_both : (g h : WorstGroup) → IsEarlierGroup g h → IsEarlierGroup h g → ⊥
 not_both g h (inl row) (inl other) = omega (arith, row, other)
 not_both g h (inl row) (inr (other, last)) = omega (arith, row, other)
 not_both g h (inr (row, last)) (inl other) = omega (arith, row, other)
 not_both g h (inr (row, last)) (inr (other, first)) = omega (arith, last, first)
 
 -- a test that first passes at one group fails at the earlier ones
-earlier_fails : (p : WorstGroup → Bool) (axles : List Axle) (w g : WorstGroup) → IsFirst p (groups_of axles) w → Contains (groups_of axles) g → IsEarlier g w → p g ≡ false
+earlier_fails : (p : WorstGroup → Bool) (axles : List Axle) (w g : WorstGroup) → IsFirst p (groups_of axles) w → Contains (groups_of axles) g → IsEarlierGroup g w → p g ≡ false
 earlier_fails p axles w g first there earlier =
     let (k, inside, at) = at_from_Contains (groups_of axles) g there in
     elim (cases_lt k first.place) [
@@ -90,7 +90,7 @@ earlier_fails p axles w g first there earlier =
         | inr same ↦ (
             let e : k ≡ first.place = omega (arith, past, same) in
             let one : g ≡ w = sym (at g) ∙ ap (λ n. get_or (groups_of axles) n g) e ∙ first.at g in
-            absurd (not_itself w (subst (λ h. IsEarlier h w) one earlier))
+            absurd (not_itself w (subst (λ h. IsEarlierGroup h w) one earlier))
             )
       ]
     ]
@@ -99,11 +99,11 @@ first_is_worst : (axles : List Axle) (w : WorstGroup) → IsFirst (is_worst axle
 first_is_worst axles w first =
     let group = group_from axles w (first.place, first.within, first.at w) in
     let some : 0 < w.limit = rw group.limit_is (limit_some axles w.i w.j) in
-    let better = λ (g : WorstGroup) (there : Contains (groups_of axles) g) (earlier : IsEarlier g w).
+    let better = λ (g : WorstGroup) (there : Contains (groups_of axles) g) (earlier : IsEarlierGroup g w).
     fails_then_better axles w g some first.passes (earlier_fails (is_worst axles) axles w g first there earlier) in
     record {
       is_group = group;
-      greatest = λ a b ordered within. leb-true (group_weight axles a b * w.limit) (w.weight * limit_of axles a b) (each_group (is_no_worse w) axles a b first.passes ordered within);
+      greatest = λ a b ordered within. leb-true (group_weight axles a b * w.limit) (w.weight * computed_limit_of axles a b) (each_group (is_no_worse w) axles a b first.passes ordered within);
       first_row = λ a b before ordered within. better (group_at axles a b) (groups_contain axles a b ordered within) (inl before);
       first_in_row = λ b ordered before. better (group_at axles w.i b) (groups_contain axles w.i b ordered (omega (arith, before, group.within))) (inr (refl, before));
     }
@@ -122,13 +122,13 @@ worst_is_there axles some = by (find (is_worst axles) (groups_of axles)) refl
         let h = get_or (groups_of axles) k d in le-leb (h.weight * w.it.limit) (w.it.weight * h.limit) (w.most k d inside)) in
         absurd (true≢false (sym passes ∙ found_none (is_worst axles) (groups_of axles) e w.it w.among))
 
-not_earlier : (axles : List Axle) (g h : WorstGroup) → IsWorst axles g → IsWorst axles h → IsEarlier g h → ⊥
+not_earlier : (axles : List Axle) (g h : WorstGroup) → IsWorst axles g → IsWorst axles h → IsEarlierGroup g h → ⊥
 not_earlier axles g h is other earlier =
     let low : IsBetter axles g.i g.j h = better earlier in
     let high = is.greatest h.i h.j other.is_group.ordered other.is_group.within in
     omega (arith, rw (← is.is_group.weight_is, ← is.is_group.limit_is) at low, rw (← other.is_group.weight_is, ← other.is_group.limit_is) at high)
   where
-    better : IsEarlier g h → IsBetter axles g.i g.j h
+    better : IsEarlierGroup g h → IsBetter axles g.i g.j h
     better (inl row) = other.first_row g.i g.j row is.is_group.ordered is.is_group.within
     better (inr (row, last)) = subst (λ t. IsBetter axles t g.j h) (sym row) (other.first_in_row g.j (omega (arith, row, is.is_group.ordered)) last)
 

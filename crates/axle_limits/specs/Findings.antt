@@ -59,8 +59,8 @@ abbrev pub over_limit : List Axle → List WorstGroup → List Finding
 over_limit axles groups = map (finding_of axles) (filter is_over_limit groups)
 
 -- what is added to a list are those of these groups that are over their limits
-abbrev pub Adds : List Axle → List WorstGroup → List Finding → List Finding → Type 0
-Adds axles groups old new = new ≡ old ++ over_limit axles groups
+abbrev pub AddsFindings : List Axle → List WorstGroup → List Finding → List Finding → Type 0
+AddsFindings axles groups old new = new ≡ old ++ over_limit axles groups
 
 -- the gross weight, where it is over its limit
 abbrev pub gross_finding : List Axle → List Finding

@@ -3,7 +3,7 @@ use Rattle.std.specs.Prelude.{◌≡◌, ℕ, ◌-◌, ◌<◌, ◌≤◌, ◌�
 use Rattle.std.specs.List.{flat_map, range_with_len}
 use Rattle.axle_train.specs.declared.axle.Axle.{Axle}
 use Rattle.axle_train.specs.Trains.{group_weight}
-use Rattle.axle_limits.specs.Limits.{limit_of}
+use Rattle.axle_limits.specs.Limits.{computed_limit_of}
 use Rattle.axle_limits.specs.declared.worst_group.WorstGroup.{WorstGroup}
 
 -- the gross weight in pounds
@@ -12,7 +12,7 @@ gross_of axles = sum_by (λ a. a.weight) axles
 
 -- the axles i to j with their weight and their limit
 abbrev pub group_at : List Axle → ℕ → ℕ → WorstGroup
-group_at axles i j = record { i = i; j = j; weight = group_weight axles i j; limit = limit_of axles i j }
+group_at axles i j = record { i = i; j = j; weight = group_weight axles i j; limit = computed_limit_of axles i j }
 
 -- the groups that begin with axle i, by their last axle
 abbrev pub groups_from : List Axle → ℕ → List WorstGroup
@@ -27,16 +27,16 @@ pub record IsGroup (axles : List Axle) (g : WorstGroup) : Type 0 where
   pub ordered : g.i ≤ g.j
   pub within : g.j < length axles
   pub weight_is : g.weight ≡ group_weight axles g.i g.j
-  pub limit_is : g.limit ≡ limit_of axles g.i g.j
+  pub limit_is : g.limit ≡ computed_limit_of axles g.i g.j
 
 -- the first group is before the second in dictionary order of (i, j)
-abbrev pub IsEarlier : WorstGroup → WorstGroup → Type 0
-IsEarlier g h = (g.i < h.i) ⊎ ((g.i ≡ h.i) × (g.j < h.j))
+abbrev pub IsEarlierGroup : WorstGroup → WorstGroup → Type 0
+IsEarlierGroup g h = (g.i < h.i) ⊎ ((g.i ≡ h.i) × (g.j < h.j))
 
 -- the list has the groups of these axles, all of them and nothing else, each before the later ones
 pub record AreGroups (axles : List Axle) (list : List WorstGroup) : Type 0 where
   pub listed : (g : WorstGroup) → Contains list g ↔ IsGroup axles g
-  pub rising : AllPairs IsEarlier list
+  pub rising : AllPairs IsEarlierGroup list
 
 -- `groups_of` is that list
 abbrev pub GroupsAreListed : Type 0

@@ -55,8 +55,8 @@ group_limit_of axles i j =
     else record { limit = formula; rule = Formula }))
 
 -- the limit of the axles i to j alone, computed
-abbrev pub limit_of : List Axle → ℕ → ℕ → ℕ
-limit_of axles i j = (group_limit_of axles i j).limit
+abbrev pub computed_limit_of : List Axle → ℕ → ℕ → ℕ
+computed_limit_of axles i j = (group_limit_of axles i j).limit
 
 -- a group has one limit by the rules, and this is it
 abbrev pub GroupLimitIsComputed : Type 0

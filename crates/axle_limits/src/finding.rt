@@ -2,7 +2,7 @@
 
 ghost use Rattle.std.specs.Prelude.{◌≡◌, ◌<◌, ◌≤◌, ◌++◌, ◌↔◌, ◌∷◌, [], length, IfOk, OnOk};
 ghost use Rattle.axle_limits.specs.Groups.{group_at, groups_from};
-ghost use Rattle.axle_limits.specs.Findings.{findings_of, Adds, gross_finding, AreFindings, IsLegalByWeight};
+ghost use Rattle.axle_limits.specs.Findings.{findings_of, AddsFindings, gross_finding, AreFindings, IsLegalByWeight};
 
 use crate::group::{Rule, group_limit};
 use crate::legal::GROSS_LIMIT;
@@ -40,7 +40,7 @@ pub fn findings(alloc: Global, train: &Train) -> Result<Vec<Finding>, NoMemory>
 /// Adds the groups over their limits that begin with axle `i`.
 fn add_row(train: &Train, i: usize, list: &mut Vec<Finding>) -> Result<(), NoMemory>
     requires within { i < length train.now }
-    ensures { OnOk result (Adds train.now (groups_from train.now i) list.old.items list.new.items) }
+    ensures { OnOk result (AddsFindings train.now (groups_from train.now i) list.old.items list.new.items) }
 {
     for j in i..train.len() {
         add_group(train, i, j, list)?;
@@ -52,7 +52,7 @@ fn add_row(train: &Train, i: usize, list: &mut Vec<Finding>) -> Result<(), NoMem
 fn add_group(train: &Train, i: usize, j: usize, list: &mut Vec<Finding>) -> Result<(), NoMemory>
     requires ordered { i ≤ j }
     requires within { j < length train.now }
-    ensures { OnOk result (Adds train.now (group_at train.now i j ∷ []) list.old.items list.new.items) }
+    ensures { OnOk result (AddsFindings train.now (group_at train.now i j ∷ []) list.old.items list.new.items) }
 {
     let weight = train.group_weight(i, j);
     let limit = group_limit(train, i, j);

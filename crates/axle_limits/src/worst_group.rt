@@ -2,7 +2,7 @@
 
 ghost use Rattle.std.specs.Prelude.{◌≡◌, ◌+◌, ◌*◌, ◌<◌, ◌≤◌, ◌⊎◌, length};
 ghost use Rattle.axle_limits.specs.Groups.{group_at};
-ghost use Rattle.axle_limits.specs.Worst.{IsWorst, IsWorstSoFar, IsInRange, worst_of, IsAtLeastAsBad, IsWorseThan};
+ghost use Rattle.axle_limits.specs.Worst.{IsWorst, IsWorstSoFar, IsGroupInRange, worst_of, IsAtLeastAsBad, IsWorseThan};
 
 use crate::group::{bounds, group_limit};
 use axle_train::Train;
@@ -23,7 +23,7 @@ pub struct WorstGroup {
 pub fn worst(train: &Train) -> WorstGroup
     ensures meaning { IsWorst train.now result }
     ensures value { result ≡ worst_of train.now }
-    ensures range { IsInRange result }
+    ensures range { IsGroupInRange result }
 {
     bounds(train);
     let mut best = group_at(train, 0, 0);
@@ -37,9 +37,9 @@ pub fn worst(train: &Train) -> WorstGroup
 fn worst_in_row(train: &Train, i: usize, best: WorstGroup) -> WorstGroup
     requires within { i < length train.now }
     requires so_far { IsWorstSoFar train.now i i best }
-    requires range { IsInRange best }
+    requires range { IsGroupInRange best }
     ensures so_far { IsWorstSoFar train.now (i + 1) (i + 1) result }
-    ensures range { IsInRange result }
+    ensures range { IsGroupInRange result }
 {
     let mut best = best;
     for j in i..train.len() {
@@ -50,9 +50,9 @@ fn worst_in_row(train: &Train, i: usize, best: WorstGroup) -> WorstGroup
 
 /// The worse of two groups, the first where they are equally bad.
 fn worse(best: WorstGroup, next: WorstGroup) -> WorstGroup
-    requires best { IsInRange best }
-    requires next { IsInRange next }
-    ensures range { IsInRange result }
+    requires best { IsGroupInRange best }
+    requires next { IsGroupInRange next }
+    ensures range { IsGroupInRange result }
     ensures kept { IsAtLeastAsBad best result }
     ensures met { next.weight * result.limit ≤ result.weight * next.limit }
     ensures either { (result ≡ best) ⊎ ((result ≡ next) × IsWorseThan best next) }
@@ -71,7 +71,7 @@ fn group_at(train: &Train, i: usize, j: usize) -> WorstGroup
     requires ordered { i ≤ j }
     requires within { j < length train.now }
     ensures value { result ≡ group_at train.now i j }
-    ensures range { IsInRange result }
+    ensures range { IsGroupInRange result }
 {
     WorstGroup {
         i,

@@ -6,11 +6,11 @@ use Rattle.axle_train.specs.declared.axle.Axle.{Axle}
 use Rattle.moment_peak.proofs.OnePeak.{moment_peak_is_one}
 use Rattle.shear_peak.proofs.OneShear.{shear_peak_is_one}
 use Rattle.day_text.specs.declared.check_file.Probe.{Probe}
-use Rattle.day_text.specs.Spans.{IsSpan}
+use Rattle.day_text.specs.Spans.{IsProbeSpan}
 use Rattle.check_report.specs.Reports.{IsProbeText, ReportIsOne, probe_text, truck_text}
 use Rattle.check_report.proofs.Texts.{texts_are_one}
 
-one_probe : (axles : List Axle) (probe : Probe) (a b : List ℕ) → IsTrain axles → IsSpan probe → IsProbeText axles probe a → IsProbeText axles probe b → a ≡ b
+one_probe : (axles : List Axle) (probe : Probe) (a b : List ℕ) → IsTrain axles → IsProbeSpan probe → IsProbeText axles probe a → IsProbeText axles probe b → a ≡ b
 one_probe axles probe a b train span h k =
     let (m, s, is_m, is_s, text) = h in
     let (m', s', is_m', is_s', text') = k in
@@ -21,9 +21,9 @@ one_probe axles probe a b train span h k =
 pub one_report : ReportIsOne
 one_report file train spans a b h k =
     let axles = file.truck.load.train in
-    let each = λ (probe : Probe) (one other : List ℕ) (span : IsSpan probe). one_probe axles probe one other train span in
+    let each = λ (probe : Probe) (one other : List ℕ) (span : IsProbeSpan probe). one_probe axles probe one other train span in
     let (probes, are, text) = h in
     let (probes', are', text') = k in
-    let same = texts_are_one (IsProbeText axles) IsSpan each file.probes probes probes'
-    (recursion_from_All IsSpan file.probes spans) are are' in
+    let same = texts_are_one (IsProbeText axles) IsProbeSpan each file.probes probes probes'
+    (recursion_from_All IsProbeSpan file.probes spans) are are' in
     text ∙ (ap (λ x. truck_text file.truck ++ x) same ∙ sym text')

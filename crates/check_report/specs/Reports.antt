@@ -68,8 +68,8 @@ truck_text truck =
     truck_line truck ++ flat_map over_line (findings_of truck.load.train) ++ high_line truck.load ++ wide_line truck.load ++ legal_line truck.load
 
 -- moment FRACTION at Q LEAD SECTION axle K run F-L, with axles counted from 1
-abbrev pub moment_line : MomentPeak → List ℕ
-moment_line m =
+abbrev pub moment_peak_line : MomentPeak → List ℕ
+moment_peak_line m =
     codes "moment " ++ (ratio_text m.value ++ (codes " at " ++ (decimal m.place.q ++ (codes " " ++ (signed_decimal m.place.lead ++ (codes " " ++ (decimal m.place.section ++ (codes " axle " ++ (decimal (m.axle + 1) ++ (codes " run " ++ (decimal (m.first + 1) ++ (codes "-" ++ (decimal (m.last + 1) ++ (10 ∷ []))))))))))))))
 
 -- the word for an end of a span
@@ -78,8 +78,8 @@ end_name Left = codes "left"
 end_name Right = codes "right"
 
 -- shear FRACTION at LEAD END
-abbrev pub shear_line : ShearPeak → List ℕ
-shear_line s = codes "shear " ++ (ratio_text s.value ++ (codes " at " ++ (signed_decimal s.lead ++ (codes " " ++ (end_name s.end ++ (10 ∷ []))))))
+abbrev pub shear_peak_line : ShearPeak → List ℕ
+shear_peak_line s = codes "shear " ++ (ratio_text s.value ++ (codes " at " ++ (signed_decimal s.lead ++ (codes " " ++ (end_name s.end ++ (10 ∷ []))))))
 
 -- hs20 MOMENT SHEAR, the peaks of the HS20-44 truck
 abbrev pub design_line : Effects → List ℕ
@@ -87,7 +87,7 @@ design_line design = codes "hs20 " ++ (ratio_text design.moment ++ (codes " " ++
 
 -- the first three lines on a probe: the span, and the truck's peaks
 abbrev pub peaks_text : Probe → MomentPeak → ShearPeak → List ℕ
-peaks_text probe m s = span_line probe ++ moment_line m ++ shear_line s
+peaks_text probe m s = span_line probe ++ moment_peak_line m ++ shear_peak_line s
 
 -- the last two: the peaks of the HS20-44 truck over every second spacing, and whether the truck's effects are within the
 -- rating, in thousandths of those

@@ -4,9 +4,9 @@ ghost use Rattle.std.specs.Prelude.{◌≡◌, IfOk, OnOk};
 ghost use Rattle.std.specs.List.{flat_map};
 ghost use Rattle.std.specs.String.{string_bytes};
 ghost use Rattle.span_rating.specs.Loading.{AreSmall};
-ghost use Rattle.day_text.specs.Spans.{AreSpans, IsSpan};
+ghost use Rattle.day_text.specs.Spans.{AreSpans, IsProbeSpan};
 ghost use Rattle.check_report.specs.Probes.{AddsOne, AreTexts, Grew};
-ghost use Rattle.check_report.specs.Reports.{HasOneReport, IsOnlyReport, IsProbeText, IsReport, ReportIsOne, design_line, end_name, high_line, judgement_text, legal_line, moment_line, over_line, peaks_text, rule_name, shear_line, truck_line, truck_text, wide_line};
+ghost use Rattle.check_report.specs.Reports.{HasOneReport, IsOnlyReport, IsProbeText, IsReport, ReportIsOne, design_line, end_name, high_line, judgement_text, legal_line, moment_peak_line, over_line, peaks_text, rule_name, shear_peak_line, truck_line, truck_text, wide_line};
 
 use crate::probes::{add_rating, add_span};
 use axle_limits::{Finding, LEGAL_HEIGHT, LEGAL_WIDTH, Rule, findings};
@@ -162,7 +162,7 @@ fn add_probes(text: &mut String, train: &Train, probes: &[Probe]) -> Result<(), 
 
 // The truck on one probe.
 fn add_probe(text: &mut String, train: &Train, probe: &Probe) -> Result<(), AllocError>
-    requires { IsSpan probe.now }
+    requires { IsProbeSpan probe.now }
     ensures { OnOk result (AddsOne (IsProbeText train.now probe.now) (string_bytes text.old) (string_bytes text.new)) }
 {
     let moment = moment_peak::peak(train, probe.inches);
@@ -191,7 +191,7 @@ fn add_peaks(
 
 // The peaks of the design truck, and the judgement of the truck by the rating.
 fn add_judgement(text: &mut String, probe: &Probe, truck: &Effects) -> Result<(), AllocError>
-    requires span { IsSpan probe.now }
+    requires span { IsProbeSpan probe.now }
     requires truck { AreSmall truck.now }
     ensures { OnOk result (Grew text.old text.new (judgement_text probe.now truck.now)) }
 {
@@ -202,7 +202,7 @@ fn add_judgement(text: &mut String, probe: &Probe, truck: &Effects) -> Result<()
 
 // A peak moment, with axles counted from 1.
 fn add_moment(text: &mut String, peak: &MomentPeak) -> Result<(), AllocError>
-    ensures { OnOk result (Grew text.old text.new (moment_line peak.now)) }
+    ensures { OnOk result (Grew text.old text.new (moment_peak_line peak.now)) }
 {
     let value = peak.value;
     let Place { q, lead, section } = peak.place;
@@ -217,7 +217,7 @@ fn add_moment(text: &mut String, peak: &MomentPeak) -> Result<(), AllocError>
 
 // A peak end shear.
 fn add_shear(text: &mut String, peak: &ShearPeak) -> Result<(), AllocError>
-    ensures { OnOk result (Grew text.old text.new (shear_line peak.now)) }
+    ensures { OnOk result (Grew text.old text.new (shear_peak_line peak.now)) }
 {
     let value = peak.value;
     let lead = peak.lead;

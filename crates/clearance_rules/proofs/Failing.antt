@@ -33,7 +33,7 @@ use Rattle.clearance_rules.specs.Limits.{posted_limit, group_limit, tridem_limit
 use Rattle.clearance_rules.specs.Failing.{IsOver, FailsAt}
 use Rattle.clearance_rules.specs.Names.{LimitName}
 use Rattle.clearance_rules.specs.Names as name
-use Rattle.clearance_rules.specs.Order.{name_of, limits_of_span, limits_in_order, FailsBy, NoneFails, IsInLowestTerms, FailsFirst}
+use Rattle.clearance_rules.specs.Order.{limit_name_of, limits_of_span, limits_in_order, FailsBy, NoneFails, IsInLowestTerms, FailsFirst}
 use Rattle.clearance_rules.specs.Laws.{NamedLimitFails, NamedLimitIsFirst, NoneNamedWhereNoneFails}
 use Rattle.clearance_rules.specs.declared.limit.Limit.{Limit}
 use Rattle.clearance_rules.specs.declared.limit.Limit.TheVariants.{Closed, Height, Width, Length, Gross, Group, Tridem, Moment, Shear}
@@ -166,7 +166,7 @@ module _ (roads : Roads) (state : InForce) (load : LoadParts) (s : ℕ) where
 
   -- what is judged to fail is of that name, and fails
   record IsJudged (n : LimitName) (l : Limit) : Type 0 where
-    named : name_of l ≡ n
+    named : limit_name_of l ≡ n
     fails : FailsAt roads state load s l
     written : IsInLowestTerms l
 
@@ -230,8 +230,8 @@ module _ (roads : Roads) (state : InForce) (load : LoadParts) (s : ℕ) where
   record IsFound (names : List LimitName) (l : Limit) : Type 0 where
     before : List LimitName
     after : List LimitName
-    order : names ≡ before ++ (name_of l ∷ after)
-    is : IsJudged (name_of l) l
+    order : names ≡ before ++ (limit_name_of l ∷ after)
+    is : IsJudged (limit_name_of l) l
     none : AllByRecursion (λ n. judge n ≡ None) before
 
   found : IsTrain load.train → (names : List LimitName) (l : Limit) → AllByRecursion IsHere names → first_by names ≡ Some l → IsFound names l
@@ -249,7 +249,7 @@ module _ (roads : Roads) (state : InForce) (load : LoadParts) (s : ℕ) where
   -- a limit that fails is judged to fail, with these sides where its fractions are in lowest terms
   record IsMet (l : Limit) : Type 0 where
     limit : Limit
-    is : judge (name_of l) ≡ Some limit
+    is : judge (limit_name_of l) ≡ Some limit
     same : IsInLowestTerms l → limit ≡ l
 
   flagged : (b : Bool) (x : Limit) → b ≡ true → cond b (Some x) None ≡ Some x
@@ -367,8 +367,8 @@ module _ (roads : Roads) (state : InForce) (load : LoadParts) (s : ℕ) where
   first_only is train l h =
       let m = met is train l h.fails in
       let here = subst (AllByRecursion IsHere) h.order (all_here is) in
-      let none = none_judged train h.before (name_of l ∷ h.after) here (recursion_from_All _ h.before h.none_before) in
-      in_order ∙ (ap first_by h.order ∙ (past h.before (name_of l ∷ h.after) none ∙ (rw m.is (ap Some (m.same h.written)))))
+      let none = none_judged train h.before (limit_name_of l ∷ h.after) here (recursion_from_All _ h.before h.none_before) in
+      in_order ∙ (ap first_by h.order ∙ (past h.before (limit_name_of l ∷ h.after) none ∙ (rw m.is (ap Some (m.same h.written)))))
 
   -- where none is named, none of the segment's limits is judged to fail
   none_of : (names : List LimitName) → first_by names ≡ None → AllByRecursion (λ n. judge n ≡ None) names
@@ -391,7 +391,7 @@ module _ (roads : Roads) (state : InForce) (load : LoadParts) (s : ℕ) where
       let listed = (spans_are roads.spans s).complete i (span_at roads.spans i) (slice_get-get_or roads.spans i no_span there.within) there.on in
       both_of (spans_of roads.spans s) listed.0 i listed.1 none
 
-  none_at : IsRoads roads → (l : Limit) → FailsAt roads state load s l → AllByRecursion (λ n. judge n ≡ None) (limits_in_order roads s) → judge (name_of l) ≡ None
+  none_at : IsRoads roads → (l : Limit) → FailsAt roads state load s l → AllByRecursion (λ n. judge n ≡ None) (limits_in_order roads s) → judge (limit_name_of l) ≡ None
   none_at is (Closed z) h none = none.0
   none_at is (Height z has allowed) h none = none.1.0
   none_at is (Width z has allowed) h none = none.1.1.0

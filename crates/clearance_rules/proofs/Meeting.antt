@@ -7,7 +7,7 @@ use Rattle.std.proofs.lemmas.Bool.{ltb-false, le-ltb, not-false, true≢false, c
 use Rattle.std.proofs.lemmas.Option.{none-some, get_or_from_slice_get}
 use Rattle.axle_train.specs.declared.axle.Axle.{Axle}
 use Rattle.axle_train.specs.Trains.{group_weight}
-use Rattle.axle_limits.specs.Limits.{limit_of as limit_of_group}
+use Rattle.axle_limits.specs.Limits.{computed_limit_of as limit_of_group}
 use Rattle.axle_limits.specs.Groups.{gross_of, group_at, groups_of}
 use Rattle.axle_limits.specs.Worst.{AllPass, is_over}
 use Rattle.axle_limits.specs.declared.worst_group.WorstGroup.{WorstGroup}

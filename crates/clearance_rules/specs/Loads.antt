@@ -4,7 +4,7 @@ use Rattle.axle_train.specs.declared.axle.Axle.{Axle}
 use Rattle.axle_train.specs.Bounds.{IsTrain}
 use Rattle.axle_limits.specs.declared.legal.TheConstants.{LEGAL_HEIGHT, LEGAL_WIDTH}
 use Rattle.axle_limits.specs.Findings.{IsLegalByWeight, is_legal_by_weight}
-use Rattle.axle_limits.specs.Worst.{IsWorst, IsInRange, worst_of}
+use Rattle.axle_limits.specs.Worst.{IsWorst, IsGroupInRange, worst_of}
 use Rattle.axle_limits.specs.Tridems.{IsHeaviestTridem, heaviest_tridem_of}
 use Rattle.axle_limits.specs.declared.tridem.Heaviest.{Heaviest}
 use Rattle.axle_limits.specs.declared.worst_group.WorstGroup.{WorstGroup}
@@ -41,18 +41,18 @@ abbrev pub is_legal : LoadParts → Bool
 is_legal load = is_legal_by_weight load.train && is_legal_size load.height load.width
 
 -- the same in words: legal by weight, and within the legal height and width
-pub record IsLegal (load : LoadParts) : Type 0 where
+pub record IsLegalLoad (load : LoadParts) : Type 0 where
   pub by_weight : IsLegalByWeight load.train
   pub height : load.height ≤ LEGAL_HEIGHT
   pub width : load.width ≤ LEGAL_WIDTH
 
 -- what a load keeps: numbers in range, a train, its worst group, its heaviest tridem group, and whether it is legal
-pub record IsKept (load : LoadParts) (worst : WorstGroup) (tridem : Option Heaviest) (legal : Bool) : Type 0 where
+pub record IsLoadKept (load : LoadParts) (worst : WorstGroup) (tridem : Option Heaviest) (legal : Bool) : Type 0 where
   pub in_range : is_load load.height load.width load.length ≡ true
   pub is_train : IsTrain load.train
   pub is_worst : IsWorst load.train worst
   pub worst_is : worst ≡ worst_of load.train
-  pub worst_in_range : IsInRange worst
+  pub worst_in_range : IsGroupInRange worst
   pub is_tridem : IfSome tridem (IsHeaviestTridem load.train)
   pub tridem_is : tridem ≡ heaviest_tridem_of load.train
   pub legal_is : legal ≡ is_legal load

@@ -12,16 +12,16 @@ use Rattle.clearance_rules.specs.declared.limit.Limit.{Limit}
 use Rattle.clearance_rules.specs.declared.limit.Limit.TheVariants.{Closed, Height, Width, Length, Gross, Group, Tridem, Moment, Shear}
 
 -- the name of a limit: which one it is, without its two sides
-abbrev pub name_of : Limit → LimitName
-name_of (Closed s) = name.Closed
-name_of (Height s has allowed) = name.Height
-name_of (Width s has allowed) = name.Width
-name_of (Length s has allowed) = name.Length
-name_of (Gross s has allowed) = name.Gross
-name_of (Group s i j weight limit allowance) = name.Group
-name_of (Tridem s i j weight allowed) = name.Tridem
-name_of (Moment s span has design rating) = name.Moment span
-name_of (Shear s span has design rating) = name.Shear span
+abbrev pub limit_name_of : Limit → LimitName
+limit_name_of (Closed s) = name.Closed
+limit_name_of (Height s has allowed) = name.Height
+limit_name_of (Width s has allowed) = name.Width
+limit_name_of (Length s has allowed) = name.Length
+limit_name_of (Gross s has allowed) = name.Gross
+limit_name_of (Group s i j weight limit allowance) = name.Group
+limit_name_of (Tridem s i j weight allowed) = name.Tridem
+limit_name_of (Moment s span has design rating) = name.Moment span
+limit_name_of (Shear s span has design rating) = name.Shear span
 
 -- the two limits of a span: moment, then shear
 abbrev pub limits_of_span : ℕ → List LimitName
@@ -36,7 +36,7 @@ limits_in_order roads segment =
 
 -- the limit of this name fails the load on the segment
 abbrev pub FailsBy : Roads → InForce → LoadParts → ℕ → LimitName → Type 0
-FailsBy roads state load segment named = (limit : Limit) × (name_of limit ≡ named) × FailsAt roads state load segment limit
+FailsBy roads state load segment named = (limit : Limit) × (limit_name_of limit ≡ named) × FailsAt roads state load segment limit
 
 -- no limit fails the load on the segment
 abbrev pub NoneFails : Roads → InForce → LoadParts → ℕ → Type 0
@@ -55,5 +55,5 @@ pub record FailsFirst (roads : Roads) (state : InForce) (load : LoadParts) (segm
   pub written : IsInLowestTerms limit
   pub before : List LimitName
   pub after : List LimitName
-  pub order : limits_in_order roads segment ≡ before ++ (name_of limit ∷ after)
+  pub order : limits_in_order roads segment ≡ before ++ (limit_name_of limit ∷ after)
   pub none_before : All (λ named. FailsBy roads state load segment named → ⊥) before

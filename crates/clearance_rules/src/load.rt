@@ -3,9 +3,9 @@
 ghost use Rattle.std.specs.Prelude.{◌≡◌, ◌≤◌, ◌&&◌, IfOk, IfSome, OnOk, OnErr, IsTrue, ◌↔◌, true, false};
 ghost use Rattle.axle_train.specs.Bounds.{IsTrain};
 ghost use Rattle.axle_limits.specs.Findings.{is_legal_by_weight};
-ghost use Rattle.axle_limits.specs.Worst.{IsWorst, IsInRange, worst_of};
+ghost use Rattle.axle_limits.specs.Worst.{IsWorst, IsGroupInRange, worst_of};
 ghost use Rattle.axle_limits.specs.Tridems.{IsHeaviestTridem, heaviest_tridem_of};
-ghost use Rattle.clearance_rules.specs.Loads.{is_cross_section, is_length, is_load, parts_of, is_legal, IsLegal, is_legal_size};
+ghost use Rattle.clearance_rules.specs.Loads.{is_cross_section, is_length, is_load, parts_of, is_legal, IsLegalLoad, is_legal_size};
 
 use axle_limits::{
     GROSS_LIMIT, Heaviest, LEGAL_HEIGHT, LEGAL_WIDTH, WorstGroup, heaviest_tridem, worst,
@@ -39,13 +39,13 @@ pub struct Load {
 }
 
 impl Model for Load {
-    ghost use Rattle.clearance_rules.specs.Loads.{LoadParts, IsKept, parts_of};
+    ghost use Rattle.clearance_rules.specs.Loads.{LoadParts, IsLoadKept, parts_of};
 
     ghost Value = { LoadParts };
 
     ghost view = { λ a. parts_of a.height a.width a.length a.study };
 
-    ghost invariant = { λ a. IsKept (parts_of a.height a.width a.length a.study) a.worst a.tridem a.legal };
+    ghost invariant = { λ a. IsLoadKept (parts_of a.height a.width a.length a.study) a.worst a.tridem a.legal };
 }
 
 impl Load {
@@ -124,7 +124,7 @@ impl Load {
     pub fn worst(&self) -> WorstGroup
         ensures value { result ≡ worst_of self.now.train }
         ensures meaning { IsWorst self.now.train result }
-        ensures range { IsInRange result }
+        ensures range { IsGroupInRange result }
     {
         self.worst
     }
@@ -142,7 +142,7 @@ impl Load {
     /// (23 CFR 658.17), nor the width (23 CFR 658.15), nor the height.
     pub fn legal(&self) -> bool
         ensures value { result ≡ is_legal self.now }
-        ensures meaning { IsTrue result ↔ IsLegal self.now }
+        ensures meaning { IsTrue result ↔ IsLegalLoad self.now }
     {
         self.legal
     }

@@ -2,7 +2,7 @@
 use Rattle.std.proofs.Common.{◌≡◌, ◌≤◌, ◌∷◌, ◌++◌, [], List, ℕ, suc, true, false, Option, Some, None, MatchOption, ap, sym, subst, refl, ◌∙◌, append_assoc, arith}
 use Rattle.std.proofs.lemmas.List.{append-nil}
 use Rattle.road_graph.specs.Roads.{IsRoads}
-use Rattle.snapshot_store.specs.Stores.{Stored, version_of}
+use Rattle.snapshot_store.specs.Stores.{Stored, store_version_of}
 use Rattle.trip_applications.specs.declared.application.Application.{Application}
 use Rattle.trip_applications.specs.Applications.{Sound}
 use Rattle.fleet.specs.Bases.{BaseLists}
@@ -40,14 +40,14 @@ module _ {P : Type 0} where
   base_of v w same = ap (λ (t : Who P). t.base) same
 
   -- what was found at a snapshot may be submitted
-  may_submit : (v w : Calling P) (a : Application) (d : Submission) (s : Stored) → w.who ≡ v.who → s ≡ stored_seen w → Sound v.who.base a → d.proposal.seen ≡ version_of s → IsFoundAt v.who.base s a d.proposal.what
+  may_submit : (v w : Calling P) (a : Application) (d : Submission) (s : Stored) → w.who ≡ v.who → s ≡ stored_seen w → Sound v.who.base a → d.proposal.seen ≡ store_version_of s → IsFoundAt v.who.base s a d.proposal.what
       → IsFound w.who.base (machine_seen w) a d.proposal
   may_submit v w a d s same is sound seen found = found_for w.who.base (machine_seen w) s a d.proposal is
       (subst (λ (t : Who P). Sound t.base a) (sym same) sound) seen (subst (λ (t : Who P). IsFoundAt t.base s a d.proposal.what) (sym same) found)
 
-  pub prepared : (v w : Calling P) (a : Application) (d : Submission) (s : Stored) (base : BaseLists) → base ≡ v.who.base → Sound base a → Looks v (looked.At s) w → d.application ≡ a → d.proposal.seen ≡ version_of s → IsFoundAt base s a d.proposal.what → IsPrepared v a d w
+  pub prepared : (v w : Calling P) (a : Application) (d : Submission) (s : Stored) (base : BaseLists) → base ≡ v.who.base → Sound base a → Looks v (looked.At s) w → d.application ≡ a → d.proposal.seen ≡ store_version_of s → IsFoundAt base s a d.proposal.what → IsPrepared v a d w
   prepared v w a d s base is sound looks copy seen found = record {
-    grew = subst (λ (n : ℕ). Grew v (looked_at v.who.caller n ∷ []) w) (sym seen) (grew_one v w call.Snapshot (reply.SnapshotAt (version_of s)) refl looks.0);
+    grew = subst (λ (n : ℕ). Grew v (looked_at v.who.caller n ∷ []) w) (sym seen) (grew_one v w call.Snapshot (reply.SnapshotAt (store_version_of s)) refl looks.0);
     application = copy;
     asked = subst (λ (b : Application). IsFound w.who.base (machine_seen w) b d.proposal) (sym copy)
         (may_submit v w a d s looks.0.who looks.1 (subst (λ (b : BaseLists). Sound b a) is sound) seen (subst (λ (b : BaseLists). IsFoundAt b s a d.proposal.what) is found));

@@ -1,7 +1,7 @@
 // Who finds what the applications of a caller need.
 
 ghost use Rattle.std.specs.Prelude.{◌≡◌, ◌<◌, IfOk, IfSome, None};
-ghost use Rattle.snapshot_store.specs.Stores.{version_of};
+ghost use Rattle.snapshot_store.specs.Stores.{store_version_of};
 ghost use Rattle.trip_applications.specs.Applications.{Sound};
 ghost use Rattle.trip_analysis.specs.Findings.{IsFoundAt};
 ghost use Rattle.command_calls.specs.Following.{FollowsAt};
@@ -58,7 +58,7 @@ impl<L: Ledger> Finder<L> {
         requires roads { snapshot.roads ≡ base.now.roads }
         requires sound { Sound base.now application.now }
         requires follows { IfSome self.old.follower (FollowsAt base.now snapshot) }
-        ensures seen { IfOk result (λ proposal. proposal.seen ≡ version_of snapshot) }
+        ensures seen { IfOk result (λ proposal. proposal.seen ≡ store_version_of snapshot) }
         ensures found { IfOk result (λ proposal. IsFoundAt base.now snapshot application.now proposal.what) }
         ensures follows { IfSome self.new.follower (FollowsAt base.now snapshot) }
     {

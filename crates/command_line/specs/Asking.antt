@@ -63,7 +63,7 @@ abbrev pub IsInRange : NumberOption → ℕ → Type 0
 IsInRange option number = (option.least ≤ number) × (number ≤ option.most)
 
 -- each number is in the range of its option
-pub record AreInRange (options : Options) : Type 0 where
+pub record NumbersAreInRange (options : Options) : Type 0 where
   pub seed : IsInRange seed_option options.seed
   pub size : IsInRange size_option options.size
   pub trucks : IsInRange trucks_option options.trucks

@@ -4,7 +4,7 @@ ghost use Rattle.std.specs.Prelude.{◌≡◌, ◌≢◌, IfErr, IfOk, IfSome, I
 ghost use Rattle.std.specs.String.{string_bytes};
 ghost use Rattle.clap.specs.Words.{FailsBy, fault_of, found_of, kind_of, matches_of, rows_of};
 ghost use Rattle.command_line.specs.Office.{gap_option, office, seed_option, size_option, trucks_option};
-ghost use Rattle.command_line.specs.Asking.{AreAccepted, AreInRange, HasNumberIn, HasNumbers, IsInRange, asked_in, asked_of, number_at, options_in, task_at, task_named};
+ghost use Rattle.command_line.specs.Asking.{AreAccepted, NumbersAreInRange, HasNumberIn, HasNumbers, IsInRange, asked_in, asked_of, number_at, options_in, task_at, task_named};
 ghost use Rattle.command_line.specs.declared.asked.WordsRefusal.TheVariants.{Usage};
 
 use crate::asked::{Asked, Options, Task, WordsRefusal};
@@ -21,7 +21,7 @@ use std::alloc::Global;
 #[tactic(auto, unfolding(crate::specs::Asking::asked_of, crate::specs::Asking::AreAccepted))]
 pub fn read_words(alloc: Global, words: &[String]) -> Result<Asked, WordsRefusal>
     ensures asked { IfOk result (λ asked. asked_of (map string_bytes words.now) ≡ Some asked) }
-    ensures range { IfOk result (λ asked. AreInRange asked.options) }
+    ensures range { IfOk result (λ asked. NumbersAreInRange asked.options) }
     ensures usage { IfErr result (λ r. r ≡ Usage → asked_of (map string_bytes words.now) ≡ None) }
     ensures refused { IfErr result (λ r. r ≡ Usage → AreAccepted (map string_bytes words.now) → ⊥) }
 {
@@ -57,7 +57,7 @@ fn read_matches(matches: &ArgMatches<'_>) -> Option<Asked>
     requires { HasNumbers matches.now }
     ensures value { result ≡ asked_in (rows_of (found_of matches.now)) }
     ensures none { result ≡ None → task_at (rows_of (found_of matches.now)) ≡ None }
-    ensures range { IfSome result (λ asked. AreInRange asked.options) }
+    ensures range { IfSome result (λ asked. NumbersAreInRange asked.options) }
 {
     Some(Asked {
         task: task_at(matches)?,
@@ -93,7 +93,7 @@ fn task_named(word: &str) -> Option<Task>
 fn options_at(matches: &ArgMatches<'_>) -> Option<Options>
     requires { HasNumbers matches.now }
     ensures value { result ≡ options_in (rows_of (found_of matches.now)) }
-    ensures range { IsSomeAnd result AreInRange }
+    ensures range { IsSomeAnd result NumbersAreInRange }
 {
     Some(Options {
         seed: seed_at(matches)?,

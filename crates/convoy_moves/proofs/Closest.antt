@@ -9,7 +9,7 @@ use Rattle.influence_line.specs.Placed.{moment_line, moment_sum, placed}
 use Rattle.influence_line.specs.Reactions.{reaction_line, reaction_sum}
 use Rattle.influence_line.specs.Peaks.{IsPeakMoment, IsPeakShear, IsTrainPlaced}
 use Rattle.influence_line.proofs.Totals.{total, total_is}
-use Rattle.convoy_moves.specs.Convoys.{EqualTrucks, AreBehind, AreApart, IsConvoyPlaced, IsKept, StandsAsConvoy, closest_axles, convoy_loads, moved_back, truck_spacing}
+use Rattle.convoy_moves.specs.Convoys.{EqualTrucks, AreBehind, AreApart, IsConvoyPlaced, IsConvoyKept, StandsAsConvoy, closest_axles, convoy_loads, moved_back, truck_spacing}
 use Rattle.convoy_moves.proofs.Unimodal.{IsUnimodal, moment_unimodal, reaction_unimodal, support_at}
 use Rattle.convoy_moves.proofs.Closing.{by_line, of_trucks, of_trucks_is, even_leads, closes_up}
 use Rattle.convoy_moves.proofs.Together.{within_spacing}
@@ -121,15 +121,15 @@ shear_of_all c span num den short h =
     }
 
 -- the peaks of the train that a convoy keeps are those of the convoy
-pub kept_stands : (c : EqualTrucks) (closest : List Axle) → IsKept c closest → StandsAsConvoy c closest
+pub kept_stands : (c : EqualTrucks) (closest : List Axle) → IsConvoyKept c closest → StandsAsConvoy c closest
 kept_stands c closest kept = rw kept.together (stands_as_convoy c)
 
-pub kept_moment : (c : EqualTrucks) (closest : List Axle) (span num den : ℕ) → IsKept c closest
+pub kept_moment : (c : EqualTrucks) (closest : List Axle) (span num den : ℕ) → IsConvoyKept c closest
     → IsPeakMoment (IsTrainPlaced closest) span num den → IsPeakMoment (IsConvoyPlaced c) span num den
 kept_moment c closest span num den kept peak =
     moment_of_all c span num den (within_spacing c kept.truck) (rw kept.together at peak)
 
-pub kept_shear : (c : EqualTrucks) (closest : List Axle) (span num den : ℕ) → IsKept c closest
+pub kept_shear : (c : EqualTrucks) (closest : List Axle) (span num den : ℕ) → IsConvoyKept c closest
     → IsPeakShear (IsTrainPlaced closest) span num den → IsPeakShear (IsConvoyPlaced c) span num den
 kept_shear c closest span num den kept peak =
     shear_of_all c span num den (within_spacing c kept.truck) (rw kept.together at peak)

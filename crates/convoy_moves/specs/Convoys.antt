@@ -59,6 +59,6 @@ abbrev pub StandsAsConvoy : EqualTrucks → List Axle → Type 0
 StandsAsConvoy c train = (q : ℕ) (lead : ℤ) → IsConvoyPlaced c q (placed q lead train)
 
 -- what a convoy keeps: one of its trucks is a train, and beside it stands the closest convoy
-pub record IsKept (c : EqualTrucks) (closest : List Axle) : Type 0 where
+pub record IsConvoyKept (c : EqualTrucks) (closest : List Axle) : Type 0 where
   pub truck : IsTrain c.axles
   pub together : closest ≡ closest_axles c

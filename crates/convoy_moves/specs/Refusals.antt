@@ -28,8 +28,8 @@ abbrev pub HasTooManyAxles : EqualTrucks → Type 0
 HasTooManyAxles c = 32 < axles_together c.axles c.trucks
 
 -- the first limit that is passed is that of the length
-abbrev pub IsTooLong : EqualTrucks → Type 0
-IsTooLong c = (axles_together c.axles c.trucks ≤ 32) × (3000 < closest_length c.axles c.trucks c.gap)
+abbrev pub IsConvoyTooLong : EqualTrucks → Type 0
+IsConvoyTooLong c = (axles_together c.axles c.trucks ≤ 32) × (3000 < closest_length c.axles c.trucks c.gap)
 
 -- the first limit that is passed is that of the weight
 abbrev pub IsTooHeavy : EqualTrucks → Type 0

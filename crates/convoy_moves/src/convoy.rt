@@ -6,7 +6,7 @@ ghost use Rattle.influence_line.specs.Peaks.{IsPeakMoment, IsPeakShear};
 ghost use Rattle.moment_peak.specs.PeakMoment.{peak_moment_of};
 ghost use Rattle.shear_peak.specs.PeakShear.{peak_shear_of};
 ghost use Rattle.convoy_moves.specs.Convoys.{IsConvoyPlaced, StandsAsConvoy, closest_axles, convoy_of};
-ghost use Rattle.convoy_moves.specs.Refusals.{FitsTogether, HasTooManyAxles, IsTooHeavy, IsTooLong, axles_together, first_refusal, gross_together};
+ghost use Rattle.convoy_moves.specs.Refusals.{FitsTogether, HasTooManyAxles, IsTooHeavy, IsConvoyTooLong, axles_together, first_refusal, gross_together};
 
 use crate::closed_up::closed_up;
 use crate::refusal::{ConvoyRefusal, are_too_heavy, are_too_long, have_too_many_axles};
@@ -27,13 +27,13 @@ pub struct Convoy {
 }
 
 impl Model for Convoy {
-    ghost use Rattle.convoy_moves.specs.Convoys.{EqualTrucks, IsKept, convoy_of};
+    ghost use Rattle.convoy_moves.specs.Convoys.{EqualTrucks, IsConvoyKept, convoy_of};
 
     ghost Value = { EqualTrucks };
 
     ghost view = { λ c. convoy_of c.truck c.trucks c.gap };
 
-    ghost invariant = { λ c. IsKept (convoy_of c.truck c.trucks c.gap) c.closest };
+    ghost invariant = { λ c. IsConvoyKept (convoy_of c.truck c.trucks c.gap) c.closest };
 }
 
 impl Convoy {
@@ -51,7 +51,7 @@ impl Convoy {
         ensures ok { IfOk result (λ convoy. convoy ≡ convoy_of train.now trucks gap) }
         ensures accepted { IsOk result ↔ FitsTogether (convoy_of train.now trucks gap) }
         ensures too_many_axles { IsErrOf result ConvoyRefusal.TooManyAxles ↔ HasTooManyAxles (convoy_of train.now trucks gap) }
-        ensures too_long { IsErrOf result ConvoyRefusal.TooLong ↔ IsTooLong (convoy_of train.now trucks gap) }
+        ensures too_long { IsErrOf result ConvoyRefusal.TooLong ↔ IsConvoyTooLong (convoy_of train.now trucks gap) }
         ensures gross { IsErrOf result ConvoyRefusal.Gross ↔ IsTooHeavy (convoy_of train.now trucks gap) }
         ensures unrefused { IfOk result (λ convoy. first_refusal (convoy_of train.now trucks gap) ≡ None) }
         ensures first { IfErr result (λ refusal. first_refusal (convoy_of train.now trucks gap) ≡ Some refusal) }

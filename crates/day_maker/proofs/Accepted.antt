@@ -8,7 +8,7 @@ use Rattle.record_text.specs.Records.{Row, rows_of}
 use Rattle.day_text.specs.Days.{DayParts, day_of, finished_day, judge_day, fresh_day, opening_of, file_parts_of}
 use Rattle.record_text.specs.Records.{judged}
 use Rattle.day_maker.specs.Making.{Maker, ◌>>◌}
-use Rattle.day_maker.specs.Made.{actors, commands, ending, made_day, made_rows, nodes, segments, spans, trucks}
+use Rattle.day_maker.specs.Made.{actors, commands, last_record, made_day, made_rows, nodes, segments, spans, trucks}
 use Rattle.day_maker.specs.Texts.{line, row}
 use Rattle.day_maker.proofs.Fleets.{InTraffic, actors_lead, four_actors, four_trucks, traffic_begins, trucks_lead}
 use Rattle.day_maker.proofs.Grids.{grid_none}
@@ -22,23 +22,23 @@ use Rattle.day_maker.proofs.Texts.{IsPlainRow, rows_read}
 
 -- the records behind the opening day
 abbrev later : ℕ → Maker
-later z = nodes z >> (segments z >> (spans z >> (trucks >> (actors >> (commands z >> ending)))))
+later z = nodes z >> (segments z >> (spans z >> (trucks >> (actors >> (commands z >> last_record)))))
 
-ending_ends : (z : ℕ) → Ends (InTraffic z four_trucks four_actors (20 * z)) ending
+ending_ends : (z : ℕ) → Ends (InTraffic z four_trucks four_actors (20 * z)) last_record
 unfolding field_at
 ending_ends z = ends_put (InTraffic z four_trucks four_actors (20 * z)) (row (codes "end" ∷ [])) (refl, (refl, (refl, (refl, (refl, (refl, (refl, (refl, (refl, tt))))))))) (λ d. (_, refl, record { file = file_parts_of d; told = λ j. refl }))
 
 later_ends : (z : ℕ) → 1 ≤ z → z ≤ 40 → Ends (InNodes z 0 0) (later z)
 later_ends z some small =
-    ends_then (InNodes z 0 0) (InSegments z 0 0 []) (nodes z) (segments z >> (spans z >> (trucks >> (actors >> (commands z >> ending)))))
+    ends_then (InNodes z 0 0) (InSegments z 0 0 []) (nodes z) (segments z >> (spans z >> (trucks >> (actors >> (commands z >> last_record)))))
     (leads_weaker (InNodes z 0 0) (InNodes z 0 0) (InNodes z (z + 1) 0) (InSegments z 0 0 []) (nodes z) (λ d at. at) (nodes_lead z small) (λ d at. segments_begin z d at))
-    (ends_then (InSegments z 0 0 []) (InSpans z 0 0) (segments z) (spans z >> (trucks >> (actors >> (commands z >> ending))))
+    (ends_then (InSegments z 0 0 []) (InSpans z 0 0) (segments z) (spans z >> (trucks >> (actors >> (commands z >> last_record))))
     (leads_weaker (InSegments z 0 0 []) (InSegments z 0 0 []) (InSegments z (z + 1) 0 []) (InSpans z 0 0) (segments z) (λ d at. at) (segments_lead z small) (λ d at. spans_begin z d at))
-    (ends_then (InSpans z 0 0) (InTraffic z [] [] 0) (spans z) (trucks >> (actors >> (commands z >> ending)))
+    (ends_then (InSpans z 0 0) (InTraffic z [] [] 0) (spans z) (trucks >> (actors >> (commands z >> last_record)))
     (leads_weaker (InSpans z 0 0) (InSpans z 0 0) (InSpans z (z + 1) 0) (InTraffic z [] [] 0) (spans z) (λ d at. at) (spans_lead z small) (λ d at. traffic_begins z d at))
-    (ends_then (InTraffic z [] [] 0) (InTraffic z four_trucks [] 0) trucks (actors >> (commands z >> ending)) (trucks_lead z)
-    (ends_then (InTraffic z four_trucks [] 0) (InTraffic z four_trucks four_actors 0) actors (commands z >> ending) (actors_lead z four_trucks)
-    (ends_then (InTraffic z four_trucks four_actors 0) (InTraffic z four_trucks four_actors (20 * z)) (commands z) ending (commands_lead z some small)
+    (ends_then (InTraffic z [] [] 0) (InTraffic z four_trucks [] 0) trucks (actors >> (commands z >> last_record)) (trucks_lead z)
+    (ends_then (InTraffic z four_trucks [] 0) (InTraffic z four_trucks four_actors 0) actors (commands z >> last_record) (actors_lead z four_trucks)
+    (ends_then (InTraffic z four_trucks four_actors 0) (InTraffic z four_trucks four_actors (20 * z)) (commands z) last_record (commands_lead z some small)
     (ending_ends z))))))
 
 -- the opening day

@@ -10,7 +10,7 @@ use Rattle.axle_train.specs.declared.axle.Axle.{Axle}
 use Rattle.axle_train.specs.Refusals.{refusal_of}
 use Rattle.road_graph.specs.Roads.{has_name, segment_names}
 use Rattle.fleet.specs.declared.base.Truck.{Truck}
-use Rattle.record_text.specs.Fields.{name_of}
+use Rattle.record_text.specs.Fields.{name_field}
 use Rattle.day_text.specs.Days.{judge_day}
 use Rattle.day_text.specs.Fleets.{actors_of, fleet_of, truck_names}
 use Rattle.day_text.specs.Trucks.{load_of, truck_fields_of}
@@ -111,7 +111,7 @@ trucks_lead z =
     (leads_nothing (InTraffic z four_trucks [] 0) (InTraffic z four_trucks [] 0) (λ d at. at)))))
 
 -- one actor
-actor_leads : (z : ℕ) (ts : List (List ℕ)) (name : List ℕ) (before : List (List ℕ)) → IsPlain name → name_of name ≡ Some name → has_name name before ≡ false → length before < 16
+actor_leads : (z : ℕ) (ts : List (List ℕ)) (name : List ℕ) (before : List (List ℕ)) → IsPlain name → name_field name ≡ Some name → has_name name before ≡ false → length before < 16
     → Leads (InTraffic z ts before 0) (actor name) (InTraffic z ts (before ++ name ∷ []) 0)
 unfolding actors_of field_at
 actor_leads z ts name before plain good fresh few =

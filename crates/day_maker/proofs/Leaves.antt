@@ -11,9 +11,9 @@ use Rattle.std.proofs.lemmas.List.Elements.{All-from_get_or}
 use Rattle.std.proofs.lemmas.List.Splits.{slice_split_at, slice_split_none}
 use Rattle.std.proofs.lemmas.Str.Parse.{digit_at, digit_from_value}
 use Rattle.names.specs.Names.{is_name_byte}
-use Rattle.record_text.specs.Fields.{name_of, number_of}
+use Rattle.record_text.specs.Fields.{name_field, number_field}
 use Rattle.record_text.proofs.Numbers.{number_read}
-use Rattle.day_maker.specs.Made.{cell, numbered}
+use Rattle.day_maker.specs.Made.{cell, numbered_name}
 
 pub lt_true : (a b : ℕ) → a < b → ltb a b ≡ true
 lt_true a b h = grind (arith, nat_tests)
@@ -53,7 +53,7 @@ digit_is_digit : (b : ℕ) → 48 ≤ b → b ≤ 57 → is_ascii_digit b ≡ tr
 digit_is_digit b h k = grind (arith, nat_tests)
 
 -- the name of a place of the grid
-pub cell_ok : (letter r c : ℕ) → is_name_byte letter ≡ true → r < 100 → c < 100 → name_of (cell letter r c) ≡ Some (cell letter r c)
+pub cell_ok : (letter r c : ℕ) → is_name_byte letter ≡ true → r < 100 → c < 100 → name_field (cell letter r c) ≡ Some (cell letter r c)
 unfolding cell
 cell_ok letter r c l hr hc =
     let a : length (decimal r) ≤ 2 = length-decimal-le 2 r (lit< tt) hr (omega arith) in
@@ -63,7 +63,7 @@ cell_ok letter r c l hr hc =
     rw (le_true 1 (length (letter ∷ (decimal r ++ (45 ∷ decimal c)))) (omega arith), le_true (length (letter ∷ (decimal r ++ (45 ∷ decimal c)))) 16 n, l, all) refl
 
 -- a letter and a number
-pub numbered_ok : (letter n : ℕ) → is_name_byte letter ≡ true → n < 100 → name_of (numbered letter n) ≡ Some (numbered letter n)
+pub numbered_ok : (letter n : ℕ) → is_name_byte letter ≡ true → n < 100 → name_field (numbered_name letter n) ≡ Some (numbered_name letter n)
 numbered_ok letter n l h =
     let a : length (decimal n) ≤ 2 = length-decimal-le 2 n (lit< tt) h (omega arith) in
     let all : list_all is_name_byte (decimal n) ≡ true = decimal_all is_name_byte digit_is_name_byte n (omega arith) in
@@ -88,7 +88,7 @@ cell_injective l r c l' r' c' h k h' k' e =
     (head, decimal_injective r r' (omega arith) (omega arith) one, decimal_injective c c' (omega arith) (omega arith) two)
 
 -- a number below a billion
-pub number_ok : (n : ℕ) → n < 1000000000 → number_of (decimal n) ≡ Some n
+pub number_ok : (n : ℕ) → n < 1000000000 → number_field (decimal n) ≡ Some n
 number_ok n h =
     let d = decimal_is_IsNumeral n (omega arith) in
     number_read (decimal n) d.0.0 (length-decimal-le 9 n (lit< tt) h (omega arith)) (decimal_all is_ascii_digit digit_is_digit n (omega arith)) ∙ ap Some d.1

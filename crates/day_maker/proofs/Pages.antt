@@ -5,31 +5,31 @@ use Rattle.std.proofs.lemmas.List.{append-nil}
 use Rattle.axle_train.specs.declared.axle.Axle.{Axle}
 use Rattle.day_maker.specs.Making.{Maker, ◌>>◌, ◌>>=◌, draw, drawn, each, nothing}
 use Rattle.day_maker.specs.Made.{more_axles}
-use Rattle.day_maker.specs.Texts.{PageParts, after, line}
+use Rattle.day_maker.specs.Texts.{PageParts, page_after, line}
 
 -- nothing more
-pub after_nothing : (p : PageParts) → after nothing p ≡ p
+pub after_nothing : (p : PageParts) → page_after nothing p ≡ p
 after_nothing p = let with_text : List ℕ → PageParts = λ t. record { text = t; number = p.number } in ap with_text (append-nil p.text)
 
 -- one thing and then another
-pub after_then : (m k : Maker) (p q r : PageParts) → q ≡ after m p → r ≡ after k q → r ≡ after (m >> k) p
+pub after_then : (m k : Maker) (p q r : PageParts) → q ≡ page_after m p → r ≡ page_after k q → r ≡ page_after (m >> k) p
 after_then m k p q r h i =
     let with_text : List ℕ → PageParts = λ t. record { text = t; number = (k (m p.number).next).next } in
     rw (i, h) (ap with_text (append_assoc p.text _ _ ∙ ap (λ (t : List ℕ). p.text ++ t) (sym (flat_map-append line (m p.number).rows (k (m p.number).next).rows))))
 
 -- a draw, and what is made with the number
-pub draw_then : (m : ℕ) (f : ℕ → Maker) (n : ℕ) (old next new : PageParts) → n ≡ drawn old.number % m → next ≡ record old { number = drawn old.number } → new ≡ after (f n) next → new ≡ after (draw m >>= f) old
+pub draw_then : (m : ℕ) (f : ℕ → Maker) (n : ℕ) (old next new : PageParts) → n ≡ drawn old.number % m → next ≡ record old { number = drawn old.number } → new ≡ page_after (f n) next → new ≡ page_after (draw m >>= f) old
 draw_then m f n old next new h i j = j ∙ rw (i, h) refl
 
 -- one thing more of those that are numbered up to an end
-pub each_more : (f : ℕ → Maker) (page next all : PageParts) (i end : ℕ) → i < end → after (each i (end - i) f) page ≡ all → next ≡ after (f i) page → after (each (i + 1) (end - (i + 1)) f) next ≡ all
+pub each_more : (f : ℕ → Maker) (page next all : PageParts) (i end : ℕ) → i < end → page_after (each i (end - i) f) page ≡ all → next ≡ page_after (f i) page → page_after (each (i + 1) (end - (i + 1)) f) next ≡ all
 unfolding each
 each_more f page next all i end h same is =
     let e : end - i ≡ suc (end - (i + 1)) = omega arith in
-    after_then (f i) (each (i + 1) (end - (i + 1)) f) page next (after (each (i + 1) (end - (i + 1)) f) next) is refl ∙ (rw e at same)
+    after_then (f i) (each (i + 1) (end - (i + 1)) f) page next (page_after (each (i + 1) (end - (i + 1)) f) next) is refl ∙ (rw e at same)
 
 -- and none is left
-pub each_end : (f : ℕ → Maker) (page all : PageParts) (i end : ℕ) → end ≤ i → after (each i (end - i) f) page ≡ all → page ≡ all
+pub each_end : (f : ℕ → Maker) (page all : PageParts) (i end : ℕ) → end ≤ i → page_after (each i (end - i) f) page ≡ all → page ≡ all
 unfolding each
 each_end f page all i end h same = let e : end - i ≡ 0 = omega arith in sym (after_nothing page) ∙ (rw e at same)
 

@@ -4,7 +4,7 @@ use Rattle.std.specs.Prelude.{flat_map}
 use Rattle.std.specs.Fmt.{decimal}
 use Rattle.std.specs.List.{AllByRecursion}
 use Rattle.axle_train.specs.declared.axle.Axle.{Axle}
-use Rattle.day_maker.specs.Made.{axle_text, axles_text, cell, numbered}
+use Rattle.day_maker.specs.Made.{axle_text, axles_text, cell, numbered_name}
 use Rattle.day_maker.proofs.Leaves.{all_append, decimal_all, lt_true}
 use Rattle.day_maker.proofs.Texts.{IsPlain, is_plain}
 
@@ -18,7 +18,7 @@ pub cell_plain : (l r c : ℕ) → is_plain l ≡ true → r < 100 → c < 100 �
 unfolding cell
 cell_plain l r c h hr hc = rw h (all_append is_plain (decimal r) (45 ∷ decimal c) (number_plain r (omega arith)) (number_plain c (omega arith)))
 
-pub numbered_plain : (l n : ℕ) → is_plain l ≡ true → n < 100 → IsPlain (numbered l n)
+pub numbered_plain : (l n : ℕ) → is_plain l ≡ true → n < 100 → IsPlain (numbered_name l n)
 numbered_plain l n h k = rw h (number_plain n (omega arith))
 
 -- numbers of an axle that are below a billion

@@ -11,7 +11,7 @@ use Rattle.road_graph.specs.declared.segment.Segment.{Segment}
 use Rattle.day_text.specs.Days.{judge_day}
 use Rattle.day_text.specs.Roads.{with_segment_of}
 use Rattle.day_maker.specs.Making.{◌>>◌, each, when}
-use Rattle.day_maker.specs.Made.{cell, east_name, eastward, joined, node_name, north_name, segment, segments, south_name, southward, west_name}
+use Rattle.day_maker.specs.Made.{cell, east_name, eastward, joining_segments, node_name, north_name, segment, segments, south_name, southward, west_name}
 use Rattle.day_maker.specs.Texts.{row}
 use Rattle.day_maker.proofs.Grids.{Grid, IsIn, grid_column, grid_fresh, grid_more, grid_none, grid_row, grid_wider}
 use Rattle.day_maker.proofs.Judge.{DaySoFar, open_day}
@@ -132,9 +132,9 @@ southward_leads z r c small hr hc =
     free' (inr (inr (inr k))) = k
 
 -- the segments of a place
-joined_leads : (z r c : ℕ) → z ≤ 40 → r ≤ z → c ≤ z → Leads (InSegments z r c []) (joined z r c) (InSegments z r (c + 1) [])
+joined_leads : (z r c : ℕ) → z ≤ 40 → r ≤ z → c ≤ z → Leads (InSegments z r c []) (joining_segments z r c) (InSegments z r (c + 1) [])
 joined_leads z r c small hr hc =
-    leads_weaker (InSegments z r c []) (InSegments z r c []) (InSegments z r c (117 ∷ 115 ∷ 119 ∷ 101 ∷ [])) (InSegments z r (c + 1) []) (joined z r c) (λ d at. at)
+    leads_weaker (InSegments z r c []) (InSegments z r c []) (InSegments z r c (117 ∷ 115 ∷ 119 ∷ 101 ∷ [])) (InSegments z r (c + 1) []) (joining_segments z r c) (λ d at. at)
     (leads_then (InSegments z r c []) (InSegments z r c (119 ∷ 101 ∷ [])) (InSegments z r c (117 ∷ 115 ∷ 119 ∷ 101 ∷ [])) (when (nat_lt c z) (eastward r c)) (when (nat_lt r z) (southward r c)) (eastward_leads z r c small hr hc) (southward_leads z r c small hr hc))
     (λ d at. next d at)
   where
@@ -162,7 +162,7 @@ next_row z r d at = record {
 
 pub segments_lead : (z : ℕ) → z ≤ 40 → Leads (InSegments z 0 0 []) (segments z) (InSegments z (z + 1) 0 [])
 segments_lead z small =
-    leads_each (λ r. InSegments z r 0 []) (λ r. each 0 (z + 1) (λ c. joined z r c)) (z + 1) 0 (z + 1) (omega arith)
-    (λ r low high. leads_weaker (InSegments z r 0 []) (InSegments z r 0 []) (InSegments z r (z + 1) []) (InSegments z (r + 1) 0 []) (each 0 (z + 1) (λ c. joined z r c)) (λ d at. at)
-    (leads_each (λ c. InSegments z r c []) (λ c. joined z r c) (z + 1) 0 (z + 1) (omega arith) (λ c least most. joined_leads z r c small (omega arith) (omega arith)))
+    leads_each (λ r. InSegments z r 0 []) (λ r. each 0 (z + 1) (λ c. joining_segments z r c)) (z + 1) 0 (z + 1) (omega arith)
+    (λ r low high. leads_weaker (InSegments z r 0 []) (InSegments z r 0 []) (InSegments z r (z + 1) []) (InSegments z (r + 1) 0 []) (each 0 (z + 1) (λ c. joining_segments z r c)) (λ d at. at)
+    (leads_each (λ c. InSegments z r c []) (λ c. joining_segments z r c) (z + 1) 0 (z + 1) (omega arith) (λ c least most. joined_leads z r c small (omega arith) (omega arith)))
     (λ d at. next_row z r d at))

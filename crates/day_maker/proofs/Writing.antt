@@ -12,7 +12,7 @@ use Rattle.axle_train.specs.declared.axle.Axle.{Axle}
 use Rattle.record_text.specs.Records.{Row}
 use Rattle.day_maker.specs.Made.{axle_text, axles_text}
 use Rattle.day_maker.specs.Making.{put}
-use Rattle.day_maker.specs.Texts.{PageParts, after, line, row}
+use Rattle.day_maker.specs.Texts.{PageParts, page_after, line, row}
 use Rattle.day_maker.specs.Writers.{IsBetweenRecords, given_text}
 
 text_grows : (o : Option (Writer (Vec ℕ Global))) (old new : Writer (Vec ℕ Global)) (made fields : Row) → o ≡ Some old → IsBetweenRecords old → made ≡ fields
@@ -40,9 +40,9 @@ blanks_begin kind fields new n same is =
 -- the page after a record was written
 pub page_grows : (page : PageParts) (o : Option (Writer (Vec ℕ Global))) (old new : Writer (Vec ℕ Global)) (number : ℕ) (made fields : Row) → record { text = given_text o; number = number } ≡ page → o ≡ Some old → IsBetweenRecords old → made ≡ fields
     → (fields_written old ≡ 0 → has_written old ≡ false → ((writer_setup old).style ≢ style.NonNumeric) → Appends (text_written (λ v. Some v.items) old) (text_written (λ v. Some v.items) new) (row_text (writer_setup old) made))
-    → record { text = given_text (Some new); number = number } ≡ after (put fields) page
+    → record { text = given_text (Some new); number = number } ≡ page_after (put fields) page
 page_grows page o old new number made fields is there ready same wrote =
-    let P : PageParts → Type 0 = λ p. record { text = given_text (Some new); number = number } ≡ after (put fields) p in
+    let P : PageParts → Type 0 = λ p. record { text = given_text (Some new); number = number } ≡ page_after (put fields) p in
     let with_text : List ℕ → PageParts = λ t. record { text = t; number = number } in
     subst P is (ap with_text (text_grows o old new made fields there ready same (wrote ready.fields ready.blank (λ e. absurd (cc (ap (λ (s : WriterBuilder). s.style) ready.setup))))))
 

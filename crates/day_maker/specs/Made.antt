@@ -11,8 +11,8 @@ unfoldable pub cell : ℕ → ℕ → ℕ → List ℕ
 cell letter r c = letter ∷ (decimal r ++ (45 ∷ decimal c))
 
 -- a letter and a number
-abbrev pub numbered : ℕ → ℕ → List ℕ
-numbered letter n = letter ∷ decimal n
+abbrev pub numbered_name : ℕ → ℕ → List ℕ
+numbered_name letter n = letter ∷ decimal n
 
 -- `n0-0`: the node of a row and a column
 abbrev pub node_name : ℕ → ℕ → List ℕ
@@ -40,15 +40,15 @@ span_name r c = cell 98 r c
 
 -- `t1`: a truck
 abbrev pub truck_name : ℕ → List ℕ
-truck_name t = numbered 116 t
+truck_name t = numbered_name 116 t
 
 -- `c1`: a carrier
 abbrev pub carrier_name : ℕ → List ℕ
-carrier_name k = numbered 99 k
+carrier_name k = numbered_name 99 k
 
 -- `a1`: an actor who applies
 abbrev pub actor_name : ℕ → List ℕ
-actor_name a = numbered 97 a
+actor_name a = numbered_name 97 a
 
 -- the first record: the day is 2026-01-01
 abbrev pub opening : Maker
@@ -81,12 +81,12 @@ southward r c = do
   segment (north_name r c) (node_name (r + 1) c) (node_name r c) (1000 + feet)
 
 -- the segments that join a node to its neighbours in the next column and in the next row, where there are such
-abbrev pub joined : ℕ → ℕ → ℕ → Maker
-joined z r c = when (nat_lt c z) (eastward r c) >> when (nat_lt r z) (southward r c)
+abbrev pub joining_segments : ℕ → ℕ → ℕ → Maker
+joining_segments z r c = when (nat_lt c z) (eastward r c) >> when (nat_lt r z) (southward r c)
 
 -- the segments: of each node the two that join it to its neighbour in the next column, and then those to the next row
 abbrev pub segments : ℕ → Maker
-segments z = each 0 (z + 1) (λ r. each 0 (z + 1) (λ c. joined z r c))
+segments z = each 0 (z + 1) (λ r. each 0 (z + 1) (λ c. joining_segments z r c))
 
 -- a span on the segment to the east, of a drawn length and a drawn rating
 unfoldable pub span : ℕ → ℕ → Maker
@@ -170,8 +170,8 @@ abbrev pub commands : ℕ → Maker
 commands z = each 0 (20 * z) (λ i. command z)
 
 -- the last record, with which the file ends
-abbrev pub ending : Maker
-ending = put (row (codes "end" ∷ []))
+abbrev pub last_record : Maker
+last_record = put (row (codes "end" ∷ []))
 
 -- the whole file
 abbrev pub day_maker : ℕ → Maker
@@ -183,7 +183,7 @@ day_maker z = do
   trucks
   actors
   commands z
-  ending
+  last_record
 
 -- the records of the day file that is made of a seed and a size
 abbrev pub made_rows : ℕ → ℕ → List Row

@@ -19,5 +19,5 @@ pub record PageParts : Type 0 where
   pub number : ℕ
 
 -- a page with what is made on it
-abbrev pub after : Maker → PageParts → PageParts
-after make page = record { text = page.text ++ flat_map line (make page.number).rows; number = (make page.number).next }
+abbrev pub page_after : Maker → PageParts → PageParts
+page_after make page = record { text = page.text ++ flat_map line (make page.number).rows; number = (make page.number).next }

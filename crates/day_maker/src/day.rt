@@ -2,7 +2,7 @@
 
 ghost use Rattle.std.specs.Prelude.{◌≡◌, ◌≤◌, IfOk, OnOk};
 ghost use Rattle.day_maker.specs.Made.{day_maker, made_day};
-ghost use Rattle.day_maker.specs.Texts.{after};
+ghost use Rattle.day_maker.specs.Texts.{page_after};
 
 use crate::field::Field;
 use crate::page::Page;
@@ -33,7 +33,7 @@ pub fn make_day(alloc: Global, seed: u32, size: u32) -> Result<Vec<u8>, NoMemory
 fn put_day(page: &mut Page, size: u32) -> Result<(), AllocError>
     requires some { 1 ≤ size }
     requires small { size ≤ 40 }
-    ensures { OnOk result (page.new ≡ after (day_maker size) page.old) }
+    ensures { OnOk result (page.new ≡ page_after (day_maker size) page.old) }
 {
     page.put("day", &[Field::Word("2026-01-01")])?;
     put_nodes(page, size)?;

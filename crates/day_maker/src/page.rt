@@ -4,7 +4,7 @@ ghost use Rattle.std.specs.Prelude.{◌≡◌, ◌<◌, ◌≤◌, ◌%◌, ◌�
 ghost use Rattle.csv.specs.Records.{fields_of};
 ghost use Rattle.day_maker.specs.Fields.{field_text};
 ghost use Rattle.day_maker.specs.Making.{drawn, put};
-ghost use Rattle.day_maker.specs.Texts.{after, row};
+ghost use Rattle.day_maker.specs.Texts.{page_after, row};
 
 use crate::field::{Field, write_field};
 use csv::{ByteRecord, Writer};
@@ -65,7 +65,7 @@ impl Page {
     /// One record of these fields, with empty ones behind them to make eight.
     pub(crate) fn put(&mut self, kind: &str, fields: &[Field]) -> Result<(), AllocError>
         requires { length fields.now ≤ 7 }
-        ensures { OnOk result (self.new ≡ after (put (row (kind.now ∷ map field_text fields.now))) self.old) }
+        ensures { OnOk result (self.new ≡ page_after (put (row (kind.now ∷ map field_text fields.now))) self.old) }
     {
         let record = record_of(self.alloc, kind, fields)?;
         let Some(writer) = &mut self.writer else {

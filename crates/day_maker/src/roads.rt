@@ -2,8 +2,8 @@
 
 ghost use Rattle.std.specs.Prelude.{◌≡◌, ◌<◌, ◌≤◌, ◌+◌, OnOk, nat_lt};
 ghost use Rattle.day_maker.specs.Making.{each, when};
-ghost use Rattle.day_maker.specs.Made.{cell, eastward, joined, node, nodes, segment, segments, southward, span, spans};
-ghost use Rattle.day_maker.specs.Texts.{after};
+ghost use Rattle.day_maker.specs.Made.{cell, eastward, joining_segments, node, nodes, segment, segments, southward, span, spans};
+ghost use Rattle.day_maker.specs.Texts.{page_after};
 
 use crate::field::Field;
 use crate::page::Page;
@@ -12,7 +12,7 @@ use std::alloc::AllocError;
 /// All nodes.
 pub(crate) fn put_nodes(page: &mut Page, size: u32) -> Result<(), AllocError>
     requires { size ≤ 40 }
-    ensures { OnOk result (page.new ≡ after (nodes size) page.old) }
+    ensures { OnOk result (page.new ≡ page_after (nodes size) page.old) }
 {
     'rows: for r in 0..size + 1 {
         'columns: for c in 0..size + 1 {
@@ -25,7 +25,7 @@ pub(crate) fn put_nodes(page: &mut Page, size: u32) -> Result<(), AllocError>
 /// All segments.
 pub(crate) fn put_segments(page: &mut Page, size: u32) -> Result<(), AllocError>
     requires { size ≤ 40 }
-    ensures { OnOk result (page.new ≡ after (segments size) page.old) }
+    ensures { OnOk result (page.new ≡ page_after (segments size) page.old) }
 {
     'rows: for r in 0..size + 1 {
         'columns: for c in 0..size + 1 {
@@ -38,7 +38,7 @@ pub(crate) fn put_segments(page: &mut Page, size: u32) -> Result<(), AllocError>
 /// All spans.
 pub(crate) fn put_spans(page: &mut Page, size: u32) -> Result<(), AllocError>
     requires { size ≤ 40 }
-    ensures { OnOk result (page.new ≡ after (spans size) page.old) }
+    ensures { OnOk result (page.new ≡ page_after (spans size) page.old) }
 {
     'rows: for r in 0..size + 1 {
         'columns: for c in 0..size {
@@ -51,7 +51,7 @@ pub(crate) fn put_spans(page: &mut Page, size: u32) -> Result<(), AllocError>
 // A node.
 #[tactic(auto, unfolding(crate::specs::Made::node))]
 fn put_node(page: &mut Page, r: u32, c: u32) -> Result<(), AllocError>
-    ensures { OnOk result (page.new ≡ after (node r c) page.old) }
+    ensures { OnOk result (page.new ≡ page_after (node r c) page.old) }
 {
     page.put("node", &[Field::Cell(b'n', r, c)])
 }
@@ -61,7 +61,7 @@ fn put_joined(page: &mut Page, r: u32, c: u32, size: u32) -> Result<(), AllocErr
     requires size { size ≤ 40 }
     requires row { r ≤ size }
     requires column { c ≤ size }
-    ensures { OnOk result (page.new ≡ after (joined size r c) page.old) }
+    ensures { OnOk result (page.new ≡ page_after (joining_segments size r c) page.old) }
 {
     put_eastward(page, r, c, size)?;
     put_southward(page, r, c, size)?;
@@ -73,7 +73,7 @@ fn put_joined(page: &mut Page, r: u32, c: u32, size: u32) -> Result<(), AllocErr
 fn put_eastward(page: &mut Page, r: u32, c: u32, size: u32) -> Result<(), AllocError>
     requires size { size ≤ 40 }
     requires row { r ≤ size }
-    ensures { OnOk result (page.new ≡ after (when (nat_lt c size) (eastward r c)) page.old) }
+    ensures { OnOk result (page.new ≡ page_after (when (nat_lt c size) (eastward r c)) page.old) }
 {
     if c >= size {
         return Ok(());
@@ -97,7 +97,7 @@ fn put_eastward(page: &mut Page, r: u32, c: u32, size: u32) -> Result<(), AllocE
 fn put_southward(page: &mut Page, r: u32, c: u32, size: u32) -> Result<(), AllocError>
     requires size { size ≤ 40 }
     requires column { c ≤ size }
-    ensures { OnOk result (page.new ≡ after (when (nat_lt r size) (southward r c)) page.old) }
+    ensures { OnOk result (page.new ≡ page_after (when (nat_lt r size) (southward r c)) page.old) }
 {
     if r >= size {
         return Ok(());
@@ -119,7 +119,7 @@ fn put_southward(page: &mut Page, r: u32, c: u32, size: u32) -> Result<(), Alloc
 // The span on the segment from a node to the east.
 #[tactic(auto, unfolding(crate::specs::Made::span))]
 fn put_span(page: &mut Page, r: u32, c: u32) -> Result<(), AllocError>
-    ensures { OnOk result (page.new ≡ after (span r c) page.old) }
+    ensures { OnOk result (page.new ≡ page_after (span r c) page.old) }
 {
     let inches = 240 + 12 * page.draw(80);
     let rating = 800 + page.draw(1500);

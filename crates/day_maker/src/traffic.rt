@@ -2,7 +2,7 @@
 
 ghost use Rattle.std.specs.Prelude.{◌≡◌, ◌≤◌, ◌+◌, OnOk, IfOk};
 ghost use Rattle.day_maker.specs.Made.{actors, application, axles, command, commands, posting, truck, trucks};
-ghost use Rattle.day_maker.specs.Texts.{after};
+ghost use Rattle.day_maker.specs.Texts.{page_after};
 
 use crate::field::Field;
 use crate::page::Page;
@@ -11,7 +11,7 @@ use std::alloc::AllocError;
 
 /// The four trucks.
 pub(crate) fn put_trucks(page: &mut Page) -> Result<(), AllocError>
-    ensures { OnOk result (page.new ≡ after trucks page.old) }
+    ensures { OnOk result (page.new ≡ page_after trucks page.old) }
 {
     'trucks: for t in 1..5 {
         put_truck(page, t)?;
@@ -22,7 +22,7 @@ pub(crate) fn put_trucks(page: &mut Page) -> Result<(), AllocError>
 /// The four actors.
 #[tactic(auto, unfolding(crate::specs::Made::actors))]
 pub(crate) fn put_actors(page: &mut Page) -> Result<(), AllocError>
-    ensures { OnOk result (page.new ≡ after actors page.old) }
+    ensures { OnOk result (page.new ≡ page_after actors page.old) }
 {
     page.put("actor", &[Field::Numbered(b'a', 1)])?;
     page.put("actor", &[Field::Numbered(b'a', 2)])?;
@@ -35,7 +35,7 @@ pub(crate) fn put_actors(page: &mut Page) -> Result<(), AllocError>
 pub(crate) fn put_commands(page: &mut Page, size: u32) -> Result<(), AllocError>
     requires some { 1 ≤ size }
     requires small { size ≤ 40 }
-    ensures { OnOk result (page.new ≡ after (commands size) page.old) }
+    ensures { OnOk result (page.new ≡ page_after (commands size) page.old) }
 {
     'commands: for _ in 0..20 * size {
         put_command(page, size)?;
@@ -46,7 +46,7 @@ pub(crate) fn put_commands(page: &mut Page, size: u32) -> Result<(), AllocError>
 // A truck.
 #[tactic(auto, unfolding(crate::specs::Made::truck))]
 fn put_truck(page: &mut Page, t: u32) -> Result<(), AllocError>
-    ensures { OnOk result (page.new ≡ after (truck t) page.old) }
+    ensures { OnOk result (page.new ≡ page_after (truck t) page.old) }
 {
     let height = 160 + page.draw(20);
     let width = 100 + page.draw(60);
@@ -92,7 +92,7 @@ fn draw_axles(page: &mut Page, more: u32) -> Result<Vec<Axle>, AllocError>
 fn put_command(page: &mut Page, size: u32) -> Result<(), AllocError>
     requires some { 1 ≤ size }
     requires small { size ≤ 40 }
-    ensures { OnOk result (page.new ≡ after (command size) page.old) }
+    ensures { OnOk result (page.new ≡ page_after (command size) page.old) }
 {
     if page.draw(4) == 0 {
         put_posting(page, size)
@@ -106,7 +106,7 @@ fn put_command(page: &mut Page, size: u32) -> Result<(), AllocError>
 fn put_posting(page: &mut Page, size: u32) -> Result<(), AllocError>
     requires some { 1 ≤ size }
     requires small { size ≤ 40 }
-    ensures { OnOk result (page.new ≡ after (posting size) page.old) }
+    ensures { OnOk result (page.new ≡ page_after (posting size) page.old) }
 {
     let r = page.draw(size + 1);
     let c = page.draw(size);
@@ -121,7 +121,7 @@ fn put_posting(page: &mut Page, size: u32) -> Result<(), AllocError>
 // An application from the first node to the last one.
 #[tactic(auto, unfolding(crate::specs::Made::application))]
 fn put_application(page: &mut Page, size: u32) -> Result<(), AllocError>
-    ensures { OnOk result (page.new ≡ after (application size) page.old) }
+    ensures { OnOk result (page.new ≡ page_after (application size) page.old) }
 {
     let actor = Field::Numbered(b'a', 1 + page.draw(3));
     let truck = Field::Numbered(b't', 1 + page.draw(4));

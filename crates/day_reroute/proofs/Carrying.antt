@@ -6,7 +6,7 @@ use Rattle.std.proofs.lemmas.List.Sums.{fold-append}
 use Rattle.road_graph.specs.Roads.{IsRoads}
 use Rattle.permit_days.specs.Days.{is_before}
 use Rattle.trip_applications.specs.declared.application.Application.{Application}
-use Rattle.trip_analysis.specs.Findings.{is_in}
+use Rattle.trip_analysis.specs.Findings.{is_number_among}
 use Rattle.day_text.specs.declared.orders.Order.{Order}
 use Rattle.office_words.specs.declared.entry.Entry.{Entry}
 use Rattle.office_words.specs.declared.entry.Reply.TheVariants as reply
@@ -22,7 +22,7 @@ use Rattle.command_calls.specs.Unfolds.{IsFinished}
 use Rattle.reroute_desk.specs.declared.handled.Handled.{Handled}
 use Rattle.reroute_desk.specs.declared.refusal.RerouteRefusal.{RerouteRefusal}
 use Rattle.reroute_desk.specs.declared.refusal.RerouteRefusal.TheVariants as refusal
-use Rattle.reroute_desk.specs.Desks.{AreFirst, AskAgain, Desk, HasGoneOn, HasHandledAll, IsRerouteCause, IsTimely, KeepsUp, Placed, answered_by, day_in, is_ended, is_wanting, kept_reply, olds_of, placed_behind, renewals}
+use Rattle.reroute_desk.specs.Desks.{AreFirst, AskAgain, Desk, HasGoneOn, HasHandledAll, IsRerouteCause, IsTimely, KeepsUp, Placed, answered_by, office_day, is_ended, is_wanting, kept_reply, olds_of, placed_behind, renewals}
 use Rattle.reroute_desk.specs.Laws.{CallsOfOthersKeepUp}
 use Rattle.reroute_desk.proofs.Keeping.{recalled_more}
 use Rattle.reroute_desk.proofs.Recalls.{issued_stays, recalls_at}
@@ -81,7 +81,7 @@ module _ (d : Desk) (o : Opened) (es : List Entry) (all : HasHandledAll d o) (ke
 
   module _ (promises : KeepsPromises now.base now.opening now.history) (caller : ℕ) (once : IsAtOnce caller es) where
     -- no permit that the command recalled has expired
-    not_ended : (h : Handled) → is_in h.old (recalled_in es) ≡ true → IsTimely now.history (day_in (grown_by o es)) h → is_ended h.what ≡ false
+    not_ended : (h : Handled) → is_number_among h.old (recalled_in es) ≡ true → IsTimely now.history (office_day (grown_by o es)) h → is_ended h.what ≡ false
     not_ended h on timely = by (recalls_at es h.old on)
       where
         by : (at : History) × RecallsAt es h.old at → is_ended h.what ≡ false
@@ -96,12 +96,12 @@ module _ (d : Desk) (o : Opened) (es : List Entry) (all : HasHandledAll d o) (ke
             subst (λ (l : History). WasIssuedFor l h.old p.trip p.routes) (sym parts) (issued_stays (o.history ++ at) (posting ∷ (more ++ gone.own)) h.old p.trip p.routes p.issued) in
             let same : timely.trip ≡ p.trip =
             one_trip now.base now.opening now.history (o.history ++ at) h.old promises (v, (who, c, ns, there, place)) timely.trip p.trip timely.routes p.routes timely.issued issued in
-            let day : day_after now.opening (o.history ++ at) ≡ day_in (grown_by o es) =
+            let day : day_after now.opening (o.history ++ at) ≡ office_day (grown_by o es) =
             ap (λ (n : Opened). day_after n.opening (o.history ++ at)) gone.grown
             ∙ (fold-append (λ d e. day_by d e.reply) o.opening o.history at
             ∙ (same_day (day_after o.opening o.history) caller es at more who c v ns once stands
             ∙ sym (fold-append (λ d e. day_by d e.reply) o.opening o.history es))) in
-            timely.ended ∙ (ap (λ (t : Application). is_before t.last (day_in (grown_by o es))) same
+            timely.ended ∙ (ap (λ (t : Application). is_before t.last (office_day (grown_by o es))) same
             ∙ (ap (λ (l : Day). is_before p.trip.last l) (sym day) ∙ p.not_expired))
 
     -- its entries apply again for what the command recalled
@@ -109,7 +109,7 @@ module _ (d : Desk) (o : Opened) (es : List Entry) (all : HasHandledAll d o) (ke
     renewed handled =
         let numbers : olds_of gone.items ≡ recalled_in es = append_cancel_left (recalled_in o.history) (olds_of gone.items) (recalled_in es) (sym olds ∙ (handled ∙ recalled)) in
         let whole : renewals gone.items ≡ gone.items =
-        renewals_whole now.history (day_in (grown_by o es)) (recalled_in es) not_ended gone.items gone.timely (λ n on. sym (ap (λ (l : Numbers). is_in n l) numbers) ∙ on) in
+        renewals_whole now.history (office_day (grown_by o es)) (recalled_in es) not_ended gone.items gone.timely (λ n on. sym (ap (λ (l : Numbers). is_number_among n l) numbers) ∙ on) in
         subst (λ (ns : Numbers). AreRenewed o.opening d.caller (o.history ++ es) ns gone.own) numbers
         (renewed_by o.opening d.caller (o.history ++ es) gone.own gone.items
         (subst (λ (l : List Handled). AskAgain o.opening d.caller l (placed_behind (o.history ++ es) gone.own)) whole asked))

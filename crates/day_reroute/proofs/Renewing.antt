@@ -4,7 +4,7 @@ use Rattle.std.proofs.lemmas.List.{append-nil, append_cancel_left}
 use Rattle.std.proofs.lemmas.List.Elements.{All-head, All-tail}
 use Rattle.fleet.specs.Bases.{BaseLists}
 use Rattle.trip_applications.specs.declared.application.Application.{Application}
-use Rattle.trip_analysis.specs.Findings.{is_in}
+use Rattle.trip_analysis.specs.Findings.{is_number_among}
 use Rattle.office_words.specs.declared.entry.Entry.{Entry}
 use Rattle.office_words.specs.declared.entry.Reply.{Reply}
 use Rattle.office_words.specs.declared.entry.Reply.TheVariants as reply
@@ -83,11 +83,11 @@ kept_some (Replaced n v routes) e = refl
 kept_some (Refused v l) e = refl
 
 -- where none of these has ended, each was applied for again
-pub renewals_whole : (es : History) (today : Day) (ns : Numbers) → ((h : Handled) → is_in h.old ns ≡ true → IsTimely es today h → is_ended h.what ≡ false) → (items : List Handled) → All (IsTimely es today) items → ((n : ℕ) → is_in n (olds_of items) ≡ true → is_in n ns ≡ true) → renewals items ≡ items
+pub renewals_whole : (es : History) (today : Day) (ns : Numbers) → ((h : Handled) → is_number_among h.old ns ≡ true → IsTimely es today h → is_ended h.what ≡ false) → (items : List Handled) → All (IsTimely es today) items → ((n : ℕ) → is_number_among n (olds_of items) ≡ true → is_number_among n ns ≡ true) → renewals items ≡ items
 renewals_whole es today ns none [] all on = refl
 renewals_whole es today ns none (h ∷ items) all on =
-    ap (λ (b : Bool). cond b (h ∷ renewals items) (renewals items)) (kept_some h.what (none h (on h.old (ap (λ b. b || is_in h.old (olds_of items)) (eq-eqb h.old h.old refl))) (All-head (IsTimely es today) h items all)))
-    ∙ ap (λ (l : List Handled). h ∷ l) (renewals_whole es today ns none items (All-tail (IsTimely es today) h items all) (λ n behind. on n (or_right (h.old == n) (is_in n (olds_of items)) behind)))
+    ap (λ (b : Bool). cond b (h ∷ renewals items) (renewals items)) (kept_some h.what (none h (on h.old (ap (λ b. b || is_number_among h.old (olds_of items)) (eq-eqb h.old h.old refl))) (All-head (IsTimely es today) h items all)))
+    ∙ ap (λ (l : List Handled). h ∷ l) (renewals_whole es today ns none items (All-tail (IsTimely es today) h items all) (λ n behind. on n (or_right (h.old == n) (is_number_among n (olds_of items)) behind)))
 
 -- a permit that an entry recalls was issued for one trip
 pub one_trip : (base : BaseLists) (day : Day) (es front : History) (n : ℕ) → KeepsPromises base day es → RecallsAt es n front → (a b : Application) (xs ys : Routes) → WasIssuedFor es n a xs → WasIssuedFor es n b ys → a ≡ b

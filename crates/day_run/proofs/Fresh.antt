@@ -11,10 +11,10 @@ use Rattle.office_words.specs.declared.entry.Entry.{Entry}
 use Rattle.office_core.specs.Calls.{Who}
 use Rattle.office_turn.specs.Told.{Lock, Passing, receipt_for}
 use Rattle.office_turn.specs.declared.view.Receipt.{Receipt}
-use Rattle.office_desk.specs.Desks.{Terms, calls_of, terms_in}
+use Rattle.office_desk.specs.Desks.{Terms, calls_with_pass, terms_in}
 use Rattle.fleet.specs.Bases.{BaseLists}
 use Rattle.office_words.specs.Commands.{MayCarryOut}
-use Rattle.analyst_pool.specs.Ran.{Adds, IsReady, Ran}
+use Rattle.analyst_pool.specs.Ran.{AddsEntries, IsReady, Ran}
 use Rattle.analyst_pool.specs.declared.worker.Outcome.TheVariants as outcome
 use Rattle.analyst_pool.specs.declared.worker.Worker.{Worker}
 use Rattle.day_run.specs.declared.ended.Ended.{Ended}
@@ -43,7 +43,7 @@ module _ {C : Type 0} (pass_of : C → Passing Entry Terms) where
   -- the workers of sound scripts can be let work
   pub are_ready : (lock : Lock Terms) (base : BaseLists) (scripts : List (Vec Command Global)) (workers : List (Worker C))
       → (terms_in lock).0 ≡ base → AreSound base scripts → AreShort scripts → AreFresh pass_of lock scripts workers
-      → (i : ℕ) (d : Worker C) → i < length scripts → IsReady base (λ c. calls_of (pass_of c)) (get_or workers i d)
+      → (i : ℕ) (d : Worker C) → i < length scripts → IsReady base (λ c. calls_with_pass (pass_of c)) (get_or workers i d)
   are_ready lock base scripts workers is sound short fresh i d near = let s = item scripts i near in let f = fresh i s d near in record {
     waits = f.waits;
     about = ap (λ (l : Lock Terms). (terms_in l).0) f.ready.lock_is ∙ is;
@@ -52,12 +52,12 @@ module _ {C : Type 0} (pass_of : C → Passing Entry Terms) where
   }
 
   -- a pass stays at its desk
-  pub stays_at : (lock : Lock Terms) (i : ℕ) (script : Vec Command Global) (v w : Worker C) → IsFresh pass_of lock script i v → Ran (λ c. calls_of (pass_of c)) v w → (pass_of w.calls).lock ≡ lock
+  pub stays_at : (lock : Lock Terms) (i : ℕ) (script : Vec Command Global) (v w : Worker C) → IsFresh pass_of lock script i v → Ran (λ c. calls_with_pass (pass_of c)) v w → (pass_of w.calls).lock ≡ lock
   stays_at lock i script v w fresh ran = some_item _ _ (ap (λ (y : Who (Lock Terms)). y.place) ran.grew.who) ∙ fresh.ready.lock_is
 
   -- a worker that has run, and whose pass was taken in, has its receipt
   pub has_run : (lock : Lock Terms) (receipts : List (Receipt Entry)) (i : ℕ) (script : Vec Command Global) (v w : Worker C)
-      → IsFresh pass_of lock script i v → Ran (λ c. calls_of (pass_of c)) v w → Contains receipts (receipt_for (pass_of w.calls)) → HasRun lock receipts i script.items w.outcome
+      → IsFresh pass_of lock script i v → Ran (λ c. calls_with_pass (pass_of c)) v w → Contains receipts (receipt_for (pass_of w.calls)) → HasRun lock receipts i script.items w.outcome
   has_run lock receipts i script v w fresh ran there = let p = pass_of w.calls in
       let own : p.own ≡ ran.entries = ran.grew.own ∙ ap (λ l. l ++ ran.entries) fresh.own in
       let number : p.number ≡ i = ap (λ (y : Who (Lock Terms)). y.caller) ran.grew.who ∙ fresh.number in
@@ -65,14 +65,14 @@ module _ {C : Type 0} (pass_of : C → Passing Entry Terms) where
         receipt = receipt_for p;
         there = there;
         number = number;
-        adds = subst (λ (y : ℕ × List Command × List Entry × Lock Terms). Adds y.0 y.1 w.outcome y.2 (full_by y.3 (receipt_for p)))
+        adds = subst (λ (y : ℕ × List Command × List Entry × Lock Terms). AddsEntries y.0 y.1 w.outcome y.2 (full_by y.3 (receipt_for p)))
             (λ k. (fresh.number k, ap (λ (s : Vec Command Global). s.items) fresh.given k, sym own k, at k)) ran.adds;
       }
 
   -- all have run, and their passes were taken in
   pub all_run : (lock : Lock Terms) (receipts : List (Receipt Entry)) (scripts : List (Vec Command Global)) (before after : List (Worker C)) (e : Ended)
       → length before ≡ length scripts → length after ≡ length before → AreFresh pass_of lock scripts before
-      → ((i : ℕ) (d : Worker C) → i < length before → Ran (λ c. calls_of (pass_of c)) (get_or before i d) (get_or after i d))
+      → ((i : ℕ) (d : Worker C) → i < length before → Ran (λ c. calls_with_pass (pass_of c)) (get_or before i d) (get_or after i d))
       → AreReceivedFrom pass_of 0 receipts after → (e ≡ ended.Done → AreDoneFrom 0 after) → (e ≡ ended.Full → OneIsFull after)
       → HaveRun lock receipts scripts e
   all_run lock receipts scripts before after e count same fresh ran received done full = record {

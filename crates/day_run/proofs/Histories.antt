@@ -16,7 +16,7 @@ use Rattle.fleet.specs.Bases.{BaseLists}
 use Rattle.office_turn.specs.Told.{Lock}
 use Rattle.office_turn.specs.declared.view.Receipt.{Receipt}
 use Rattle.office_desk.specs.Desks.{Terms}
-use Rattle.analyst_pool.specs.Ran.{Adds}
+use Rattle.analyst_pool.specs.Ran.{AddsEntries}
 use Rattle.command_calls.specs.Unfolds.{AreFinished}
 use Rattle.analyst_pool.specs.declared.worker.Outcome.{Outcome}
 use Rattle.analyst_pool.specs.declared.worker.Outcome.TheVariants as outcome
@@ -29,7 +29,7 @@ use Rattle.day_run.specs.Workers.{HasRun, IsFullOutcome, full_by}
 use Rattle.day_run.proofs.Lists.{item}
 
 -- whatever the outcome, a script adds at most 17 entries a command
-adds_few : (caller : ℕ) (script : List Command) (o : Outcome) (es : List Entry) (full : Option ℕ) → Adds caller script o es full → length es ≤ 17 * length script
+adds_few : (caller : ℕ) (script : List Command) (o : Outcome) (es : List Entry) (full : Option ℕ) → AddsEntries caller script o es full → length es ≤ 17 * length script
 adds_few caller script outcome.Waiting es full none = omega (arith, ap length none)
 adds_few caller script outcome.Done es full finished = finished_short caller script es finished
 adds_few caller script (outcome.NoMemory k) es full went =
@@ -38,7 +38,7 @@ adds_few caller script (outcome.Full k most) es full (went, is) =
     omega (arith, went.inside, ap length went.whole, length-append went.front went.last, length-take k script, finished_short caller _ went.front went.finished, shorter caller went.command went.last most went.such)
 
 -- and fewer where the history was full
-adds_fewer : (caller : ℕ) (script : List Command) (o : Outcome) (es : List Entry) (full : Option ℕ) → IsFullOutcome o → Adds caller script o es full → length es < 17 * length script
+adds_fewer : (caller : ℕ) (script : List Command) (o : Outcome) (es : List Entry) (full : Option ℕ) → IsFullOutcome o → AddsEntries caller script o es full → length es < 17 * length script
 adds_fewer caller script outcome.Waiting es full (k, most, is) adds = absurd cc
 adds_fewer caller script outcome.Done es full (k, most, is) adds = absurd cc
 adds_fewer caller script (outcome.NoMemory k') es full (k, most, is) adds = absurd cc
@@ -46,7 +46,7 @@ adds_fewer caller script (outcome.Full k most) es full found (went, is) =
     omega (arith, went.inside, ap length went.whole, length-append went.front went.last, length-take k script, finished_short caller _ went.front went.finished, shorter caller went.command went.last most went.such)
 
 -- a receipt of such an actor is marked
-marked : (lock : Lock Terms) (r : Receipt Entry) (caller : ℕ) (script : List Command) (o : Outcome) (es : List Entry) → IsFullOutcome o → Adds caller script o es (full_by lock r) → r.worn ≡ true
+marked : (lock : Lock Terms) (r : Receipt Entry) (caller : ℕ) (script : List Command) (o : Outcome) (es : List Entry) → IsFullOutcome o → AddsEntries caller script o es (full_by lock r) → r.worn ≡ true
 marked lock r caller script outcome.Waiting es (k, most, is) adds = absurd cc
 marked lock r caller script outcome.Done es (k, most, is) adds = absurd cc
 marked lock r caller script (outcome.NoMemory k') es (k, most, is) adds = absurd cc
@@ -65,10 +65,10 @@ module _ (file : DayParts) (lock : Lock Terms) (receipts : List (Receipt Entry))
     (own : All (λ r. entries_by r.number history ≡ r.own) receipts) where
   -- the entries of an actor are what its worker's outcome says of its script
   adds_at : (i : ℕ) (s : Vec Command Global) (o : Outcome) → i < length scripts → (h : HasRun lock receipts i (get_or scripts i s).items o)
-      → Adds i (script_of i file.commands) o (entries_by i history) (full_by lock h.receipt)
+      → AddsEntries i (script_of i file.commands) o (entries_by i history) (full_by lock h.receipt)
   adds_at i s o near h =
       let mine : entries_by i history ≡ h.receipt.own = ap (λ (n : ℕ). entries_by n history) (sym h.number) ∙ All-contains (λ r. entries_by r.number history ≡ r.own) receipts h.receipt own h.there in
-      subst (λ (y : List Command × List Entry). Adds i y.0 o y.1 (full_by lock h.receipt)) (λ k. (are i s near k, sym mine k)) h.adds
+      subst (λ (y : List Command × List Entry). AddsEntries i y.0 o y.1 (full_by lock h.receipt)) (λ k. (are i s near k, sym mine k)) h.adds
 
   -- where all are done the entries of each actor are those of its finished commands
   pub all_finished : ((i : ℕ) (s : Vec Command Global) → i < length scripts → HasRun lock receipts i (get_or scripts i s).items outcome.Done)

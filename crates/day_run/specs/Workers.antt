@@ -8,7 +8,7 @@ use Rattle.office_turn.specs.Told.{IsReady, Lock, Passing, receipt_for}
 use Rattle.office_turn.specs.declared.view.Receipt.{Receipt}
 use Rattle.office_desk.specs.Desks.{Terms}
 use Rattle.office_words.specs.Commands.{MayCarryOut}
-use Rattle.analyst_pool.specs.Ran.{Adds}
+use Rattle.analyst_pool.specs.Ran.{AddsEntries}
 use Rattle.analyst_pool.specs.declared.worker.Outcome.{Outcome}
 use Rattle.analyst_pool.specs.declared.worker.Outcome.TheVariants as outcome
 use Rattle.analyst_pool.specs.declared.worker.Worker.{Worker}
@@ -72,7 +72,7 @@ pub record HasRun (lock : Lock Terms) (receipts : List (Receipt Entry)) (actor :
   pub receipt : Receipt Entry
   pub there : Contains receipts receipt
   pub number : receipt.number ≡ actor
-  pub adds : Adds actor script o receipt.own (full_by lock receipt)
+  pub adds : AddsEntries actor script o receipt.own (full_by lock receipt)
 
 -- unless memory was wanting each actor has run, and they ended so, all together
 pub record HaveRun (lock : Lock Terms) (receipts : List (Receipt Entry)) (scripts : List (Vec Command Global)) (e : Ended)

@@ -5,13 +5,13 @@ use Rattle.std.specs.List.{slice_split}
 use Rattle.std.proofs.lemmas.Bool.{leb-true}
 use Rattle.std.proofs.lemmas.List.Splits.{length-slice_split}
 use Rattle.road_graph.specs.Roads.{number_of as number_named}
-use Rattle.record_text.specs.Fields.{few_routes, name_of, of_each, route_of, routes_of}
+use Rattle.record_text.specs.Fields.{few_routes, name_field, of_each, route_of, routes_field}
 use Rattle.record_text.proofs.Each.{each_then}
-use Rattle.day_text.specs.Commands.{asked_of, numbers_of}
+use Rattle.day_text.specs.Commands.{asked_routes_of, numbers_of}
 
 -- the segment of a text, where it is a segment's name
 abbrev pub named_segment : List (List ℕ) → List ℕ → Option ℕ
-named_segment known text = option_and_then (λ name. number_named name known) (name_of text)
+named_segment known text = option_and_then (λ name. number_named name known) (name_field text)
 
 -- the segments of a text around each space
 abbrev pub named : List (List ℕ) → List ℕ → Option (List ℕ)
@@ -19,7 +19,7 @@ named known text = option_and_then (numbers_of known) (route_of text)
 
 -- the segments of a text are those of its parts
 pub named_by_parts : (known : List (List ℕ)) (text : List ℕ) → of_each (named_segment known) (slice_split (λ b. b == 32) text) ≡ named known text
-named_by_parts known text = each_then name_of (λ name. number_named name known) (slice_split (λ b. b == 32) text)
+named_by_parts known text = each_then name_field (λ name. number_named name known) (slice_split (λ b. b == 32) text)
 
 abbrev bars : List ℕ → List (List ℕ)
 bars text = slice_split (λ b. b == 124) text
@@ -27,9 +27,9 @@ bars text = slice_split (λ b. b == 124) text
 -- what is asked for by a field that is not empty is asked for by its parts, which are few
 record IsAsked (known : List (List ℕ)) (text : List ℕ) (names : List (List (List ℕ))) : Type 0 where
   few : length (bars text) ≤ 8
-  asked : asked_of known names ≡ option_map Some (of_each (named known) (bars text))
+  asked : asked_routes_of known names ≡ option_map Some (of_each (named known) (bars text))
 
-asked_some : (known : List (List ℕ)) (names : List (List (List ℕ))) → 1 ≤ length names → asked_of known names ≡ option_map Some (of_each (numbers_of known) names)
+asked_some : (known : List (List ℕ)) (names : List (List (List ℕ))) → 1 ≤ length names → asked_routes_of known names ≡ option_map Some (of_each (numbers_of known) names)
 asked_some known [] some = absurd (omega arith)
 asked_some known (route ∷ names) some = refl
 
@@ -51,12 +51,12 @@ asked_by known text names true is e = record {
       ∙ ap (option_map Some) (sym (each_then route_of (numbers_of known) (bars text) ∙ ap (option_and_then (of_each (numbers_of known))) e));
 }
 
-asked_by_parts : (known : List (List ℕ)) (text : List ℕ) (names : List (List (List ℕ))) → (length text == 0) ≡ false → routes_of text ≡ Some names → IsAsked known text names
+asked_by_parts : (known : List (List ℕ)) (text : List ℕ) (names : List (List (List ℕ))) → (length text == 0) ≡ false → routes_field text ≡ Some names → IsAsked known text names
 asked_by_parts known text names full e =
     asked_by known text names (nat_le (length (bars text)) 8) refl (subst (λ (empty : Bool). cond empty (Some []) (few_routes (bars text)) ≡ Some names) full e)
 
-pub asked_found : (known : List (List ℕ)) (text : List ℕ) (names : List (List (List ℕ))) (found : Option (List (List ℕ))) → (length text == 0) ≡ false → routes_of text ≡ Some names → found ≡ of_each (named known) (bars text)
-    → asked_of known names ≡ option_map Some found
+pub asked_found : (known : List (List ℕ)) (text : List ℕ) (names : List (List (List ℕ))) (found : Option (List (List ℕ))) → (length text == 0) ≡ false → routes_field text ≡ Some names → found ≡ of_each (named known) (bars text)
+    → asked_routes_of known names ≡ option_map Some found
 asked_found known text names found full e is = (asked_by_parts known text names full e).asked ∙ ap (option_map Some) (sym is)
 
 -- what was found is all that is given, where there is a part or more

@@ -19,7 +19,7 @@ use Rattle.road_graph.specs.declared.segment.Segment.{Segment}
 use Rattle.road_graph.specs.declared.segment.Span.{Span}
 use Rattle.road_graph.specs.declared.values.What.{What}
 use Rattle.road_graph.specs.declared.values.What.TheVariants as limits
-use Rattle.road_graph.specs.Adding.{limited, new_segment, with_limit, with_node, with_segment, with_span}
+use Rattle.road_graph.specs.Adding.{limited, new_segment, network_with_limit, with_node, with_segment, with_span}
 use Rattle.road_graph.specs.Ranges.{AreInRange, default_values, is_feet, is_inches, is_limit, is_rating}
 use Rattle.road_graph.specs.Roads.{Roads, IsRoads, no_roads, no_segment, has_name, segment_at, segment_names, span_names, spans_of}
 use Rattle.road_graph.specs.Roads.{number_of as number_named}
@@ -28,7 +28,7 @@ use Rattle.restriction_log.specs.declared.change.Change.{Change}
 use Rattle.restriction_log.specs.declared.change.Change.TheVariants as change
 use Rattle.clearance_rules.specs.Loads.{LoadParts, is_cross_section, is_length, is_load}
 use Rattle.permit_days.specs.Days.{has_shape, is_day, is_day_text}
-use Rattle.permit_days.specs.Days.{day_of as day_in_month, month_of, year_of}
+use Rattle.permit_days.specs.Days.{day_of_month as day_in_month, month_of, year_of}
 use Rattle.permit_days.specs.declared.refusal.DayRefusal.TheVariants.{NoSuchDay, Shape}
 use Rattle.trip_applications.specs.declared.application.Application.{Application}
 use Rattle.fleet.specs.declared.base.Truck.{Truck}
@@ -40,7 +40,7 @@ use Rattle.office_words.specs.declared.entry.Command.{Command}
 use Rattle.office_words.specs.declared.entry.Command.TheVariants as command
 use Rattle.road_graph.specs.Words.{what_of}
 use Rattle.record_text.specs.Causes.{demand, limit, or_bad, unless_refused}
-use Rattle.record_text.specs.Fields.{day_of as day_field_of, day_or_none, field_of, number_of, of_each, posted_of, route_of, routes_of}
+use Rattle.record_text.specs.Fields.{day_field as day_field_of, day_or_none, field_of, number_field, of_each, posted_of, route_of, routes_field}
 use Rattle.record_text.specs.Records.{Row, day_in, has_only, judged, name_in, number_in, rows_of}
 use Rattle.record_text.specs.declared.posted.Posted.{Posted}
 use Rattle.record_text.specs.declared.posted.Posted.TheVariants as posted
@@ -48,8 +48,8 @@ use Rattle.record_text.specs.declared.refusal.Cause.{Cause}
 use Rattle.record_text.specs.declared.refusal.RecordCause.TheVariants as bad
 use Rattle.record_text.specs.declared.refusal.Kind.TheVariants as kind
 use Rattle.record_text.proofs.Steps.{Gives, found_some, gives, not_refused, records_keep, refuses, then_gives, was_demanded, was_within}
-use Rattle.day_text.specs.Bounds.{AreAskedRoutes, DayFilesAreBounded, IsBounded, IsSized, IsWithin}
-use Rattle.day_text.specs.Commands.{applied, apply_fields_of, asked_of, cause_of, numbers_of, order_of, asked_permit_of, post_of, posting_of, resolved_of, set_day_of, with_order}
+use Rattle.day_text.specs.Bounds.{AreAskedRoutes, DayFilesAreBounded, IsBounded, IsSized, IsCommandWithin}
+use Rattle.day_text.specs.Commands.{applied, apply_fields_of, asked_routes_of, cause_of, numbers_of, order_of, asked_permit_of, post_of, posting_of, resolved_of, set_day_of, with_order}
 use Rattle.day_text.specs.Days.{ended_day, finished_day, going_on, judge_day, judge_kind, judge_later, judge_opening, fresh_day, opening_of, file_parts_of, with_actor, with_command, with_road, with_truck}
 use Rattle.day_text.specs.Fleets.{actors_of, fleet_of, truck_names}
 use Rattle.day_text.specs.Kinds.{kind_of}
@@ -75,8 +75,8 @@ both false b e = cc
 own : IsNumeralModel (λ ds. list_all is_ascii_digit ds ≡ true) (digits_value 10)
 own = numerals_by_value _ (search rules)
 
-number_fits : (text : List ℕ) (n : ℕ) → number_of text ≡ Some n → n ≤ 999999999
-unfolding number_of
+number_fits : (text : List ℕ) (n : ℕ) → number_field text ≡ Some n → n ≤ 999999999
+unfolding number_field
 number_fits text n e = by (nat_le 1 (length text)) (nat_le (length text) 9) (list_all is_ascii_digit text) refl refl e
   where
     by : (a b c : Bool) → nat_le (length text) 9 ≡ b → list_all is_ascii_digit text ≡ c → cond ((a && b) && c) (Some (digits_value 10 text)) None ≡ Some n → n ≤ 999999999
@@ -156,7 +156,7 @@ limit_gives roads fields h =
     then_gives {r = or_bad (bad.Unknown 2) (number_named name (segment_names roads.segments))} (λ i known.
     then_gives {r = demand (is_limit what value) (bad.Range 4)} (λ a within.
     let there = segment_there roads name i (found_some (bad.Unknown 2) (number_named name (segment_names roads.segments)) i known) in
-    gives IsRoads (with_limit roads i what value) (roads-limit roads i (segment_at roads.segments i) what value h (slice_get-get_or roads.segments i no_segment there) (was_demanded (is_limit what value) (bad.Range 4) a within))))))))
+    gives IsRoads (network_with_limit roads i what value) (roads-limit roads i (segment_at roads.segments i) what value h (slice_get-get_or roads.segments i no_segment there) (was_demanded (is_limit what value) (bad.Range 4) a within))))))))
 
 span_gives : (roads : Roads) (fields : Row) → IsRoads roads → Gives IsRoads (with_span_of roads fields)
 unfolding with_span_of
@@ -252,7 +252,7 @@ each_long {A} {B} f (x ∷ xs) ys e = by (f x) (of_each f xs) (each_long f xs) e
         subst (λ (l : List B). length l ≡ length (x ∷ xs)) same (omega (arith, long))
 
 -- a route field has eight routes at most
-few_in_field : (text : List ℕ) (routes : List (List (List ℕ))) → routes_of text ≡ Some routes → length routes ≤ 8
+few_in_field : (text : List ℕ) (routes : List (List (List ℕ))) → routes_field text ≡ Some routes → length routes ≤ 8
 few_in_field text routes e = by (length text == 0) (nat_le (length (slice_split (λ b. b == 124) text)) 8) refl e
   where
     by : (empty few : Bool) → nat_le (length (slice_split (λ b. b == 124) text)) 8 ≡ few
@@ -264,7 +264,7 @@ few_in_field text routes e = by (length text == 0) (nat_le (length (slice_split 
         let most = leb-true _ _ is in
         omega (arith, long, most)
 
-few_asked : (known : List (List ℕ)) (routes : List (List (List ℕ))) (asked : Option (List (List ℕ))) → length routes ≤ 8 → asked_of known routes ≡ Some asked → AreAskedRoutes asked
+few_asked : (known : List (List ℕ)) (routes : List (List (List ℕ))) (asked : Option (List (List ℕ))) → length routes ≤ 8 → asked_routes_of known routes ≡ Some asked → AreAskedRoutes asked
 few_asked known [] asked few e = let same : None ≡ asked = cc in subst AreAskedRoutes same tt
 few_asked known (route ∷ routes) asked few e = by (of_each (numbers_of known) (route ∷ routes)) refl e
   where
@@ -286,14 +286,14 @@ fields_give fields =
     then_gives {r = name_in 3 fields} (λ truck _.
     then_gives {r = name_in 4 fields} (λ from _.
     then_gives {r = name_in 5 fields} (λ to _.
-    then_gives {r = or_bad (bad.Field 6) (routes_of (field_of fields 5))} (λ routes r.
+    then_gives {r = or_bad (bad.Field 6) (routes_field (field_of fields 5))} (λ routes r.
     then_gives {r = day_in 7 fields} (λ first a.
     then_gives {r = day_in 8 fields} (λ last b.
     gives AreForms (record { actor = actor; truck = truck; from = from; to = to; routes = routes; first = first; last = last })
     (maybe_day (field_of fields 6) first (found_some (bad.Field 7) _ first a), maybe_day (field_of fields 7) last (found_some (bad.Field 8) _ last b), few_in_field (field_of fields 5) routes (found_some (bad.Field 6) _ routes r)))))))))
 
 abbrev IsGiven : Roads → Order → Type 0
-IsGiven roads o = IsWithin roads o.command
+IsGiven roads o = IsCommandWithin roads o.command
 
 resolved_gives : (d : DaySoFar) (f : ApplyFields) → AreForms f → Gives (IsGiven d.network) (resolved_of d f)
 unfolding resolved_of
@@ -302,7 +302,7 @@ resolved_gives d f h =
     then_gives {r = or_bad (bad.Unknown 3) (number_named f.truck (truck_names d.fleet))} (λ truck _.
     then_gives {r = or_bad (bad.Unknown 4) (number_named f.from d.network.nodes)} (λ from _.
     then_gives {r = or_bad (bad.Unknown 5) (number_named f.to d.network.nodes)} (λ to _.
-    then_gives {r = or_bad (bad.Unknown 6) (asked_of (segment_names d.network.segments) f.routes)} (λ asked asked_is.
+    then_gives {r = or_bad (bad.Unknown 6) (asked_routes_of (segment_names d.network.segments) f.routes)} (λ asked asked_is.
     then_gives {r = or_bad (bad.Range 7) f.first} (λ first first_is.
     then_gives {r = or_bad (bad.Range 8) f.last} (λ last last_is.
     then_gives {r = applied d.network truck from to asked first last} (λ application applied_is.
@@ -400,7 +400,7 @@ still_has old new more (replaced.Rating span permille) e = wider span _ _ (is_ra
 still_takes : (old new : Roads) → HasMore old new → (c : Change) → takes old c ≡ true → takes new c ≡ true
 still_takes old new more c = still_has old new more (replaced_by c)
 
-still_within : (old new : Roads) → HasMore old new → (c : Command) → IsWithin old c → IsWithin new c
+still_within : (old new : Roads) → HasMore old new → (c : Command) → IsCommandWithin old c → IsCommandWithin new c
 still_within old new more (command.Apply a) h = h
 still_within old new more (command.Post change) h = still_takes old new more change h
 still_within old new more (command.Day day) h = h
@@ -441,7 +441,7 @@ limit_more roads fields =
     then_gives {r = number_in 4 fields} (λ value _.
     then_gives {r = or_bad (bad.Unknown 2) (number_named name (segment_names roads.segments))} (λ i _.
     then_gives {r = demand (is_limit what value) (bad.Range 4)} (λ a _.
-    gives (HasMore roads) (with_limit roads i what value) (record {
+    gives (HasMore roads) (network_with_limit roads i what value) (record {
       segments = omega (arith, length-set roads.segments i (limited (segment_at roads.segments i) what value));
       spans = omega arith;
     })))))))

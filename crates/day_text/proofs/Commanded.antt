@@ -13,7 +13,7 @@ use Rattle.trip_applications.specs.Applications.{AreAskedThere, AreThere, Sound,
 use Rattle.fleet.specs.Bases.{BaseLists}
 use Rattle.trip_applications.proofs.Joined.{all_joined}
 use Rattle.trip_applications.proofs.Unbroken.{sound_if}
-use Rattle.day_text.specs.Commands.{applied, apply_fields_of, apply_of, asked_of, cause_of, numbers_of, order_of, asked_permit_of, post_of, posting_of, resolved_of, set_day_of}
+use Rattle.day_text.specs.Commands.{applied, apply_fields_of, apply_of, asked_routes_of, cause_of, numbers_of, order_of, asked_permit_of, post_of, posting_of, resolved_of, set_day_of}
 use Rattle.record_text.specs.Fields.{field_of, of_each, posted_of}
 use Rattle.day_text.specs.Fleets.{truck_names}
 use Rattle.office_words.specs.Commands.{MayCarryOut}
@@ -46,7 +46,7 @@ abbrev AreBelow : ℕ → Option (List (List ℕ)) → Type 0
 AreBelow n None = Unit {0}
 AreBelow n (Some routes) = All (λ i. i < n) (concat routes)
 
-asked_within : (known : List (List ℕ)) (names : List (List (List ℕ))) (asked : Option (List (List ℕ))) → asked_of known names ≡ Some asked → AreBelow (length known) asked
+asked_within : (known : List (List ℕ)) (names : List (List (List ℕ))) (asked : Option (List (List ℕ))) → asked_routes_of known names ≡ Some asked → AreBelow (length known) asked
 asked_within known [] asked e = let same : None ≡ asked = cc in subst (AreBelow (length known)) same tt
 asked_within known (route ∷ names) asked e = by (of_each (numbers_of known) (route ∷ names)) (routes_within known (route ∷ names)) e
   where
@@ -59,7 +59,7 @@ below_there roads None h = tt
 below_there roads (Some routes) h = h
 
 -- so are those of the routes that a field asks for
-pub asked_there : (roads : Roads) (names : List (List (List ℕ))) (asked : Option (List (List ℕ))) → asked_of (segment_names roads.segments) names ≡ Some asked → AreAskedThere roads asked
+pub asked_there : (roads : Roads) (names : List (List (List ℕ))) (asked : Option (List (List ℕ))) → asked_routes_of (segment_names roads.segments) names ≡ Some asked → AreAskedThere roads asked
 asked_there roads names asked e =
     let many : length (segment_names roads.segments) ≡ length roads.segments = length-map roads.segments (λ (s : Segment). s.name) in
     below_there roads asked (subst (λ (n : ℕ). AreBelow n asked) many (asked_within (segment_names roads.segments) names asked e))
@@ -86,7 +86,7 @@ resolved_good d f =
     then_gives {r = or_bad (bad.Unknown 3) (number_named f.truck (truck_names d.fleet))} (λ truck truck_is.
     then_gives {r = or_bad (bad.Unknown 4) (number_named f.from d.network.nodes)} (λ from from_is.
     then_gives {r = or_bad (bad.Unknown 5) (number_named f.to d.network.nodes)} (λ to to_is.
-    then_gives {r = or_bad (bad.Unknown 6) (asked_of (segment_names d.network.segments) f.routes)} (λ asked asked_is.
+    then_gives {r = or_bad (bad.Unknown 6) (asked_routes_of (segment_names d.network.segments) f.routes)} (λ asked asked_is.
     then_gives {r = or_bad (bad.Range 7) f.first} (λ first _.
     then_gives {r = or_bad (bad.Range 8) f.last} (λ last _.
     then_gives {r = applied d.network truck from to asked first last} (λ application application_is.
@@ -94,7 +94,7 @@ resolved_good d f =
     let there : AreThere d.network from to asked = record {
       begins = named_within f.from d.network.nodes from (found_some (bad.Unknown 4) (number_named f.from d.network.nodes) from from_is);
       ends = named_within f.to d.network.nodes to (found_some (bad.Unknown 5) (number_named f.to d.network.nodes) to to_is);
-      along = asked_there d.network f.routes asked (found_some (bad.Unknown 6) (asked_of (segment_names d.network.segments) f.routes) asked asked_is);
+      along = asked_there d.network f.routes asked (found_some (bad.Unknown 6) (asked_routes_of (segment_names d.network.segments) f.routes) asked asked_is);
     } in
     let known = subst (λ (n : ℕ). truck < n) trucks (named_within f.truck (truck_names d.fleet) truck (found_some (bad.Unknown 3) (number_named f.truck (truck_names d.fleet)) truck truck_is)) in
     let who = named_within f.actor d.actors actor (found_some (bad.Unknown 2) (number_named f.actor d.actors) actor actor_is) in

@@ -18,12 +18,12 @@ AreAskedRoutes (Some routes) = AreRoutes routes
 
 -- a day is one of the calendar, the asked routes are one to eight, a posted change is one that the roads take, and a number has
 -- at most nine digits
-abbrev pub IsWithin : Roads → Command → Type 0
-IsWithin roads (Apply a) = (is_day_text a.first ≡ true) × (is_day_text a.last ≡ true) × AreAskedRoutes a.asked
-IsWithin roads (Post change) = takes roads change ≡ true
-IsWithin roads (Day day) = is_day_text day ≡ true
-IsWithin roads (Surrender number) = number ≤ 999999999
-IsWithin roads (Show number) = number ≤ 999999999
+abbrev pub IsCommandWithin : Roads → Command → Type 0
+IsCommandWithin roads (Apply a) = (is_day_text a.first ≡ true) × (is_day_text a.last ≡ true) × AreAskedRoutes a.asked
+IsCommandWithin roads (Post change) = takes roads change ≡ true
+IsCommandWithin roads (Day day) = is_day_text day ≡ true
+IsCommandWithin roads (Surrender number) = number ≤ 999999999
+IsCommandWithin roads (Show number) = number ≤ 999999999
 
 -- height, width and length of a truck are in range
 abbrev pub IsSized : Truck → Type 0
@@ -35,7 +35,7 @@ pub record IsBounded (file : DayParts) : Type 0 where
   pub base : IsBase file.base
   pub sizes : All IsSized file.base.fleet
   pub day : is_day_text file.day ≡ true
-  pub commands : All (λ o. IsWithin file.base.roads o.command) file.commands
+  pub commands : All (λ o. IsCommandWithin file.base.roads o.command) file.commands
 
 -- every day file is within these bounds
 abbrev pub DayFilesAreBounded : Type 0

@@ -12,7 +12,7 @@ use Rattle.trip_applications.specs.declared.refusal.ApplicationRefusal.{Applicat
 use Rattle.trip_applications.specs.declared.refusal.ApplicationRefusal.TheVariants.{AnnualDays, BrokenRoute, DayOrder, SamePlace}
 use Rattle.trip_applications.specs.Applications.{application_of, application_refusal}
 use Rattle.record_text.specs.Causes.{◌>>=◌, demand, limit, or_bad, unless_refused}
-use Rattle.record_text.specs.Fields.{field_of, of_each, posted_of, routes_of}
+use Rattle.record_text.specs.Fields.{field_of, of_each, posted_of, routes_field}
 use Rattle.day_text.specs.Fleets.{truck_names}
 use Rattle.record_text.specs.Records.{Row, day_in, has_only, name_in, number_in}
 use Rattle.office_words.specs.declared.entry.Command.TheVariants as command
@@ -35,7 +35,7 @@ apply_fields_of fields = do
   truck ← name_in 3 fields
   from ← name_in 4 fields
   to ← name_in 5 fields
-  routes ← or_bad (bad.Field 6) (routes_of (field_of fields 5))
+  routes ← or_bad (bad.Field 6) (routes_field (field_of fields 5))
   first ← day_in 7 fields
   last ← day_in 8 fields
   Ok (record { actor = actor; truck = truck; from = from; to = to; routes = routes; first = first; last = last })
@@ -45,9 +45,9 @@ abbrev pub numbers_of : List (List ℕ) → List (List ℕ) → Option (List ℕ
 numbers_of known route = of_each (λ name. number_named name known) route
 
 -- the routes that are asked for, where each of their names is a segment's; no routes ask for none
-abbrev pub asked_of : List (List ℕ) → List (List (List ℕ)) → Option (Option (List (List ℕ)))
-asked_of known [] = Some None
-asked_of known (route ∷ routes) = option_map Some (of_each (numbers_of known) (route ∷ routes))
+abbrev pub asked_routes_of : List (List ℕ) → List (List (List ℕ)) → Option (Option (List (List ℕ)))
+asked_routes_of known [] = Some None
+asked_routes_of known (route ∷ routes) = option_map Some (of_each (numbers_of known) (route ∷ routes))
 
 -- the cause of a record whose application is refused
 abbrev pub cause_of : ApplicationRefusal → RecordCause
@@ -68,7 +68,7 @@ resolved_of d f = do
   truck ← or_bad (bad.Unknown 3) (number_named f.truck (truck_names d.fleet))
   from ← or_bad (bad.Unknown 4) (number_named f.from d.network.nodes)
   to ← or_bad (bad.Unknown 5) (number_named f.to d.network.nodes)
-  asked ← or_bad (bad.Unknown 6) (asked_of (segment_names d.network.segments) f.routes)
+  asked ← or_bad (bad.Unknown 6) (asked_routes_of (segment_names d.network.segments) f.routes)
   first ← or_bad (bad.Range 7) f.first
   last ← or_bad (bad.Range 8) f.last
   application ← applied d.network truck from to asked first last

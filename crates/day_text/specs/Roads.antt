@@ -1,6 +1,6 @@
 -- The records of the road network: what each adds, or the first cause for which it is refused.
 use Rattle.std.specs.Prelude.{ℕ, not, nat_lt, List, length, Result, Ok}
-use Rattle.road_graph.specs.Adding.{new_segment, with_limit, with_node, with_segment, with_span}
+use Rattle.road_graph.specs.Adding.{new_segment, network_with_limit, with_node, with_segment, with_span}
 use Rattle.road_graph.specs.Ranges.{is_feet, is_inches, is_limit, is_rating}
 use Rattle.road_graph.specs.Roads.{Roads, has_name, segment_names, span_names, spans_of}
 use Rattle.road_graph.specs.Roads.{number_of as number_named}
@@ -49,7 +49,7 @@ abbrev pub limit_on : Roads → List ℕ → What → ℕ → Result Roads Cause
 limit_on roads segment what value = do
   i ← or_bad (bad.Unknown 2) (number_named segment (segment_names roads.segments))
   a ← demand (is_limit what value) (bad.Range 4)
-  Ok (with_limit roads i what value)
+  Ok (network_with_limit roads i what value)
 
 -- limit,SEGMENT,WHAT,VALUE: the last record for a limit of a segment holds
 unfoldable pub with_limit_of : Roads → Row → Result Roads Cause

@@ -6,9 +6,9 @@ ghost use Rattle.road_graph.specs.Roads.{number_of as number_named};
 ghost use Rattle.road_graph.specs.Roads.{segment_names};
 ghost use Rattle.trip_applications.specs.Applications.{AreAskedThere};
 ghost use Rattle.record_text.specs.Causes.{Judges, or_bad};
-ghost use Rattle.record_text.specs.Fields.{name_of, of_each, route_of};
+ghost use Rattle.record_text.specs.Fields.{name_field, of_each, route_of};
 ghost use Rattle.record_text.specs.declared.refusal.RecordCause.{RecordCause};
-ghost use Rattle.day_text.specs.Commands.{asked_of, numbers_of};
+ghost use Rattle.day_text.specs.Commands.{asked_routes_of, numbers_of};
 
 use record_text::{RecordCause, RecordRefusal, RouteField, parse_name};
 use road_graph::{Network, Numbers};
@@ -22,7 +22,7 @@ pub(crate) fn find_asked(
     field: &RouteField<'_>,
 ) -> Result<Option<SharedRoutes>, RecordRefusal>
     ensures asked { Judges result
-        (or_bad (RecordCause.Unknown 6) (asked_of (segment_names network.now.segments) field.now)) }
+        (or_bad (RecordCause.Unknown 6) (asked_routes_of (segment_names network.now.segments) field.now)) }
     ensures there { IfOk result (AreAskedThere network.now) }
 {
     let text = field.as_str();
@@ -85,7 +85,7 @@ fn find_route(alloc: Global, network: &Network, text: &str) -> Result<Option<Num
 // The number of the segment that has this name.
 fn find_segment(network: &Network, text: &str) -> Option<u32>
     ensures { result
-        ≡ option_and_then (λ name. number_named name (segment_names network.now.segments)) (name_of text.now) }
+        ≡ option_and_then (λ name. number_named name (segment_names network.now.segments)) (name_field text.now) }
 {
     let name = parse_name(text)?;
     network.segment_named(&name)

@@ -3,7 +3,7 @@
 ghost use Rattle.std.specs.Prelude.{◌≡◌, ◌+◌, ◌++◌, ◌∷◌, [], Ok, IfOk, IfErr, OnOk};
 ghost use Rattle.csv.specs.Records.{fields_of};
 ghost use Rattle.day_text.specs.Refusals.{IsRefusedAs};
-ghost use Rattle.day_text.specs.Spans.{AreSpans, IsSpan};
+ghost use Rattle.day_text.specs.Spans.{AreSpans, IsProbeSpan};
 ghost use Rattle.record_text.specs.Causes.{Grows, Judges, Tells};
 ghost use Rattle.day_text.specs.Checks.{check_of, ended_check, is_check_kind, judge_check, judge_check_kind, judge_end, judge_later, judge_probe, judge_truck, probe_of, probes_of};
 
@@ -62,7 +62,7 @@ impl Probes {
 
     /// Adds a probe at the end.
     fn push(&mut self, probe: Probe) -> Result<(), RecordRefusal>
-        requires { IsSpan probe }
+        requires { IsProbeSpan probe }
         ensures ok { OnOk result (self.new ≡ self.old ++ probe ∷ []) }
         ensures memory { IfErr result (λ refusal. refusal ≡ RecordRefusal.NoMemory) }
     {
@@ -224,7 +224,7 @@ fn take_end(file: CheckFile, row: &StringRecord) -> Result<CheckProgress, Record
 #[tactic(auto, unfolding(crate::specs::Checks::probe_of))]
 fn parse_probe(probes: &Probes, row: &StringRecord) -> Result<Probe, Cause>
     ensures probe { result ≡ probe_of probes.now (fields_of row.now) }
-    ensures span { IfOk result (λ probe. IsSpan probe) }
+    ensures span { IfOk result (λ probe. IsProbeSpan probe) }
 {
     has_only(row, 3)?;
     let inches = number_in(row, 2)?;

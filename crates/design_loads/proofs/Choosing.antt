@@ -9,7 +9,7 @@ use Rattle.hs20_truck.specs.Effects.{effects_of, design_of}
 use Rattle.hs20_truck.proofs.OneEffects.{effects_are_the_peaks, design_is_the_peaks}
 use Rattle.span_rating.specs.declared.loading.Effects.{Effects}
 use Rattle.design_loads.specs.Military.{military_axles}
-use Rattle.design_loads.specs.Greatest.{IsGreatest, IsPeakMomentBy, IsPeakShearBy, HasPeakUpTo, HasPeakBelow, ComesBefore}
+use Rattle.design_loads.specs.Greatest.{IsGreatest, IsPeakMomentBy, IsPeakShearBy, HasPeakUpTo, HasPeakBelow, LoadComesBefore}
 use Rattle.design_loads.specs.SpanEffects.{greater_of, governing_of, lane_of, greatest_of}
 use Rattle.design_loads.specs.Laws.{GreatestIsOfThePeaks, GreatestIsOne}
 use Rattle.design_loads.specs.declared.governing.By.{By}
@@ -59,13 +59,13 @@ most_of IsPeakBy t l m effect are h k n Lane = (l, are.lane, k)
 most_of IsPeakBy t l m effect are h k n Military = (m, are.military, n)
 
 before_lane : (IsPeakBy : By → Ratio → Type 0) (t effect : Ratio) → IsPeakBy Truck t → IsBelow t effect
-    → (other : By) → ComesBefore other Lane → HasPeakBelow (IsPeakBy other) effect
+    → (other : By) → LoadComesBefore other Lane → HasPeakBelow (IsPeakBy other) effect
 before_lane IsPeakBy t effect is below Truck before = (t, is, below)
 before_lane IsPeakBy t effect is below Lane before = absurd (omega (arith, before))
 before_lane IsPeakBy t effect is below Military before = absurd (omega (arith, before))
 
 before_military : (IsPeakBy : By → Ratio → Type 0) (t l effect : Ratio) → IsPeakBy Truck t → IsPeakBy Lane l
-    → IsBelow t effect → IsBelow l effect → (other : By) → ComesBefore other Military → HasPeakBelow (IsPeakBy other) effect
+    → IsBelow t effect → IsBelow l effect → (other : By) → LoadComesBefore other Military → HasPeakBelow (IsPeakBy other) effect
 before_military IsPeakBy t l effect is lane_is below lane_below Truck before = (t, is, below)
 before_military IsPeakBy t l effect is lane_is below lane_below Lane before = (l, lane_is, lane_below)
 before_military IsPeakBy t l effect is lane_is below lane_below Military before = absurd (omega (arith, before))

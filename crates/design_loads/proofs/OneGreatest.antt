@@ -9,7 +9,7 @@ use Rattle.influence_line.proofs.Unique.{moment_same, shear_same}
 use Rattle.moment_peak.proofs.Cross.{cross_trans}
 use Rattle.design_loads.specs.LanePeaks.{IsPeakLaneMoment, IsPeakLaneShear}
 use Rattle.design_loads.specs.Military.{military_axles}
-use Rattle.design_loads.specs.Greatest.{ComesBefore, IsPeakMomentBy, IsPeakShearBy, IsGreatest, AreGreatest}
+use Rattle.design_loads.specs.Greatest.{LoadComesBefore, IsPeakMomentBy, IsPeakShearBy, IsGreatest, AreGreatest}
 use Rattle.design_loads.specs.declared.governing.By.{By}
 use Rattle.design_loads.specs.declared.governing.By.TheVariants.{Truck, Lane, Military}
 use Rattle.design_loads.specs.declared.governing.GreatestEffects.{GreatestEffects}
@@ -76,7 +76,7 @@ greatest_same IsPeakBy f g a b one is other =
 
 -- none of the loads before the first reaches it
 not_before : (IsPeakBy : By → Ratio → Type 0) (f g : Ratio) (a b : By) → HaveOneValue IsPeakBy
-    → IsGreatest IsPeakBy f a → IsGreatest IsPeakBy g b → ComesBefore a b → ⊥
+    → IsGreatest IsPeakBy f a → IsGreatest IsPeakBy g b → LoadComesBefore a b → ⊥
 not_before IsPeakBy f g a b one is other before =
     let peak = other.first a before in
     let same = (one a).same f peak.0 is.reached peak.1 in
@@ -86,7 +86,7 @@ not_before IsPeakBy f g a b one is other before =
     cross_trans g.num g.den f.num f.den peak.0.num peak.0.den up (omega (arith, same)) some in
     omega (arith, no_less, peak.2)
 
-same_place : (a b : By) → (ComesBefore a b → ⊥) → (ComesBefore b a → ⊥) → a ≡ b
+same_place : (a b : By) → (LoadComesBefore a b → ⊥) → (LoadComesBefore b a → ⊥) → a ≡ b
 same_place Truck Truck h k = refl
 same_place Truck Lane h k = absurd (h (omega arith))
 same_place Truck Military h k = absurd (h (omega arith))

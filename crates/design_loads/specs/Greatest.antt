@@ -11,14 +11,14 @@ use Rattle.design_loads.specs.declared.governing.By.TheVariants.{Truck, Lane, Mi
 use Rattle.design_loads.specs.declared.governing.GreatestEffects.{GreatestEffects}
 
 -- the place of a design load in the order truck, lane load, military loading
-abbrev pub place_of : By → ℕ
-place_of Truck = 0
-place_of Lane = 1
-place_of Military = 2
+abbrev pub order_of_load : By → ℕ
+order_of_load Truck = 0
+order_of_load Lane = 1
+order_of_load Military = 2
 
 -- one design load comes before another in the order truck, lane load, military loading
-abbrev pub ComesBefore : By → By → Type 0
-ComesBefore one other = place_of one < place_of other
+abbrev pub LoadComesBefore : By → By → Type 0
+LoadComesBefore one other = order_of_load one < order_of_load other
 
 -- a fraction is the peak moment of a design load on a span, over all of its placements
 abbrev pub IsPeakMomentBy : ℕ → By → Ratio → Type 0
@@ -45,7 +45,7 @@ HasPeakBelow IsPeak effect = (peak : Ratio) × IsPeak peak × (peak.num * effect
 pub record IsGreatest (IsPeakBy : By → Ratio → Type 0) (effect : Ratio) (by : By) : Type 0 where
   pub reached : IsPeakBy by effect
   pub most : (other : By) → HasPeakUpTo (IsPeakBy other) effect
-  pub first : (other : By) → ComesBefore other by → HasPeakBelow (IsPeakBy other) effect
+  pub first : (other : By) → LoadComesBefore other by → HasPeakBelow (IsPeakBy other) effect
 
 -- the greatest moment of the three design loads on a span, and the first load that reaches it
 abbrev pub IsGreatestMoment : ℕ → Ratio → By → Type 0

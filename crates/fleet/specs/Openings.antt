@@ -27,7 +27,7 @@ AreOpenings base openings = IfSome openings (λ list. All (IsOpening base) list.
 
 -- what a base keeps is so of its own roads and trucks: the flags of each truck of which they are kept are those before anything
 -- is posted, and heights, where they are kept, bound the lengths of walks
-pub record IsKept (b : Inside) : Type 0 where
+pub record IsBaseKept (b : Inside) : Type 0 where
   pub base : IsBase (lists_in b)
   pub openings : AreOpenings (lists_in b) b.openings
   pub heights : IfSome b.heights (AreHeights b.network.segments)

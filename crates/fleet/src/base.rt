@@ -34,13 +34,13 @@ pub struct Base {
 
 impl Model for Base {
     ghost use Rattle.fleet.specs.Bases.{BaseLists};
-    ghost use Rattle.fleet.specs.Openings.{IsKept, lists_in};
+    ghost use Rattle.fleet.specs.Openings.{IsBaseKept, lists_in};
 
     ghost Value = { BaseLists };
 
     ghost view = { lists_in };
 
-    ghost invariant = { IsKept };
+    ghost invariant = { IsBaseKept };
 }
 
 impl Base {

@@ -24,5 +24,5 @@ pub record IsTable (axles : List Axle) (numbers : List ℕ) : Type 0 where
   pub each : (inches : ℕ) → IsNumberFor axles inches (slice_index numbers inches)
 
 -- a study keeps such a table, or nothing
-abbrev pub IsKept : List Axle → Option (Vec ℕ Global) → Type 0
-IsKept axles numbers = IfSome numbers (λ table. IsTable axles table.items)
+abbrev pub IsTableKept : List Axle → Option (Vec ℕ Global) → Type 0
+IsTableKept axles numbers = IfSome numbers (λ table. IsTable axles table.items)

@@ -3,7 +3,7 @@
 ghost use Rattle.std.specs.Prelude.{◌≡◌, ◌≤◌, List, IfOk};
 ghost use Rattle.axle_train.specs.declared.axle.Axle.{Axle};
 ghost use Rattle.span_rating.specs.Carrying.{CarriesFrom};
-ghost use Rattle.hs20_truck.specs.Kept.{IsKept, IsNumberFor, IsTable};
+ghost use Rattle.hs20_truck.specs.Kept.{IsTableKept, IsNumberFor, IsTable};
 
 use crate::live::{is_carried, study_of};
 use axle_train::Train;
@@ -30,9 +30,9 @@ impl Model for Kept {
 
     ghost view = { λ k. k.train };
 
-    ghost use Rattle.hs20_truck.specs.Kept.{IsKept};
+    ghost use Rattle.hs20_truck.specs.Kept.{IsTableKept};
 
-    ghost invariant = { λ k. IsKept k.train k.numbers };
+    ghost invariant = { λ k. IsTableKept k.train k.numbers };
 }
 
 impl Kept {
@@ -89,7 +89,7 @@ impl SpanStudy for Kept {
 
 // What is kept for spans of this length, whose train ever it is.
 fn number_of(numbers: &Option<Vec<u32>>, inches: u32) -> u32
-    ensures { (axles : List Axle) → IsKept axles numbers.now → IsNumberFor axles inches result }
+    ensures { (axles : List Axle) → IsTableKept axles numbers.now → IsNumberFor axles inches result }
 {
     match numbers {
         Some(numbers) => match numbers.get(inches as usize) {
@@ -102,7 +102,7 @@ fn number_of(numbers: &Option<Vec<u32>>, inches: u32) -> u32
 
 // The table of what is kept, or one of nothing.
 fn table_of(alloc: Global, numbers: Option<Vec<u32>>) -> Result<Vec<u32>, AllocError>
-    ensures { IfOk result (λ t. (axles : List Axle) → IsKept axles numbers → IsTable axles t.items) }
+    ensures { IfOk result (λ t. (axles : List Axle) → IsTableKept axles numbers → IsTable axles t.items) }
 {
     match numbers {
         Some(numbers) => Ok(numbers),

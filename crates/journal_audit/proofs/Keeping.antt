@@ -6,7 +6,7 @@ use Rattle.restriction_log.specs.declared.change.Change.{Change}
 use Rattle.snapshot_store.specs.Stores.{Stored}
 use Rattle.fleet.specs.Bases.{BaseLists}
 use Rattle.journal_audit.specs.declared.versions.Versions.{Versions}
-use Rattle.journal_audit.specs.Versions.{AreInOrder, AreVersions, IsKeptAt}
+use Rattle.journal_audit.specs.Versions.{SnapshotsGoOn, AreVersions, IsKeptAt}
 
 -- the front of a list and what lies behind it
 front : {A : Type 0} (m : ℕ) (xs : List A) → xs ≡ take m xs ++ drop m xs
@@ -16,7 +16,7 @@ front m xs = sym (take-append-drop m xs)
 goes_on : {A : Type 0} (m n : ℕ) (xs : List A) → m ≤ n → take n xs ≡ take m xs ++ drop m (take n xs)
 goes_on m n xs le = front m (take n xs) ∙ ap (λ l. l ++ drop m (take n xs)) (take-take m n xs le)
 
-pub in_order : (base : BaseLists) (now : Stored) (v : Versions) → now.roads ≡ base.roads → AreVersions now v → AreInOrder base v
+pub in_order : (base : BaseLists) (now : Stored) (v : Versions) → now.roads ≡ base.roads → AreVersions now v → SnapshotsGoOn base v
 in_order base now v roads are = record {
   roads = λ n s kept. (are.each n s kept).roads ∙ roads;
   later = λ m n s t le kept kept'. let is = are.each m s kept in let is' = are.each n t kept' in record {

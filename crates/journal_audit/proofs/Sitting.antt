@@ -5,9 +5,9 @@ use Rattle.trip_analysis.specs.declared.analyst.Analyst.{Analyst}
 use Rattle.fleet.specs.Bases.{BaseLists}
 use Rattle.trip_analysis.specs.Known.{AreKnown}
 use Rattle.journal_audit.specs.declared.versions.Versions.{Versions}
-use Rattle.journal_audit.specs.Seats.{AreKnownAt}
+use Rattle.journal_audit.specs.Seats.{AreKnownAtVersion}
 
 -- where nothing was needed yet, the trucks are known in every state
-pub known_anew : (base : BaseLists) (v : Versions) (at : Option ℕ) (analyst : Analyst) (state : InForce) → at ≡ None → AreKnownAt base v at analyst → AreKnown base state analyst
+pub known_anew : (base : BaseLists) (v : Versions) (at : Option ℕ) (analyst : Analyst) (state : InForce) → at ≡ None → AreKnownAtVersion base v at analyst → AreKnown base state analyst
 known_anew base v None analyst state none known = known state
 known_anew base v (Some n) analyst state none known = absurd (cc)

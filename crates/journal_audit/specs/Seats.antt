@@ -10,12 +10,12 @@ use Rattle.journal_audit.specs.declared.versions.Versions.{Versions}
 use Rattle.journal_audit.specs.Versions.{IsKeptAt}
 
 -- the trucks are known in the state of a version whose snapshot is kept or, where none was needed yet, in every state
-abbrev pub AreKnownAt : BaseLists → Versions → Option ℕ → Analyst → Type 0
-AreKnownAt base versions None analyst = (state : InForce) → AreKnown base state analyst
-AreKnownAt base versions (Some at) analyst = (s : Stored) × IsKeptAt versions at s × AreKnown base (state_now s) analyst
+abbrev pub AreKnownAtVersion : BaseLists → Versions → Option ℕ → Analyst → Type 0
+AreKnownAtVersion base versions None analyst = (state : InForce) → AreKnown base state analyst
+AreKnownAtVersion base versions (Some at) analyst = (s : Stored) × IsKeptAt versions at s × AreKnown base (state_now s) analyst
 
 abbrev pub IsSeat : BaseLists → Versions → Seat → Type 0
-IsSeat base versions seat = AreKnownAt base versions seat.at seat.analyst
+IsSeat base versions seat = AreKnownAtVersion base versions seat.at seat.analyst
 
 -- the version at which the trucks are known, if any, is not above this one
 abbrev pub IsBehind : Option ℕ → ℕ → Type 0

@@ -7,17 +7,17 @@ use Rattle.office_words.specs.declared.entry.Call.TheVariants as call
 use Rattle.journal_audit.specs.declared.versions.Versions.{Versions}
 
 -- this version is marked
-abbrev pub IsMarked : List Bool → ℕ → Type 0
-IsMarked marks n = get_or marks n false ≡ true
+abbrev pub IsMarkedVersion : List Bool → ℕ → Type 0
+IsMarkedVersion marks n = get_or marks n false ≡ true
 
 -- the version that a submit names is marked, if there is a mark for it
 abbrev pub IsNamed : List Bool → Call → Type 0
-IsNamed marks (call.Submit a p) = p.seen < length marks → IsMarked marks p.seen
+IsNamed marks (call.Submit a p) = p.seen < length marks → IsMarkedVersion marks p.seen
 IsNamed marks _ = Unit {0}
 
 -- what was marked stays so
 abbrev pub StayMarked : List Bool → List Bool → Type 0
-StayMarked old new = (n : ℕ) → IsMarked old n → IsMarked new n
+StayMarked old new = (n : ℕ) → IsMarkedVersion old n → IsMarkedVersion new n
 
 -- this snapshot is kept of this version
 abbrev pub IsKeptAt : Versions → ℕ → Stored → Type 0
@@ -40,9 +40,9 @@ versions_of now = length now.postings + 1
 pub record AreVersions (now : Stored) (versions : Versions) : Type 0 where
   pub few : length versions.kept.items ≤ versions_of now
   pub each : (n : ℕ) (s : Stored) → IsKeptAt versions n s → IsVersion now n s
-  pub marked : (n : ℕ) → n < length versions.kept.items → IsMarked versions.named.items n → HasKept versions n
+  pub marked : (n : ℕ) → n < length versions.kept.items → IsMarkedVersion versions.named.items n → HasKept versions n
 
 -- the snapshots are of the roads, and each goes on from those before it
-pub record AreInOrder (base : BaseLists) (versions : Versions) : Type 0 where
+pub record SnapshotsGoOn (base : BaseLists) (versions : Versions) : Type 0 where
   pub roads : (n : ℕ) (s : Stored) → IsKeptAt versions n s → s.roads ≡ base.roads
   pub later : (m n : ℕ) (s t : Stored) → m ≤ n → IsKeptAt versions m s → IsKeptAt versions n t → IsLater s t

@@ -6,7 +6,7 @@ ghost use Rattle.trip_applications.specs.Applications.{Sound};
 ghost use Rattle.trip_analysis.specs.Findings.{IsFinding};
 ghost use Rattle.journal_audit.specs.declared.versions.Versions.{Versions};
 ghost use Rattle.journal_audit.specs.Seats.{IsBehind, IsSeat};
-ghost use Rattle.journal_audit.specs.Versions.{AreInOrder, HasKept, IsKeptAt};
+ghost use Rattle.journal_audit.specs.Versions.{SnapshotsGoOn, HasKept, IsKeptAt};
 
 use crate::versions::Versions;
 use clearance_rules::Steps;
@@ -49,7 +49,7 @@ impl Seat {
         application: &Application,
         steps: &mut Steps<L>,
     ) -> Result<What, NoMemory>
-        requires order { AreInOrder base.now versions.now }
+        requires order { SnapshotsGoOn base.now versions.now }
         requires kept { HasKept versions.now seen }
         requires seat { IsSeat base.now versions.now self.old }
         requires sound { Sound base.now application.now }
@@ -84,7 +84,7 @@ impl Seat {
         seen: u32,
         steps: &mut Steps<L>,
     )
-        requires order { AreInOrder base.now versions.now }
+        requires order { SnapshotsGoOn base.now versions.now }
         requires kept { HasKept versions.now seen }
         requires behind { IsBehind self.old.at seen }
         requires seat { IsSeat base.now versions.now self.old }

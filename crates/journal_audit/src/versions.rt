@@ -3,7 +3,7 @@
 ghost use Rattle.std.specs.Prelude.{◌≡◌, ◌+◌, ◌≤◌, ℕ, [], All, IfOk, IfSome, OnOk, is_some, length, true};
 ghost use Rattle.snapshot_store.specs.Stores.{Stored};
 ghost use Rattle.office_core.specs.Registers.{stored_now};
-ghost use Rattle.journal_audit.specs.Versions.{AreVersions, HasKept, IsKeptAt, IsMarked, IsNamed, versions_of};
+ghost use Rattle.journal_audit.specs.Versions.{AreVersions, HasKept, IsKeptAt, IsMarkedVersion, IsNamed, versions_of};
 
 use crate::marks::marks_of;
 use names::NoMemory;
@@ -56,7 +56,7 @@ impl Versions {
     // The snapshot of the current version, which is the next one, if it is named.
     fn next(&self, replay: &Replay) -> Result<Option<Snapshot>, NoMemory>
         ensures snapshot { IfOk result (λ next. IfSome next (λ s. s ≡ stored_now replay.now)) }
-        ensures named { IfOk result (λ next. IsMarked self.now.named.items (length self.now.kept.items) → is_some next ≡ true) }
+        ensures named { IfOk result (λ next. IsMarkedVersion self.now.named.items (length self.now.kept.items) → is_some next ≡ true) }
     {
         let version = self.kept.len();
         if version < self.named.len() && self.named[version] {

@@ -26,7 +26,7 @@ use Rattle.trip_analysis.specs.declared.finding.What.TheVariants as what
 use Rattle.trip_applications.specs.Applications.{IsAskedWalk, Sound}
 use Rattle.fleet.specs.Bases.{BaseLists, IsBase, no_truck, truck_of}
 use Rattle.fleet.specs.Passing.{first_on, first_or, flags_of, is_passable, limit_for, needs_none}
-use Rattle.trip_analysis.specs.Findings.{InRange, IsFinding, IsFoundBy, asked_finding, first_meeting, leaves, leaving, what_of}
+use Rattle.trip_analysis.specs.Findings.{InRange, IsFinding, IsFoundBy, asked_finding, first_meeting, leaves, leaving, proposed_of}
 use Rattle.trip_analysis.proofs.Found.{found_in_range, pick}
 use Rattle.trip_applications.proofs.Joined.{all_routes, walks_there}
 use Rattle.trip_routes.specs.Routes.{AreRoutes}
@@ -140,7 +140,7 @@ module _ (base : BaseLists) (roads : IsRoads base.roads) (fleet : IsBase base) (
   asked_listed (Some f) routes are = tt
   asked_listed None routes are = are
 
-  searched_listed : (flags : List Bool) (a b : ℕ) (f : Shortest) → a < length base.roads.nodes → IsShortest base.roads flags a b f → IsListed (what_of f)
+  searched_listed : (flags : List Bool) (a b : ℕ) (f : Shortest) → a < length base.roads.nodes → IsShortest base.roads flags a b f → IsListed (proposed_of f)
   searched_listed flags a b (shortest.Route segments feet) there h = record { some = omega arith; few = omega arith }
   searched_listed flags a b (shortest.Cut reached) there h = shortest_in_range base.roads flags a b (shortest.Cut reached) roads there h
   searched_listed flags a b (shortest.NoRoad reached) there h = shortest_in_range base.roads flags a b (shortest.NoRoad reached) roads there h

@@ -1,6 +1,6 @@
 -- The journal of a day file is the journal of one history, which is read back.
 use Rattle.std.proofs.Common.{List, ℕ, sym, subst, ◌∙◌}
-use Rattle.journal_reader.specs.Journals.{IsAnswer}
+use Rattle.journal_reader.specs.Journals.{IsJournalRead}
 use Rattle.journal_laws.specs.Histories.{IsOfDay}
 use Rattle.journal_laws.proofs.ReadingBack.{histories_fit, journals_have_one_history, journals_read_back}
 use Rattle.permit_program.specs.Headline.{Headline}
@@ -14,7 +14,7 @@ headline_fits bytes text h = histories_fit bytes h.history (of_day bytes text h)
 
 pub headline_reads_back : HeadlineReadsBack
 headline_reads_back bytes text h answer is =
-    journals_read_back bytes h.history answer (of_day bytes text h) (subst (λ (t : List ℕ). IsAnswer t answer) h.journal is)
+    journals_read_back bytes h.history answer (of_day bytes text h) (subst (λ (t : List ℕ). IsJournalRead t answer) h.journal is)
 
 pub text_has_one_history : TextHasOneHistory
 text_has_one_history bytes other text h k =

@@ -15,7 +15,7 @@ use Rattle.axle_train.proofs.Places.{axle_fits, group_light}
 use Rattle.bridge_formula.specs.Formula.{formula_limit}
 use Rattle.axle_limits.specs.Groups.{gross_of, groups_of}
 use Rattle.axle_limits.specs.Limits.{is_two_tandem}
-use Rattle.axle_limits.specs.Limits.{limit_of as limit_of_group}
+use Rattle.axle_limits.specs.Limits.{computed_limit_of as limit_of_group}
 use Rattle.axle_limits.specs.Worst.{is_over, worst_of}
 use Rattle.axle_limits.specs.declared.group.GroupLimit.{GroupLimit}
 use Rattle.axle_limits.specs.declared.group.Rule.TheVariants as rule

@@ -20,7 +20,7 @@ use Rattle.office_words.specs.declared.entry.Entry.{Entry}
 use Rattle.office_core.specs.Machine.{entries_by, opened}
 use Rattle.office_core.proofs.Goods.{good_opened}
 use Rattle.command_calls.proofs.Runs.{finished_short}
-use Rattle.day_text.specs.Bounds.{IsWithin}
+use Rattle.day_text.specs.Bounds.{IsCommandWithin}
 use Rattle.day_text.specs.Scripts.{script_of}
 use Rattle.day_text.specs.declared.orders.Order.{Order}
 use Rattle.day_text.proofs.Bounds.{day_bounded}
@@ -62,17 +62,17 @@ replaced_fits roads (replaced.Rating span permille) is e =
 change_fits : (roads : Roads) (c : Change) → IsRoads roads → takes roads c ≡ true → FitsChange c
 change_fits roads c = replaced_fits roads (replaced_by c)
 
-command_fits : (roads : Roads) (c : Command) → IsRoads roads → IsWithin roads c → FitsCommand c
+command_fits : (roads : Roads) (c : Command) → IsRoads roads → IsCommandWithin roads c → FitsCommand c
 command_fits roads (command.Apply a) is (first, last, asked) = record { first = first; last = last; asked = asked }
 command_fits roads (command.Post change) is h = change_fits roads change is h
 command_fits roads (command.Day day) is h = h
 command_fits roads (command.Surrender number) is h = omega (arith, h)
 command_fits roads (command.Show number) is h = omega (arith, h)
 
-script_fits : (roads : Roads) (orders : List Order) (i : ℕ) → IsRoads roads → All (λ o. IsWithin roads o.command) orders → All FitsCommand (script_of i orders)
+script_fits : (roads : Roads) (orders : List Order) (i : ℕ) → IsRoads roads → All (λ o. IsCommandWithin roads o.command) orders → All FitsCommand (script_of i orders)
 script_fits roads orders i is within =
     All-map FitsCommand (λ (o : Order). o.command) _ (All-filter _ (λ (o : Order). FitsCommand o.command) orders
-    (All-weaker (λ (o : Order). IsWithin roads o.command) (λ (o : Order). FitsCommand o.command) (λ o h. command_fits roads o.command is h) orders within))
+    (All-weaker (λ (o : Order). IsCommandWithin roads o.command) (λ (o : Order). FitsCommand o.command) (λ o h. command_fits roads o.command is h) orders within))
 
 -- of 17 entries for each of 4,096 commands, and 16 actors, there are few
 below_same : (n : ℕ) → below (λ i. 69632) n ≡ 69632 * n

@@ -3,7 +3,7 @@ use Rattle.std.specs.Prelude.{◌≡◌, ◌⊎◌, ℕ, List, Result, Ok, Err}
 use Rattle.office_words.specs.declared.entry.Entry.{Entry}
 use Rattle.journal_text.specs.Journals.{journal_of}
 use Rattle.journal_reader.specs.Fits.{FitsHistory}
-use Rattle.journal_reader.specs.Journals.{IsAnswer}
+use Rattle.journal_reader.specs.Journals.{IsJournalRead}
 use Rattle.journal_reader.specs.declared.refusal.JournalRefusal.{JournalRefusal}
 use Rattle.journal_reader.specs.declared.refusal.JournalRefusal.TheVariants.{NoMemory}
 use Rattle.permit_program.specs.Headline.{Headline}
@@ -17,7 +17,7 @@ DayHistoriesFit = (bytes : List ℕ) (history : List Entry) → IsOfDay bytes hi
 abbrev pub DayJournalsReadBack : Type 0
 DayJournalsReadBack =
     (bytes : List ℕ) (history : List Entry) (answer : Result (List Entry) JournalRefusal) → IsOfDay bytes history
-    → IsAnswer (journal_of history) answer → (answer ≡ Ok history) ⊎ (answer ≡ Err NoMemory)
+    → IsJournalRead (journal_of history) answer → (answer ≡ Ok history) ⊎ (answer ≡ Err NoMemory)
 
 -- two histories of day files that have one journal are one
 abbrev pub DayJournalsHaveOneHistory : Type 0
@@ -33,7 +33,7 @@ HeadlineFits = (bytes text : List ℕ) (h : Headline bytes text) → FitsHistory
 abbrev pub HeadlineReadsBack : Type 0
 HeadlineReadsBack =
     (bytes text : List ℕ) (h : Headline bytes text) (answer : Result (List Entry) JournalRefusal)
-    → IsAnswer text answer → (answer ≡ Ok h.history) ⊎ (answer ≡ Err NoMemory)
+    → IsJournalRead text answer → (answer ≡ Ok h.history) ⊎ (answer ≡ Err NoMemory)
 
 -- one text is written for one history, whatever the day files are
 abbrev pub TextHasOneHistory : Type 0

@@ -8,7 +8,7 @@ use Rattle.journal_text.specs.Journals.{ended, journal_of}
 use Rattle.journal_text.specs.declared.format.Format.TheVariants.{Three}
 use Rattle.journal_reader.specs.Fits.{FitsHistory}
 use Rattle.journal_reader.specs.Formats.{HasJournalIn}
-use Rattle.journal_reader.specs.Journals.{IsAnswer, IsBadLine, IsBadNext, IsJournalOf, IsLine, lines_text}
+use Rattle.journal_reader.specs.Journals.{IsJournalRead, IsBadLine, IsBadNext, IsJournalOf, IsLine, lines_text}
 use Rattle.journal_reader.specs.declared.refusal.JournalRefusal.{JournalRefusal}
 use Rattle.journal_reader.specs.declared.refusal.JournalRefusal.TheVariants as refusal
 use Rattle.journal_reader.proofs.Whole.{first_lines, no_feed, one_history}
@@ -74,7 +74,7 @@ one_bad_line text row other b c = elim (cases_order (length b.before) (length c.
   | inr (inr more) ↦ absurd (not_before text other row c b more)
 ]
 
-pub one_answer : (text : List ℕ) (a b : Result (List Entry) JournalRefusal) → IsAnswer text a → IsAnswer text b → a ≢ Err refusal.NoMemory → b ≢ Err refusal.NoMemory → a ≡ b
+pub one_answer : (text : List ℕ) (a b : Result (List Entry) JournalRefusal) → IsJournalRead text a → IsJournalRead text b → a ≢ Err refusal.NoMemory → b ≢ Err refusal.NoMemory → a ≡ b
 one_answer text (Ok h) (Ok k) x y p q = ap Ok (one_history h k text x y)
 one_answer text (Ok h) (Err (refusal.BadLine row)) x y p q = absurd (none_is_bad h text row x y)
 one_answer text (Err (refusal.BadLine row)) (Ok h) x y p q = absurd (none_is_bad h text row y x)
@@ -88,7 +88,7 @@ pub has_journal : (history : List Entry) → FitsHistory history → HasJournalI
 has_journal [] fits = tt
 has_journal (e ∷ history) (fit, fits) = ((fit, refl), has_journal history fits)
 
-pub printed_is_read : (history : List Entry) (answer : Result (List Entry) JournalRefusal) → FitsHistory history → IsAnswer (journal_of history) answer → (answer ≡ Ok history) ⊎ (answer ≡ Err refusal.NoMemory)
+pub printed_is_read : (history : List Entry) (answer : Result (List Entry) JournalRefusal) → FitsHistory history → IsJournalRead (journal_of history) answer → (answer ≡ Ok history) ⊎ (answer ≡ Err refusal.NoMemory)
 printed_is_read history (Ok h) fits is = inl (ap Ok (one_history h history (journal_of history) is (Three, (has_journal history fits, refl))))
 printed_is_read history (Err (refusal.BadLine row)) fits is = absurd (none_is_bad history (journal_of history) row (Three, (has_journal history fits, refl)) is)
 printed_is_read history (Err refusal.NoMemory) fits is = inr refl

@@ -11,7 +11,7 @@ use Rattle.std.proofs.lemmas.Slice.Eq.{bytes_eq-Decides}
 use Rattle.std.proofs.lemmas.Nat.{mod_below}
 use Rattle.std.proofs.lemmas.List.Elements.{All-cons}
 use Rattle.std.proofs.lemmas.List.Splits.{slice_split_at, slice_split_none}
-use Rattle.permit_days.specs.Days.{day_of as day_in_month, has_shape, is_day, month_of, year_of}
+use Rattle.permit_days.specs.Days.{day_of_month as day_in_month, has_shape, is_day, month_of, year_of}
 use Rattle.permit_days.proofs.Shapes.{IsShaped, shaped}
 use Rattle.journal_text.specs.Words.{Words, index, joined, list_text, routes_text, spaced}
 use Rattle.journal_reader.specs.Words.{all_of, left, list_of, parts}

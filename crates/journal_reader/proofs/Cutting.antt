@@ -3,7 +3,7 @@ use Rattle.std.proofs.Common.{◌≡◌, ◌-◌, ◌∷◌, ◌++◌, [], ℕ, 
 use Rattle.std.specs.List.{AllByRecursion}
 use Rattle.std.proofs.lemmas.List.{append-nil, append_assoc, drop-append-le, drop_all, take-append-le, take_all}
 use Rattle.std.proofs.lemmas.List.Concat.{flat_map-append}
-use Rattle.journal_reader.specs.Cuts.{IsCut, IsOther, begins_end}
+use Rattle.journal_reader.specs.Cuts.{IsCutBehindEnd, IsOther, begins_end}
 use Rattle.journal_text.specs.Journals.{ended}
 use Rattle.journal_reader.specs.Journals.{IsLine, lines_text}
 
@@ -48,7 +48,7 @@ rest_is bytes front rest is =
     ap (λ n. drop n bytes) at ∙ (ap (drop (length front)) is ∙ (drop-append-le (length front) front rest (omega arith) ∙ ap (λ l. l ++ rest) (drop_all (length front) front (omega arith))))
 
 pub cut_here : (bytes rest line more : List ℕ) → Passed bytes rest → rest ≡ ended line ++ more → IsLine line → begins_end line ≡ true
-    → IsCut bytes (take (length bytes - length more) bytes) (drop (length bytes - length more) bytes)
+    → IsCutBehindEnd bytes (take (length bytes - length more) bytes) (drop (length bytes - length more) bytes)
 cut_here bytes rest line more p is clean last =
     let whole = behind p line more is in
     let front = front_is bytes (lines_text p.before ++ ended line) more whole in
@@ -61,7 +61,7 @@ cut_here bytes rest line more p is clean last =
       end = inl (last, front);
     }
 
-pub no_cut : (bytes rest : List ℕ) → Passed bytes rest → IsLine rest → IsCut bytes (take (length bytes) bytes) (drop (length bytes) bytes)
+pub no_cut : (bytes rest : List ℕ) → Passed bytes rest → IsLine rest → IsCutBehindEnd bytes (take (length bytes) bytes) (drop (length bytes) bytes)
 no_cut bytes rest p clean =
     let all = take_all (length bytes) bytes (omega arith) in
     let none = drop_all (length bytes) bytes (omega arith) in

@@ -10,7 +10,7 @@ use Rattle.std.specs.List.{slice_split}
 use Rattle.std.proofs.lemmas.List.{get_or-drop, get_or-take, length-take}
 use Rattle.std.proofs.lemmas.Slice.Eq.{bytes_eq-Decides}
 use Rattle.std.proofs.lemmas.Bool.Decides.{nat_tests}
-use Rattle.journal_reader.specs.Words.{number_of, parts_left, value_from}
+use Rattle.journal_reader.specs.Words.{number_spelled, parts_left, value_from}
 use Rattle.journal_reader.proofs.Pieces.{first_part_is}
 
 own : IsNumeralModel (AllDigits 10) (value_from 0)
@@ -25,8 +25,8 @@ pub value_step : (xs : List ℕ) (n i : ℕ) → i < length xs → value_from n 
 value_step xs n i h = let e : i + 1 ≡ suc i = omega arith in ap (λ k. value_from n (take k xs)) e ∙ value_suc xs n i h
 
 -- the loop's number, cut off at most, is the number, where its text is the word
-pub number_yes : (most : ℕ) (word : List ℕ) (value : ℕ) → most < 10 ^ 64 → value ≤ most → decimal value ≡ word → number_of (most + 1) word ≡ Some value
-unfolding number_of
+pub number_yes : (most : ℕ) (word : List ℕ) (value : ℕ) → most < 10 ^ 64 → value ≤ most → decimal value ≡ word → number_spelled (most + 1) word ≡ Some value
+unfolding number_spelled
 number_yes most word value small below same =
     let v : digits_value 10 word ≡ value = ap (digits_value 10) (sym same) ∙ (decimal_is_IsNumeral_wide value (omega arith)).1 in
     rw (v, (bytes_eq-Decides (decimal value) word).1 same, lt_true value (most + 1) (omega arith)) refl
@@ -34,8 +34,8 @@ number_yes most word value small below same =
     lt_true : (a b : ℕ) → a < b → ltb a b ≡ true
     lt_true a b h = grind (arith, nat_tests)
 
-pub number_no : (most : ℕ) (word : List ℕ) (value : ℕ) → most < 10 ^ 64 → value ≡ min (value_from 0 word) most → (decimal value ≡ word → ⊥) → number_of (most + 1) word ≡ None
-unfolding number_of
+pub number_no : (most : ℕ) (word : List ℕ) (value : ℕ) → most < 10 ^ 64 → value ≡ min (value_from 0 word) most → (decimal value ≡ word → ⊥) → number_spelled (most + 1) word ≡ None
+unfolding number_spelled
 number_no most word value small is other = by (bytes_eq (decimal (digits_value 10 word)) word) (ltb (digits_value 10 word) (most + 1)) refl refl
   where
     lt_of : (a b : ℕ) → ltb a b ≡ true → a < b
@@ -58,14 +58,14 @@ pub value_more : (most : ℕ) (xs : List ℕ) (i value ten digit next : ℕ) →
 value_more most xs i value ten digit next h a b c d = rw (value_step xs 0 i h) (omega arith)
 
 -- what is read of a word
-pub number_is : (most : ℕ) (word : List ℕ) (value : ℕ) (b : Bool) → most < 10 ^ 64 → value ≡ min (value_from 0 word) most → b ≡ bytes_eq (decimal value) word → (b ≡ true → Some value ≡ number_of (most + 1) word) × (b ≡ false → None ≡ number_of (most + 1) word)
+pub number_is : (most : ℕ) (word : List ℕ) (value : ℕ) (b : Bool) → most < 10 ^ 64 → value ≡ min (value_from 0 word) most → b ≡ bytes_eq (decimal value) word → (b ≡ true → Some value ≡ number_spelled (most + 1) word) × (b ≡ false → None ≡ number_spelled (most + 1) word)
 number_is most word value b small is test = (λ yes. sym (number_yes most word value small (omega arith) ((bytes_eq-Decides (decimal value) word).0 (sym test ∙ yes))), λ no. sym (number_no most word value small is (λ e. absurd (differs no (test ∙ (bytes_eq-Decides (decimal value) word).1 e)))))
   where
     differs : {x : Bool} → x ≡ false → x ≡ true → ⊥
     differs p q = cc
 
 -- digits with no zero in front of others spell their number
-pub digits_spell : (word : List ℕ) (n : ℕ) → AllDigits 10 word → 0 < length word → (get_or word 0 0 ≡ 48 → length word ≡ 1) → n ≡ value_from 0 word → n ≤ 4294967295 → (Some n ≡ number_of (2 ^ 32) word) × (word ≡ decimal n)
+pub digits_spell : (word : List ℕ) (n : ℕ) → AllDigits 10 word → 0 < length word → (get_or word 0 0 ≡ 48 → length word ≡ 1) → n ≡ value_from 0 word → n ≤ 4294967295 → (Some n ≡ number_spelled (2 ^ 32) word) × (word ≡ decimal n)
 digits_spell word n all some alone is small =
     let same : decimal n ≡ word = ap decimal is ∙ decimal-digits_value own word all some alone (omega arith) in
     (sym (number_yes 4294967295 word n (lit< tt) small same), sym same)

@@ -9,11 +9,11 @@ use Rattle.std.proofs.lemmas.List.Splits.{join_with_byte-slice_split}
 use Rattle.std.proofs.lemmas.Slice.Eq.{bytes_eq-Decides}
 use Rattle.std.proofs.lemmas.Bool.Decides.{nat_tests}
 use Rattle.influence_line.specs.Fractions.{Ratio, ratio_text}
-use Rattle.permit_days.specs.Days.{day_of as day_in_month, has_shape, is_day, is_day_text, month_of, year_of}
+use Rattle.permit_days.specs.Days.{day_of_month as day_in_month, has_shape, is_day, is_day_text, month_of, year_of}
 use Rattle.permit_days.specs.declared.refusal.DayRefusal.{DayRefusal}
 use Rattle.permit_days.specs.declared.refusal.DayRefusal.TheVariants.{Shape, NoSuchDay}
 use Rattle.journal_text.specs.Words.{Words, group, index, joined, list_text, routes_text}
-use Rattle.journal_reader.specs.Words.{IsTextOf, all_of, day_of, fraction_of, group_of, if_few, is_empty, list_of, number32, number_of, pair_of, parts, place_of, routes_of, wide_of, word_at}
+use Rattle.journal_reader.specs.Words.{IsTextOf, all_of, day_spelled, fraction_of, group_of, if_few, is_empty, list_of, number32, number_spelled, pair_of, parts, place_of, routes_spelled, wide_of, word_at}
 use Rattle.journal_reader.specs.Fits.{FitsDay, FitsIndex, FitsIndices, FitsNumbers, FitsRatio, FitsRoutes}
 use Rattle.journal_reader.proofs.Pieces.{split_some}
 use Rattle.journal_reader.proofs.Lowest.{lowest_from}
@@ -41,8 +41,8 @@ both : (a b : Bool) → (a && b) ≡ true → (a ≡ true) × (b ≡ true)
 both true b e = (refl, e)
 both false b e = absurd (cc e)
 
-pub number_only : (bound : ℕ) (word : List ℕ) (n : ℕ) → number_of bound word ≡ Some n → (word ≡ decimal n) × (n < bound)
-unfolding number_of
+pub number_only : (bound : ℕ) (word : List ℕ) (n : ℕ) → number_spelled bound word ≡ Some n → (word ≡ decimal n) × (n < bound)
+unfolding number_spelled
 number_only bound word n e =
     let (passed, is) = if_some _ _ n e in
     let (same, low) = both _ _ passed in
@@ -51,7 +51,7 @@ number_only bound word n e =
 pub place_only : (word : List ℕ) (i : ℕ) → place_of word ≡ Some i → (word ≡ index i) × (i < 65536)
 unfolding place_of
 place_only word i e =
-    let (n, read, rest) = bind_some (number_of (2 ^ 32) word) _ i e in
+    let (n, read, rest) = bind_some (number_spelled (2 ^ 32) word) _ i e in
     let (passed, is) = if_some _ _ i rest in
     let (low, high) = both _ _ passed in
     let l = leb_true 1 n low in
@@ -108,8 +108,8 @@ numbers_only word xs e = list_only number32 decimal (λ n. n < 2 ^ 32) (number_o
 pub indices_only : (word xs : List ℕ) → list_of place_of word ≡ Some xs → (word ≡ list_text index xs) × FitsIndices xs
 indices_only word xs e = list_only place_of index (λ i. i < 65536) place_only word xs e
 
-pub routes_only : (word : List ℕ) (routes : List (List ℕ)) → routes_of word ≡ Some routes → (word ≡ routes_text routes) × FitsRoutes routes
-unfolding routes_of
+pub routes_only : (word : List ℕ) (routes : List (List ℕ)) → routes_spelled word ≡ Some routes → (word ≡ routes_text routes) × FitsRoutes routes
+unfolding routes_spelled
 routes_only word routes e =
     let (all, read, rest) = bind_some (all_of (list_of place_of) (parts 47 word)) if_few routes e in
     let (passed, is) = if_some (leb (length all) 8) all routes rest in
@@ -155,8 +155,8 @@ group_only word g read =
     let j = place_only b g.1 two in
     (whole ∙ ap (λ t. t ++ (45 ∷ b)) i.0 ∙ ap (λ t. index g.0 ++ (45 ∷ t)) j.0, i.1, j.1)
 
-pub day_only : (word day : List ℕ) → day_of word ≡ Some day → (word ≡ day) × FitsDay day
-unfolding day_of
+pub day_only : (word day : List ℕ) → day_spelled word ≡ Some day → (word ≡ day) × FitsDay day
+unfolding day_spelled
 day_only word day e = by (has_shape word) (is_day (year_of word) (month_of word) (day_in_month word)) refl refl e
   where
     by : (a b : Bool) → has_shape word ≡ a → is_day (year_of word) (month_of word) (day_in_month word) ≡ b → result_ok {E = DayRefusal} (cond (not a) (Err Shape) (cond (not b) (Err NoSuchDay) (Ok word))) ≡ Some day → (word ≡ day) × FitsDay day
@@ -177,7 +177,7 @@ pub indices_found : {E : Type 0} (word : List ℕ) (found : Result (Option (List
 indices_found word (Ok found) e = found_so _ found _ (indices_only word) e
 indices_found word (Err why) e = tt
 
-pub routes_found : {E : Type 0} (word : List ℕ) (found : Result (Option (List (List ℕ))) E) → IfOk found (λ routes. routes ≡ routes_of word) → IfOk found (IsTextOf routes_text FitsRoutes word)
+pub routes_found : {E : Type 0} (word : List ℕ) (found : Result (Option (List (List ℕ))) E) → IfOk found (λ routes. routes ≡ routes_spelled word) → IfOk found (IsTextOf routes_text FitsRoutes word)
 routes_found word (Ok found) e = found_so _ found _ (routes_only word) e
 routes_found word (Err why) e = tt
 
@@ -187,5 +187,5 @@ fraction_found word found e = found_so _ found _ (fraction_only word) e
 pub group_found : (word : List ℕ) (found : Option (ℕ × ℕ)) → found ≡ group_of word → IfSome found (λ g. (word ≡ group g.0 g.1) × FitsIndex g.0 × FitsIndex g.1)
 group_found word found e = found_so _ found _ (group_only word) e
 
-pub day_found : (word : List ℕ) (found : Option (List ℕ)) → found ≡ day_of word → IfSome found (λ day. (word ≡ day) × FitsDay day)
+pub day_found : (word : List ℕ) (found : Option (List ℕ)) → found ≡ day_spelled word → IfSome found (λ day. (word ≡ day) × FitsDay day)
 day_found word found e = found_so _ found _ (day_only word) e

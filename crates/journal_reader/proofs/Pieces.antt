@@ -10,7 +10,7 @@ use Rattle.std.proofs.lemmas.List.{get_or-drop, get_or-take}
 use Rattle.std.proofs.lemmas.Slice.Eq.{bytes_eq-Decides}
 use Rattle.journal_text.specs.Words.{Words}
 use Rattle.journal_text.specs.Journals.{ended}
-use Rattle.journal_reader.specs.Words.{after_word, all_of, is_empty, left, list_of, parts, parts_left, place_of, routes_of, word_at}
+use Rattle.journal_reader.specs.Words.{after_word, all_of, is_empty, left, list_of, parts, parts_left, place_of, routes_spelled, word_at}
 use Rattle.journal_reader.specs.Journals.{IsLine}
 
 eqb_no : (a b : ℕ) → a ≢ b → eqb a b ≡ false
@@ -104,8 +104,8 @@ read_more read done new words ws w x whole next is grown before = rw grown (by (
     by (Some xs) e = ap Some (append_assoc done (x ∷ []) xs) ∙ e
 
 -- all routes are read, and are few
-pub routes_read : (word : List ℕ) (routes : List (List ℕ)) (words : Words) → word_at words ≡ None → option_map (λ more. routes ++ more) (all_of (list_of place_of) words) ≡ all_of (list_of place_of) (parts 47 word) → length routes ≤ 8 → Some routes ≡ routes_of word
-unfolding routes_of
+pub routes_read : (word : List ℕ) (routes : List (List ℕ)) (words : Words) → word_at words ≡ None → option_map (λ more. routes ++ more) (all_of (list_of place_of) words) ≡ all_of (list_of place_of) (parts 47 word) → length routes ≤ 8 → Some routes ≡ routes_spelled word
+unfolding routes_spelled
 routes_read word routes [] none all few = rw (sym all, nil routes, low (length routes) few) refl
   where
     nil : (xs : List (List ℕ)) → xs ++ [] ≡ xs

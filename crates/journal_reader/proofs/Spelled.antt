@@ -10,7 +10,7 @@ use Rattle.std.proofs.lemmas.Slice.Eq.{bytes_eq-Decides}
 use Rattle.std.proofs.lemmas.Bool.Decides.{nat_tests}
 use Rattle.std.proofs.lemmas.List.Splits.{slice_split_at, slice_split_none}
 use Rattle.influence_line.specs.Fractions.{Ratio, ratio_text}
-use Rattle.permit_days.specs.Days.{day_of as day_in_month, has_shape, is_day, month_of, year_of}
+use Rattle.permit_days.specs.Days.{day_of_month as day_in_month, has_shape, is_day, month_of, year_of}
 use Rattle.permit_days.specs.declared.refusal.DayRefusal.{DayRefusal}
 use Rattle.permit_days.specs.declared.refusal.DayRefusal.TheVariants.{Shape, NoSuchDay}
 use Rattle.restriction_log.specs.declared.change.Change.{Change}
@@ -38,9 +38,9 @@ use Rattle.office_words.specs.declared.entry.Entry.{Entry}
 use Rattle.journal_text.specs.Words.{Words, group, index, list_text, routes_text, spaced}
 use Rattle.journal_text.specs.Entries.{application_words, asked_words, call_words, cause_words, change_words, days_words, limit_words, replaced_words, reply_words, standing_words, status_words, what_words}
 use Rattle.journal_text.specs.Journals.{line_of}
-use Rattle.journal_reader.specs.Words.{day_at, day_of, fraction_of, group_of, list_of, number32, number_at, number_of, pair_of, parts, place_at, place_of, routes_of, wide_of}
+use Rattle.journal_reader.specs.Words.{day_at, day_spelled, fraction_of, group_of, list_of, number32, read_number, number_spelled, pair_of, parts, place_at, place_of, routes_spelled, wide_of}
 use Rattle.journal_reader.specs.Fits.{FitsApplication, FitsAsked, FitsCall, FitsCause, FitsChange, FitsDay, FitsEntry, FitsIndex, FitsIndices, FitsLimit, FitsNumber, FitsNumbers, FitsRatio, FitsReply, FitsRoutes, FitsStatus, FitsWhat}
-use Rattle.journal_reader.specs.Readers.{application_at, asked_at, bare_reply, call_at, cause_at, change_at, days_at, effect_at, entry_of, entry_words, fraction_at, group_limit, held_at, issued_at, last_reply, limit_at, list_at, named_number, named_place, named_routes, numbers_at, outdated_at, over_limit, plain_call, plain_reply, posted_at, refused_at, reply_at, routes_at, segment_change, shown_at, span_change, span_limit, standing_at, status_at, submit_at, tridem_limit, trip_at, what_at, whose_at}
+use Rattle.journal_reader.specs.Readers.{application_at, asked_at, bare_reply, call_at, cause_at, change_at, days_at, effect_at, entry_of, entry_words, fraction_at, read_group_limit, held_at, issued_at, last_reply, limit_at, list_at, named_number, named_place, named_routes, numbers_at, outdated_at, read_over_limit, plain_call, plain_reply, posted_at, refused_at, reply_at, routes_at, segment_change, shown_at, span_change, read_span_limit, standing_at, status_at, submit_at, read_tridem_limit, trip_at, what_at, whose_at}
 use Rattle.journal_reader.proofs.Lowest.{lowest_test}
 use Rattle.journal_reader.proofs.Clean.{all_again, all_append, all_words, is_dark, is_no, is_word, joined_all, keeps, left_spaced, list_again, no_digit, parts_joined, word_day, word_index, word_indices, word_number, word_numbers, word_routes}
 
@@ -51,13 +51,13 @@ lt_true a b h = grind (arith, nat_tests)
 le_true : (a b : ℕ) → a ≤ b → leb a b ≡ true
 le_true a b h = grind (arith, nat_tests)
 
-number_again : (bound n : ℕ) → n < bound → n < 10 ^ 64 → number_of bound (decimal n) ≡ Some n
-unfolding number_of
+number_again : (bound n : ℕ) → n < bound → n < 10 ^ 64 → number_spelled bound (decimal n) ≡ Some n
+unfolding number_spelled
 number_again bound n h k =
     rw ((decimal_is_IsNumeral_wide n k).1, (bytes_eq-Decides (decimal n) (decimal n)).1 refl, lt_true n bound h) refl
 
-number_at_again : (n : ℕ) (ws : Words) → n < 2 ^ 32 → number_at (decimal n ∷ ws) ≡ Some (n, ws)
-unfolding number_at
+number_at_again : (n : ℕ) (ws : Words) → n < 2 ^ 32 → read_number (decimal n ∷ ws) ≡ Some (n, ws)
+unfolding read_number
 number_at_again n ws h = rw (number_again (2 ^ 32) n h (omega arith)) refl
 
 place_again : (i : ℕ) → i < 65536 → place_of (index i) ≡ Some i
@@ -68,8 +68,8 @@ place_at_again : (i : ℕ) (ws : Words) → i < 65536 → place_at (index i ∷ 
 unfolding place_at
 place_at_again i ws h = rw (place_again i h) refl
 
-day_again : (day : List ℕ) → FitsDay day → day_of day ≡ Some day
-unfolding day_of
+day_again : (day : List ℕ) → FitsDay day → day_spelled day ≡ Some day
+unfolding day_spelled
 day_again day h = by (has_shape day) (is_day (year_of day) (month_of day) (day_in_month day)) h
   where
     by : (a b : Bool) → (a && b) ≡ true → result_ok {E = DayRefusal} (cond (not a) (Err Shape) (cond (not b) (Err NoSuchDay) (Ok day))) ≡ Some day
@@ -82,15 +82,15 @@ unfolding day_at
 day_at_again day ws h = rw (day_again day h) refl
 
 number_dash : number32 (codes "-") ≡ None
-unfolding number_of digits
+unfolding number_spelled digits
 number_dash = refl
 
 place_dash : place_of (codes "-") ≡ None
-unfolding place_of number_of digits
+unfolding place_of number_spelled digits
 place_dash = refl
 
-none_is_no_route : routes_of (codes "none") ≡ None
-unfolding routes_of list_of place_of number_of digits
+none_is_no_route : routes_spelled (codes "none") ≡ None
+unfolding routes_spelled list_of place_of number_spelled digits
 none_is_no_route = refl
 
 numbers_again : (xs : List ℕ) → FitsNumbers xs → list_of number32 (list_text decimal xs) ≡ Some xs
@@ -103,8 +103,8 @@ no_slash : (xs : List ℕ) → list_all (is_no 47) (list_text index xs) ≡ true
 no_slash [] = refl
 no_slash (x ∷ xs) = joined_all (is_no 47) 44 index refl (λ i. no_digit 47 (omega arith) (i + 1)) (x ∷ xs)
 
-routes_again : (routes : List (List ℕ)) → FitsRoutes routes → routes_of (routes_text routes) ≡ Some routes
-unfolding routes_of
+routes_again : (routes : List (List ℕ)) → FitsRoutes routes → routes_spelled (routes_text routes) ≡ Some routes
+unfolding routes_spelled
 routes_again [] (are, fits) = absurd (omega (arith, are.some))
 routes_again (route ∷ routes) (are, fits) =
     rw (parts_joined 47 (list_text index) no_slash route routes, all_again (list_of place_of) (list_text index) FitsIndices indices_again (route ∷ routes) fits, le_true (length (route ∷ routes)) 8 are.few) refl
@@ -148,7 +148,7 @@ unfolding effect_at named_number
 effect_again name f g n ws hf hg hn = rw (fraction_at_again f _ hf, fraction_at_again g _ hg, number_at_again n) refl
 
 limit_again : (l : Limit) (ws : Words) → FitsLimit l → limit_at (limit_words l ws) ≡ Some (l, ws)
-unfolding limit_at group_limit tridem_limit span_limit over_limit named_number named_place
+unfolding limit_at read_group_limit read_tridem_limit read_span_limit read_over_limit named_number named_place
 limit_again (limit.Closed s) ws h = rw (place_at_again s) refl
 limit_again (limit.Height s n m) ws (h, k, l) = rw (place_at_again s, number_at_again n, number_at_again m) refl
 limit_again (limit.Width s n m) ws (h, k, l) = rw (place_at_again s, number_at_again n, number_at_again m) refl
@@ -164,9 +164,9 @@ unfolding asked_at
 asked_again None ws h = refl
 asked_again (Some routes) ws h = by (bytes_eq (routes_text routes) (codes "none")) refl
   where
-    by : (b : Bool) → bytes_eq (routes_text routes) (codes "none") ≡ b → cond {A = Option (Option (List (List ℕ)) × Words)} b (Some (None, ws)) (option_map (λ r. (Some r, ws)) (routes_of (routes_text routes))) ≡ Some (Some routes, ws)
+    by : (b : Bool) → bytes_eq (routes_text routes) (codes "none") ≡ b → cond {A = Option (Option (List (List ℕ)) × Words)} b (Some (None, ws)) (option_map (λ r. (Some r, ws)) (routes_spelled (routes_text routes))) ≡ Some (Some routes, ws)
     by false e = rw (routes_again routes h) refl
-    by true e = absurd (differ (sym (routes_again routes h) ∙ (ap routes_of ((bytes_eq-Decides (routes_text routes) (codes "none")).0 e) ∙ none_is_no_route)))
+    by true e = absurd (differ (sym (routes_again routes h) ∙ (ap routes_spelled ((bytes_eq-Decides (routes_text routes) (codes "none")).0 e) ∙ none_is_no_route)))
       where
         differ : Some routes ≡ None → ⊥
         differ q = cc

@@ -13,7 +13,7 @@ use Rattle.journal_text.specs.Words.{Words, index, spaced}
 use Rattle.journal_text.specs.declared.format.Format.{Format}
 use Rattle.journal_text.specs.declared.format.Format.TheVariants.{One, Two, Three}
 use Rattle.journal_text.specs.Journals.{end_line, ended, first_line, journal_in, line_of}
-use Rattle.journal_reader.specs.Words.{IsTextOf, number_of, parts, place_of}
+use Rattle.journal_reader.specs.Words.{IsTextOf, number_spelled, parts, place_of}
 use Rattle.journal_reader.specs.Fits.{FitsEntry}
 use Rattle.journal_reader.specs.Formats.{FitsIn, HasJournalIn}
 use Rattle.journal_reader.specs.Laws.{NoProperPrefix}
@@ -115,7 +115,7 @@ no_feed (b ∷ a) x (h, hs) = no_feed a x hs
 
 -- an end line is no entry
 no_entry : (n : ℕ) → entry_of (end_line n) ≡ None
-unfolding entry_of place_of number_of digits
+unfolding entry_of place_of number_spelled digits
 no_entry n = refl
 
 pub entry_is_no_end : (e : Entry) (n : ℕ) → FitsEntry e → line_of e ≢ end_line n

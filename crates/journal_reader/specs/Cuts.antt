@@ -15,7 +15,7 @@ IsOther line = IsLine line × (begins_end line ≡ false)
 
 -- the bytes are these two parts: the first ends with the first line that begins with `end `, and its line feed; where there is
 -- no such line, it is all of them
-pub record IsCut (bytes front rest : List ℕ) : Type 0 where
+pub record IsCutBehindEnd (bytes front rest : List ℕ) : Type 0 where
   pub whole : bytes ≡ front ++ rest
   pub before : List (List ℕ)
   pub others : AllByRecursion IsOther before
@@ -27,4 +27,4 @@ pub record IsCut (bytes front rest : List ℕ) : Type 0 where
 -- bytes are cut in one way alone
 abbrev pub CutsAreOne : Type 0
 CutsAreOne =
-    (bytes front rest other more : List ℕ) → IsCut bytes front rest → IsCut bytes other more → (front ≡ other) × (rest ≡ more)
+    (bytes front rest other more : List ℕ) → IsCutBehindEnd bytes front rest → IsCutBehindEnd bytes other more → (front ≡ other) × (rest ≡ more)

@@ -67,6 +67,6 @@ IsWhy text (refusal.BadLine row) = IsBadLine text row
 IsWhy text refusal.NoMemory = Unit {0}
 
 -- the history that the text is the journal of, or why it is refused
-abbrev pub IsAnswer : List ℕ → Result (List Entry) JournalRefusal → Type 0
-IsAnswer text (Ok history) = IsJournalOf history text
-IsAnswer text (Err why) = IsWhy text why
+abbrev pub IsJournalRead : List ℕ → Result (List Entry) JournalRefusal → Type 0
+IsJournalRead text (Ok history) = IsJournalOf history text
+IsJournalRead text (Err why) = IsWhy text why

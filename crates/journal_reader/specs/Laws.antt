@@ -5,7 +5,7 @@ use Rattle.journal_text.specs.declared.format.Format.{Format}
 use Rattle.journal_text.specs.Journals.{journal_in, journal_of}
 use Rattle.journal_reader.specs.Formats.{HasJournalIn}
 use Rattle.journal_reader.specs.Fits.{FitsHistory}
-use Rattle.journal_reader.specs.Journals.{IsAnswer, IsJournalOf}
+use Rattle.journal_reader.specs.Journals.{IsJournalRead, IsJournalOf}
 use Rattle.journal_reader.specs.declared.refusal.JournalRefusal.{JournalRefusal}
 use Rattle.journal_reader.specs.declared.refusal.JournalRefusal.TheVariants.{NoMemory}
 
@@ -22,12 +22,12 @@ NoProperPrefix =
 -- an answer other than want of memory is determined by the text
 abbrev pub OneAnswer : Type 0
 OneAnswer = (text : List ℕ) (a b : Result (List Entry) JournalRefusal)
-    → IsAnswer text a → IsAnswer text b → a ≢ Err NoMemory → b ≢ Err NoMemory → a ≡ b
+    → IsJournalRead text a → IsJournalRead text b → a ≢ Err NoMemory → b ≢ Err NoMemory → a ≡ b
 
 -- what is printed is read back, unless there is no memory
 abbrev pub PrintedIsRead : Type 0
 PrintedIsRead = (history : List Entry) (answer : Result (List Entry) JournalRefusal)
-    → FitsHistory history → IsAnswer (journal_of history) answer → (answer ≡ Ok history) ⊎ (answer ≡ Err NoMemory)
+    → FitsHistory history → IsJournalRead (journal_of history) answer → (answer ≡ Ok history) ⊎ (answer ≡ Err NoMemory)
 
 -- a journal has at least five bytes for each entry
 abbrev pub JournalsAreLong : Type 0

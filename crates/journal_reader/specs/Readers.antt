@@ -30,7 +30,7 @@ use Rattle.journal_text.specs.Entries.{call_words, days_words, limit_words, repl
 use Rattle.journal_text.specs.declared.format.Format.{Format}
 use Rattle.journal_reader.specs.Formats.{if_said}
 use Rattle.journal_reader.specs.Fits.{FitsDay, FitsEntry, FitsIndex, FitsLimit, FitsNumber, FitsRatio, FitsReply, FitsStatus}
-use Rattle.journal_reader.specs.Words.{Spells, after_word, day_at, fraction_of, group_of, is_empty, list_of, number32, number_at, parts, place_at, place_of, routes_of, word_at, ◌>>=◌}
+use Rattle.journal_reader.specs.Words.{Spells, after_word, day_at, fraction_of, group_of, is_empty, list_of, number32, read_number, parts, place_at, place_of, routes_spelled, word_at, ◌>>=◌}
 
 -- words that are read in one go
 abbrev pub trip_words : (ℕ × ℕ × ℕ) → Words → Words
@@ -97,7 +97,7 @@ numbers_at named ws = do
 unfoldable pub routes_at : Words → Option (List (List ℕ) × Words)
 routes_at ws = do
   w ← word_at ws
-  routes ← routes_of w.0
+  routes ← routes_spelled w.0
   Some (routes, w.1)
 
 unfoldable pub named_routes : List ℕ → Words → Option (List (List ℕ) × Words)
@@ -109,7 +109,7 @@ named_routes named ws = do
 unfoldable pub named_number : List ℕ → Words → Option (ℕ × Words)
 named_number named ws = do
   rest ← after_word named ws
-  number_at rest
+  read_number rest
 
 unfoldable pub named_place : List ℕ → Words → Option (ℕ × Words)
 named_place named ws = do
@@ -133,7 +133,7 @@ segment_change ws = do
   s ← place_at ws
   named ← word_at s.1
   what ← what_of named.0
-  n ← number_at named.1
+  n ← read_number named.1
   if may_stand what n.0 then Some (change_of s.0 what n.0, n.1) else None
 
 unfoldable pub span_change : Words → Option (Change × Words)
@@ -149,9 +149,9 @@ change_at ws = do
       else if bytes_eq kind.0 (codes "span") then span_change kind.1
       else None
 
-unfoldable pub over_limit : ℕ → List ℕ → Words → Option (Limit × Words)
-over_limit segment named ws = do
-  has ← number_at ws
+unfoldable pub read_over_limit : ℕ → List ℕ → Words → Option (Limit × Words)
+read_over_limit segment named ws = do
+  has ← read_number ws
   allowed ← named_number (codes "over") has.1
   if bytes_eq named (codes "height") then Some (limit.Height segment has.0 allowed.0, allowed.1)
       else if bytes_eq named (codes "width") then Some (limit.Width segment has.0 allowed.0, allowed.1)
@@ -159,8 +159,8 @@ over_limit segment named ws = do
       else if bytes_eq named (codes "gross") then Some (limit.Gross segment has.0 allowed.0, allowed.1)
       else None
 
-unfoldable pub group_limit : ℕ → Words → Option (Limit × Words)
-group_limit segment ws = do
+unfoldable pub read_group_limit : ℕ → Words → Option (Limit × Words)
+read_group_limit segment ws = do
   w ← word_at ws
   g ← group_of w.0
   weight ← named_number (codes "weight") w.1
@@ -168,8 +168,8 @@ group_limit segment ws = do
   allowance ← named_number (codes "allowance") most.1
   Some (limit.Group segment g.0 g.1 weight.0 most.0 allowance.0, allowance.1)
 
-unfoldable pub tridem_limit : ℕ → Words → Option (Limit × Words)
-tridem_limit segment ws = do
+unfoldable pub read_tridem_limit : ℕ → Words → Option (Limit × Words)
+read_tridem_limit segment ws = do
   w ← word_at ws
   g ← group_of w.0
   weight ← named_number (codes "weight") w.1
@@ -185,8 +185,8 @@ effect_at ws = do
   rating ← named_number (codes "rating") design.1
   Some ((has.0, design.0, rating.0), rating.1)
 
-unfoldable pub span_limit : ℕ → Words → Option (Limit × Words)
-span_limit segment ws = do
+unfoldable pub read_span_limit : ℕ → Words → Option (Limit × Words)
+read_span_limit segment ws = do
   span ← place_at ws
   named ← word_at span.1
   e ← effect_at named.1
@@ -199,10 +199,10 @@ limit_at ws = do
   s ← named_place (codes "segment") ws
   named ← word_at s.1
   if bytes_eq named.0 (codes "closed") then Some (limit.Closed s.0, named.1)
-      else if bytes_eq named.0 (codes "group") then group_limit s.0 named.1
-      else if bytes_eq named.0 (codes "tridem") then tridem_limit s.0 named.1
-      else if bytes_eq named.0 (codes "span") then span_limit s.0 named.1
-      else over_limit s.0 named.0 named.1
+      else if bytes_eq named.0 (codes "group") then read_group_limit s.0 named.1
+      else if bytes_eq named.0 (codes "tridem") then read_tridem_limit s.0 named.1
+      else if bytes_eq named.0 (codes "span") then read_span_limit s.0 named.1
+      else read_over_limit s.0 named.0 named.1
 
 -- the first and the last day
 unfoldable pub days_at : Words → Option ((List ℕ × List ℕ) × Words)
@@ -218,7 +218,7 @@ asked_at ws = do
   rest ← after_word (codes "asked") ws
   w ← word_at rest
   if bytes_eq w.0 (codes "none") then Some (None, w.1)
-      else option_map (λ routes. (Some routes, w.1)) (routes_of w.0)
+      else option_map (λ routes. (Some routes, w.1)) (routes_spelled w.0)
 
 -- the truck, and the nodes where the trip begins and ends
 unfoldable pub trip_at : Words → Option ((ℕ × ℕ × ℕ) × Words)
@@ -269,8 +269,8 @@ plain_call kind ws =
     if bytes_eq kind (codes "snapshot") then Some (call.Snapshot, ws)
     else if bytes_eq kind (codes "post") then option_map (λ c. (call.Post c.0, c.1)) (change_at ws)
     else if bytes_eq kind (codes "day") then option_map (λ d. (call.Day d.0, d.1)) (day_at ws)
-    else if bytes_eq kind (codes "surrender") then option_map (λ n. (call.Surrender n.0, n.1)) (number_at ws)
-    else if bytes_eq kind (codes "show") then option_map (λ n. (call.Show n.0, n.1)) (number_at ws)
+    else if bytes_eq kind (codes "surrender") then option_map (λ n. (call.Surrender n.0, n.1)) (read_number ws)
+    else if bytes_eq kind (codes "show") then option_map (λ n. (call.Show n.0, n.1)) (read_number ws)
     else None
 
 unfoldable pub call_at : Words → Option (Call × Words)
@@ -284,7 +284,7 @@ unfoldable pub status_at : Words → Option (Status × Words)
 status_at ws = do
   w ← word_at ws
   if bytes_eq w.0 (codes "inforce") then Some (status.InForce, w.1)
-      else if bytes_eq w.0 (codes "recalled") then option_map (λ n. (status.Recalled n.0, n.1)) (number_at w.1)
+      else if bytes_eq w.0 (codes "recalled") then option_map (λ n. (status.Recalled n.0, n.1)) (read_number w.1)
       else if bytes_eq w.0 (codes "surrendered") then Some (status.Surrendered, w.1)
       else if bytes_eq w.0 (codes "expired") then Some (status.Expired, w.1)
       else None
@@ -298,33 +298,33 @@ cause_at ws = do
 
 unfoldable pub issued_at : Words → Option (Reply × Words)
 issued_at ws = do
-  number ← number_at ws
+  number ← read_number ws
   version ← named_number (codes "at") number.1
   routes ← named_routes (codes "route") version.1
   Some (reply.Issued number.0 version.0 routes.0, routes.1)
 
 unfoldable pub posted_at : Words → Option (Reply × Words)
 posted_at ws = do
-  version ← number_at ws
+  version ← read_number ws
   recalled ← numbers_at (codes "recalled") version.1
   Some (reply.Posted version.0 recalled.0, recalled.1)
 
 unfoldable pub refused_at : Words → Option (Reply × Words)
 refused_at ws = do
-  version ← number_at ws
+  version ← read_number ws
   why ← limit_at version.1
   Some (reply.Refused version.0 why.0, why.1)
 
 unfoldable pub outdated_at : Words → Option (Reply × Words)
 outdated_at ws = do
-  version ← number_at ws
+  version ← read_number ws
   why ← cause_at version.1
   Some (reply.Outdated version.0 why.0, why.1)
 
 -- whose permit is shown, and how it stands
 unfoldable pub whose_at : Words → Option ((ℕ × ℕ × ℕ) × Words)
 whose_at ws = do
-  number ← number_at ws
+  number ← read_number ws
   caller ← named_place (codes "caller") number.1
   truck ← named_place (codes "truck") caller.1
   Some ((number.0, caller.0, truck.0), truck.1)
@@ -358,7 +358,7 @@ bare_reply kind =
 -- a reply that holds no list
 unfoldable pub plain_reply : List ℕ → Words → Option (Reply × Words)
 plain_reply kind ws =
-    if bytes_eq kind (codes "at") then option_map (λ n. (reply.SnapshotAt n.0, n.1)) (number_at ws)
+    if bytes_eq kind (codes "at") then option_map (λ n. (reply.SnapshotAt n.0, n.1)) (read_number ws)
     else if bytes_eq kind (codes "refused") then refused_at ws
     else if bytes_eq kind (codes "outdated") then outdated_at ws
     else if bytes_eq kind (codes "late") then option_map (λ d. (reply.Late d.0, d.1)) (day_at ws)

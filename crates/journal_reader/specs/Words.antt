@@ -51,15 +51,15 @@ value_from n [] = n
 value_from n (c ∷ cs) = value_from (n * 10 + (c - 48)) cs
 
 -- the number below a bound that a word spells: there is one spelling of each
-unfoldable pub number_of : ℕ → List ℕ → Option ℕ
-number_of bound word = if bytes_eq (decimal (digits_value 10 word)) word && nat_lt (digits_value 10 word) bound then Some (digits_value 10 word) else None
+unfoldable pub number_spelled : ℕ → List ℕ → Option ℕ
+number_spelled bound word = if bytes_eq (decimal (digits_value 10 word)) word && nat_lt (digits_value 10 word) bound then Some (digits_value 10 word) else None
 
 abbrev pub number32 : List ℕ → Option ℕ
-number32 word = number_of (2 ^ 32) word
+number32 word = number_spelled (2 ^ 32) word
 
-unfoldable pub number_at : Words → Option (ℕ × Words)
-number_at [] = None
-number_at (w ∷ ws) = option_map (λ n. (n, ws)) (number32 w)
+unfoldable pub read_number : Words → Option (ℕ × Words)
+read_number [] = None
+read_number (w ∷ ws) = option_map (λ n. (n, ws)) (number32 w)
 
 -- an index, counted from 1
 unfoldable pub place_of : List ℕ → Option ℕ
@@ -72,12 +72,12 @@ place_at [] = None
 place_at (w ∷ ws) = option_map (λ n. (n, ws)) (place_of w)
 
 -- a day
-unfoldable pub day_of : List ℕ → Option (List ℕ)
-day_of word = result_ok (reading_of word)
+unfoldable pub day_spelled : List ℕ → Option (List ℕ)
+day_spelled word = result_ok (reading_of word)
 
 unfoldable pub day_at : Words → Option (List ℕ × Words)
 day_at [] = None
-day_at (w ∷ ws) = option_map (λ d. (d, ws)) (day_of w)
+day_at (w ∷ ws) = option_map (λ d. (d, ws)) (day_spelled w)
 
 -- what each of some words spells
 abbrev pub all_of : {A : Type 0} → (List ℕ → Option A) → Words → Option (List A)
@@ -93,8 +93,8 @@ abbrev pub if_few : List (List ℕ) → Option (List (List ℕ))
 if_few routes = if nat_le (length routes) 8 then Some routes else None
 
 -- routes: lists of indices between slashes
-unfoldable pub routes_of : List ℕ → Option (List (List ℕ))
-routes_of word = all_of (list_of place_of) (parts 47 word) >>= if_few
+unfoldable pub routes_spelled : List ℕ → Option (List (List ℕ))
+routes_spelled word = all_of (list_of place_of) (parts 47 word) >>= if_few
 
 -- two parts with a separator between them
 unfoldable pub pair_of : {A B : Type 0} → ℕ → (List ℕ → Option A) → (List ℕ → Option B) → List ℕ → Option (A × B)
@@ -115,7 +115,7 @@ unfoldable pub is_lowest : Ratio → Bool
 is_lowest f = nat_le 1 f.den && (divisor_in (f.den + 1) f.num f.den == 1)
 
 abbrev pub wide_of : List ℕ → Option ℕ
-wide_of word = number_of (2 ^ 128) word
+wide_of word = number_spelled (2 ^ 128) word
 
 -- a fraction in lowest terms
 unfoldable pub fraction_of : List ℕ → Option Ratio

@@ -4,7 +4,7 @@ ghost use Rattle.std.specs.Prelude.{◌≡◌, ◌<◌, ◌∷◌, IfSome, IfOk,
 ghost use Rattle.std.specs.Fmt.{decimal};
 ghost use Rattle.journal_text.specs.Words.{index, list_text, routes_text};
 ghost use Rattle.journal_text.specs.Entries.{application_words, asked_words, call_words, change_words, days_words, what_words};
-ghost use Rattle.journal_reader.specs.Words.{Spells, left, list_of, place_of, routes_of, seen, word_at};
+ghost use Rattle.journal_reader.specs.Words.{Spells, left, list_of, place_of, routes_spelled, seen, word_at};
 ghost use Rattle.journal_reader.specs.Fits.{FitsApplication, FitsAsked, FitsCall, FitsChange, FitsDay, FitsIndex, FitsIndices, FitsNumber, FitsWhat};
 ghost use Rattle.journal_reader.specs.Readers.{FitsTerm, FitsTrip, term_words, trip_words, application_at, asked_at, call_at, change_at, days_at, held_at, plain_call, submit_at, trip_at, what_at};
 

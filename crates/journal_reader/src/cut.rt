@@ -1,7 +1,7 @@
 // A journal in front of something else.
 
 ghost use Rattle.std.specs.Prelude.{◌≡◌, ◌++◌, List, ℕ};
-ghost use Rattle.journal_reader.specs.Cuts.{IsCut, begins_end};
+ghost use Rattle.journal_reader.specs.Cuts.{IsCutBehindEnd, begins_end};
 
 use crate::parts::line;
 
@@ -17,7 +17,7 @@ pub struct Cut<'a> {
 /// Cuts bytes behind the first line that begins with `end `, which is where a journal ends. Takes no memory.
 #[tactic(auto, using(crate::proofs::Cutting::none_passed, crate::proofs::Cutting::one_passed, crate::proofs::Cutting::cut_here, crate::proofs::Cutting::no_cut))]
 pub fn cut_behind_end(bytes: &[u8]) -> Cut
-    ensures { IsCut bytes.now result.front.now result.rest.now }
+    ensures { IsCutBehindEnd bytes.now result.front.now result.rest.now }
 {
     let mut rest = bytes;
     'lines: while let Some((found, behind)) = line(rest) {

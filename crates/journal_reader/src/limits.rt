@@ -8,7 +8,7 @@ ghost use Rattle.journal_text.specs.Words.{group, index};
 ghost use Rattle.journal_text.specs.Entries.{cause_words, change_words, effect_words, limit_words};
 ghost use Rattle.journal_reader.specs.Words.{Spells, group_of, left, seen, word_at};
 ghost use Rattle.journal_reader.specs.Fits.{FitsCause, FitsChange, FitsIndex, FitsLimit, FitsNumber, FitsRatio};
-ghost use Rattle.journal_reader.specs.Readers.{FitsRated, SpellsLimitOf, rated_words, cause_at, change_at, effect_at, group_limit, limit_at, may_stand, over_limit, segment_change, span_change, span_limit, tridem_limit};
+ghost use Rattle.journal_reader.specs.Readers.{FitsRated, SpellsLimitOf, rated_words, cause_at, change_at, effect_at, read_group_limit, limit_at, may_stand, read_over_limit, segment_change, span_change, read_span_limit, read_tridem_limit};
 
 use crate::numbers::{group_in, is};
 use crate::words::{after, fraction, named_number, named_place, number, place, word};
@@ -129,9 +129,9 @@ fn span_change(rest: &[u8]) -> Option<(Change, &[u8])>
 }
 
 // What the load has, over what is posted.
-#[tactic(auto, unfolding(crate::specs::Readers::over_limit))]
+#[tactic(auto, unfolding(crate::specs::Readers::read_over_limit))]
 fn over_limit<'a>(segment: u32, named: &[u8], rest: &'a [u8]) -> Option<(Limit, &'a [u8])>
-    ensures exact { seen result ≡ over_limit segment named.now (left rest.now) }
+    ensures exact { seen result ≡ read_over_limit segment named.now (left rest.now) }
     ensures sound { SpellsLimitOf segment named.now (left rest.now) result }
 {
     let Some((has, rest)) = number(rest) else {
@@ -182,9 +182,9 @@ fn over_limit<'a>(segment: u32, named: &[u8], rest: &'a [u8]) -> Option<(Limit, 
 }
 
 // A group of axles over its allowance.
-#[tactic(auto, unfolding(crate::specs::Readers::group_limit))]
+#[tactic(auto, unfolding(crate::specs::Readers::read_group_limit))]
 fn group_limit(segment: u32, rest: &[u8]) -> Option<(Limit, &[u8])>
-    ensures exact { seen result ≡ group_limit segment (left rest.now) }
+    ensures exact { seen result ≡ read_group_limit segment (left rest.now) }
     ensures sound { SpellsLimitOf segment (codes "group") (left rest.now) result }
 {
     if let Some((axles, rest)) = word(rest)
@@ -208,9 +208,9 @@ fn group_limit(segment: u32, rest: &[u8]) -> Option<(Limit, &[u8])>
 }
 
 // A tridem group over its posted weight.
-#[tactic(auto, unfolding(crate::specs::Readers::tridem_limit))]
+#[tactic(auto, unfolding(crate::specs::Readers::read_tridem_limit))]
 fn tridem_limit(segment: u32, rest: &[u8]) -> Option<(Limit, &[u8])>
-    ensures exact { seen result ≡ tridem_limit segment (left rest.now) }
+    ensures exact { seen result ≡ read_tridem_limit segment (left rest.now) }
     ensures sound { SpellsLimitOf segment (codes "tridem") (left rest.now) result }
 {
     if let Some((axles, rest)) = word(rest)
@@ -232,9 +232,9 @@ fn tridem_limit(segment: u32, rest: &[u8]) -> Option<(Limit, &[u8])>
 }
 
 // An effect over the rating of a span.
-#[tactic(auto, unfolding(crate::specs::Readers::span_limit))]
+#[tactic(auto, unfolding(crate::specs::Readers::read_span_limit))]
 fn span_limit(segment: u32, rest: &[u8]) -> Option<(Limit, &[u8])>
-    ensures exact { seen result ≡ span_limit segment (left rest.now) }
+    ensures exact { seen result ≡ read_span_limit segment (left rest.now) }
     ensures sound { SpellsLimitOf segment (codes "span") (left rest.now) result }
 {
     let Some((span, rest)) = place(rest) else {

@@ -6,7 +6,7 @@ ghost use Rattle.std.specs.Str.{bytes_eq};
 ghost use Rattle.std.specs.Str.Parse.{AllDigits};
 ghost use Rattle.influence_line.specs.Fractions.{ratio_text};
 ghost use Rattle.journal_text.specs.Words.{group, index, list_text};
-ghost use Rattle.journal_reader.specs.Words.{IsTextOf, all_of, day_of, fraction_of, group_of, list_of, number32, number_of, pair_of, parts, parts_left, place_of, value_from, wide_of, word_at};
+ghost use Rattle.journal_reader.specs.Words.{IsTextOf, all_of, day_spelled, fraction_of, group_of, list_of, number32, number_spelled, pair_of, parts, parts_left, place_of, value_from, wide_of, word_at};
 ghost use Rattle.journal_reader.specs.Fits.{FitsDay, FitsIndex, FitsIndices, FitsNumber, FitsNumbers, FitsRatio};
 
 use crate::parts::{first_part, is_done, part};
@@ -25,7 +25,7 @@ pub fn is(word: &[u8], text: &str) -> bool
 
 /// The number that a word spells.
 pub fn number_in(word: &[u8]) -> Option<u32>
-    ensures exact { result ≡ number_of (2 ^ 32) word.now }
+    ensures exact { result ≡ number_spelled (2 ^ 32) word.now }
     ensures sound { IfSome result (λ n. word.now ≡ decimal n) }
 {
     let n = value_in(word);
@@ -108,15 +108,15 @@ pub fn place_in(word: &[u8]) -> Option<u32>
 
 /// The day that a word spells.
 pub fn day_in(word: &[u8]) -> Option<Day>
-    ensures exact { result ≡ day_of word.now }
+    ensures exact { result ≡ day_spelled word.now }
     ensures sound { IsTextOf (λ day. day) FitsDay word.now result }
 {
     day_in_exact(word)
 }
 
-#[tactic(auto, unfolding(crate::specs::Words::day_of))]
+#[tactic(auto, unfolding(crate::specs::Words::day_spelled))]
 fn day_in_exact(word: &[u8]) -> Option<Day>
-    ensures { result ≡ day_of word.now }
+    ensures { result ≡ day_spelled word.now }
 {
     Day::read(word).ok()
 }

@@ -2,7 +2,7 @@
 
 ghost use Rattle.std.specs.Prelude.{◌≡◌, ◌++◌, ◌∷◌, [], IfOk, OnOk, IsTrue, length, nat_lt, true};
 ghost use Rattle.journal_text.specs.Words.{routes_text};
-ghost use Rattle.journal_reader.specs.Words.{IsTextOf, routes_of};
+ghost use Rattle.journal_reader.specs.Words.{IsTextOf, routes_spelled};
 ghost use Rattle.journal_reader.specs.Fits.{FitsRoutes};
 
 use crate::numbers::indices_in;
@@ -13,14 +13,14 @@ use trip_routes::{Routes, RoutesRefusal, SharedRoutes};
 
 /// The routes that a word spells.
 pub fn routes_in(alloc: Global, word: &[u8]) -> Result<Option<SharedRoutes>, AllocError>
-    ensures exact { IfOk result (λ found. found ≡ routes_of word.now) }
+    ensures exact { IfOk result (λ found. found ≡ routes_spelled word.now) }
     ensures sound { IfOk result (IsTextOf routes_text FitsRoutes word.now) }
 {
     routes_in_exact(alloc, word)
 }
 
 fn routes_in_exact(alloc: Global, word: &[u8]) -> Result<Option<SharedRoutes>, AllocError>
-    ensures { IfOk result (λ found. found ≡ routes_of word.now) }
+    ensures { IfOk result (λ found. found ≡ routes_spelled word.now) }
 {
     let Some(routes) = all_routes(alloc, word)? else {
         return Ok(None);
@@ -30,9 +30,9 @@ fn routes_in_exact(alloc: Global, word: &[u8]) -> Result<Option<SharedRoutes>, A
 }
 
 // The lists with slashes between them, if there are eight at most.
-#[tactic(auto, unfolding(crate::specs::Words::routes_of))]
+#[tactic(auto, unfolding(crate::specs::Words::routes_spelled))]
 fn all_routes(alloc: Global, word: &[u8]) -> Result<Option<Routes>, AllocError>
-    ensures { IfOk result (λ found. found ≡ routes_of word.now) }
+    ensures { IfOk result (λ found. found ≡ routes_spelled word.now) }
 {
     let (first, mut rest) = first_part(word, b'/');
     let Some(route) = indices_in(alloc, first)? else {

@@ -4,7 +4,7 @@ ghost use Rattle.std.specs.Prelude.{◌≡◌, ◌≢◌, ◌<◌, ◌^◌, ◌�
 ghost use Rattle.std.specs.Fmt.{decimal};
 ghost use Rattle.influence_line.specs.Fractions.{ratio_text};
 ghost use Rattle.journal_text.specs.Words.{index, list_text, numbers_words, routes_words};
-ghost use Rattle.journal_reader.specs.Words.{Spells, parts_seen, after_word, day_at, left, list_of, number32, number_at, number_of, place_at, place_of, routes_of, seen, word_at};
+ghost use Rattle.journal_reader.specs.Words.{Spells, parts_seen, after_word, day_at, left, list_of, number32, read_number, number_spelled, place_at, place_of, routes_spelled, seen, word_at};
 ghost use Rattle.journal_reader.specs.Fits.{FitsDay, FitsIndex, FitsIndices, FitsNumber, FitsNumbers, FitsRatio, FitsRoutes};
 ghost use Rattle.journal_reader.specs.Readers.{fraction_at, list_at, list_words, lists_words, named_number, named_place, named_routes, numbers_at, routes_at};
 
@@ -39,9 +39,9 @@ pub fn after<'a>(rest: &'a [u8], text: &str) -> Option<&'a [u8]>
 }
 
 /// A number.
-#[tactic(auto, unfolding(crate::specs::Words::number_at))]
+#[tactic(auto, unfolding(crate::specs::Words::read_number))]
 pub fn number(rest: &[u8]) -> Option<(u32, &[u8])>
-    ensures exact { seen result ≡ number_at (left rest.now) }
+    ensures exact { seen result ≡ read_number (left rest.now) }
     ensures sound { Spells (λ n ws. decimal n ∷ ws) FitsNumber (left rest.now) result }
 {
     if let Some((_, Some(n), rest)) = next_number(rest, b' ') {

@@ -5,11 +5,11 @@ use Rattle.convoy_moves.specs.Convoys.{EqualTrucks, IsConvoyPlaced}
 use Rattle.influence_line.specs.Fractions.{Ratio}
 use Rattle.influence_line.proofs.Unique.{moment_unique, shear_unique}
 use Rattle.day_text.specs.declared.check_file.Probe.{Probe}
-use Rattle.day_text.specs.Spans.{AreSpans, IsSpan}
+use Rattle.day_text.specs.Spans.{AreSpans, IsProbeSpan}
 use Rattle.check_report.proofs.Texts.{texts_are_one}
 use Rattle.loading_report.specs.Convoys.{IsConvoyReport, IsConvoyText, convoy_line, convoy_text}
 
-one_probe : (c : EqualTrucks) (probe : Probe) (a b : List ℕ) → IsSpan probe → IsConvoyText c probe a → IsConvoyText c probe b → a ≡ b
+one_probe : (c : EqualTrucks) (probe : Probe) (a b : List ℕ) → IsProbeSpan probe → IsConvoyText c probe a → IsConvoyText c probe b → a ≡ b
 one_probe c probe a b span h k =
     let Allowed = IsConvoyPlaced c in
     let moment = moment_unique Allowed probe.inches h.convoy.moment k.convoy.moment span.some
@@ -23,6 +23,6 @@ one_probe c probe a b span h k =
 pub one_convoy : (c : EqualTrucks) (probes : List Probe) (a b : List ℕ) → AreSpans probes
     → IsConvoyReport c probes a → IsConvoyReport c probes b → a ≡ b
 one_convoy c probes a b spans h k =
-    let same = texts_are_one (IsConvoyText c) IsSpan (one_probe c) probes h.texts k.texts
-    (recursion_from_All IsSpan probes spans) h.each k.each in
+    let same = texts_are_one (IsConvoyText c) IsProbeSpan (one_probe c) probes h.texts k.texts
+    (recursion_from_All IsProbeSpan probes spans) h.each k.each in
     h.lines ∙ (ap (λ x. convoy_line c ++ x) same ∙ sym k.lines)

@@ -6,12 +6,12 @@ use Rattle.axle_train.specs.declared.axle.Axle.{Axle}
 use Rattle.hs20_truck.proofs.OneEffects.{effects_are_one}
 use Rattle.design_loads.proofs.Choosing.{greatest_is_one}
 use Rattle.day_text.specs.declared.check_file.Probe.{Probe}
-use Rattle.day_text.specs.Spans.{AreSpans, IsSpan}
+use Rattle.day_text.specs.Spans.{AreSpans, IsProbeSpan}
 use Rattle.check_report.specs.Probes.{AreTexts}
 use Rattle.check_report.proofs.Texts.{texts_are_one}
 use Rattle.loading_report.specs.Designs.{IsDesignText, design_text}
 
-one_probe : (axles : List Axle) (probe : Probe) (a b : List ℕ) → IsTrain axles → IsSpan probe
+one_probe : (axles : List Axle) (probe : Probe) (a b : List ℕ) → IsTrain axles → IsProbeSpan probe
     → IsDesignText axles probe a → IsDesignText axles probe b → a ≡ b
 one_probe axles probe a b train span h k =
     let truck = effects_are_one axles probe.inches h.truck train span.some span.long h.peaks
@@ -23,5 +23,5 @@ one_probe axles probe a b train span h k =
 pub one_design : (axles : List Axle) (probes : List Probe) (a b : List ℕ) → IsTrain axles → AreSpans probes
     → AreTexts (IsDesignText axles) probes a → AreTexts (IsDesignText axles) probes b → a ≡ b
 one_design axles probes a b train spans =
-    let each = λ (probe : Probe) (one other : List ℕ) (span : IsSpan probe). one_probe axles probe one other train span in
-    texts_are_one (IsDesignText axles) IsSpan each probes a b (recursion_from_All IsSpan probes spans)
+    let each = λ (probe : Probe) (one other : List ℕ) (span : IsProbeSpan probe). one_probe axles probe one other train span in
+    texts_are_one (IsDesignText axles) IsProbeSpan each probes a b (recursion_from_All IsProbeSpan probes spans)

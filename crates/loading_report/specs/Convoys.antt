@@ -20,21 +20,21 @@ convoy_line c =
     ++ (codes " axles " ++ (decimal (axles_together c.axles c.trucks) ++ (codes " gross " ++ (decimal (gross_together c.axles c.trucks) ++ (10 ∷ []))))))))
 
 -- moment FRACTION
-abbrev pub moment_line : Ratio → List ℕ
-moment_line moment = codes "moment " ++ (ratio_text moment ++ (10 ∷ []))
+abbrev pub moment_fraction_line : Ratio → List ℕ
+moment_fraction_line moment = codes "moment " ++ (ratio_text moment ++ (10 ∷ []))
 
 -- shear FRACTION
-abbrev pub shear_line : Ratio → List ℕ
-shear_line shear = codes "shear " ++ (ratio_text shear ++ (10 ∷ []))
+abbrev pub shear_fraction_line : Ratio → List ℕ
+shear_fraction_line shear = codes "shear " ++ (ratio_text shear ++ (10 ∷ []))
 
 -- the first three lines on a probe: the span, and the convoy's peaks on it
-abbrev pub peaks_text : Probe → Effects → List ℕ
-peaks_text probe convoy = span_line probe ++ moment_line convoy.moment ++ shear_line convoy.shear
+abbrev pub convoy_peaks_text : Probe → Effects → List ℕ
+convoy_peaks_text probe convoy = span_line probe ++ moment_fraction_line convoy.moment ++ shear_fraction_line convoy.shear
 
 -- the four lines on a probe of a convoy with these effects: the last says whether they are within the rating, in thousandths of
 -- those of the HS20-44 truck
 abbrev pub convoy_text : Probe → Effects → List ℕ
-convoy_text probe convoy = peaks_text probe convoy ++ rating_line probe.rating (fit_of convoy (design_of probe.inches) probe.rating)
+convoy_text probe convoy = convoy_peaks_text probe convoy ++ rating_line probe.rating (fit_of convoy (design_of probe.inches) probe.rating)
 
 -- what is written of a convoy on one probe, by its peaks over all of its placements
 pub record IsConvoyText (c : EqualTrucks) (probe : Probe) (text : List ℕ) : Type 0 where

@@ -4,9 +4,9 @@ ghost use Rattle.std.specs.Prelude.{◌≡◌, ◌≤◌, IfOk, OnOk};
 ghost use Rattle.std.specs.String.{string_bytes};
 ghost use Rattle.span_rating.specs.Loading.{AreEffects};
 ghost use Rattle.convoy_moves.specs.Convoys.{IsConvoyPlaced};
-ghost use Rattle.day_text.specs.Spans.{AreSpans, IsSpan};
+ghost use Rattle.day_text.specs.Spans.{AreSpans, IsProbeSpan};
 ghost use Rattle.check_report.specs.Probes.{AddsOne, AreTexts, Grew};
-ghost use Rattle.loading_report.specs.Convoys.{IsConvoyReport, IsConvoyText, IsOnlyConvoyReport, convoy_line, convoy_refusal_line, moment_line, peaks_text, shear_line};
+ghost use Rattle.loading_report.specs.Convoys.{IsConvoyReport, IsConvoyText, IsOnlyConvoyReport, convoy_line, convoy_refusal_line, moment_fraction_line, convoy_peaks_text, shear_fraction_line};
 
 use check_report::{add_rating, add_span};
 use convoy_moves::{Convoy, ConvoyRefusal};
@@ -74,7 +74,7 @@ fn add_probes(text: &mut String, convoy: &Convoy, probes: &[Probe]) -> Result<()
 
 // The convoy on one probe.
 fn add_probe(text: &mut String, convoy: &Convoy, probe: &Probe) -> Result<(), AllocError>
-    requires { IsSpan probe.now }
+    requires { IsProbeSpan probe.now }
     ensures { OnOk result (AddsOne (IsConvoyText convoy.now probe.now) (string_bytes text.old) (string_bytes text.new)) }
 {
     let peaks = peaks_of(convoy, probe.inches);
@@ -97,7 +97,7 @@ fn peaks_of(convoy: &Convoy, span: u32) -> Effects
 
 // The span, and the convoy's peaks on it.
 fn add_peaks(text: &mut String, probe: &Probe, peaks: &Effects) -> Result<(), AllocError>
-    ensures { OnOk result (Grew text.old text.new (peaks_text probe.now peaks.now)) }
+    ensures { OnOk result (Grew text.old text.new (convoy_peaks_text probe.now peaks.now)) }
 {
     add_span(text, probe)?;
     add_moment(text, &peaks.moment)?;
@@ -106,14 +106,14 @@ fn add_peaks(text: &mut String, probe: &Probe, peaks: &Effects) -> Result<(), Al
 
 // The convoy's peak moment.
 fn add_moment(text: &mut String, moment: &Frac) -> Result<(), AllocError>
-    ensures { OnOk result (Grew text.old text.new (moment_line moment.now)) }
+    ensures { OnOk result (Grew text.old text.new (moment_fraction_line moment.now)) }
 {
     write!(text, "moment {moment}\n")
 }
 
 // The convoy's peak end shear.
 fn add_shear(text: &mut String, shear: &Frac) -> Result<(), AllocError>
-    ensures { OnOk result (Grew text.old text.new (shear_line shear.now)) }
+    ensures { OnOk result (Grew text.old text.new (shear_fraction_line shear.now)) }
 {
     write!(text, "shear {shear}\n")
 }

@@ -2,7 +2,7 @@
 
 ghost use Rattle.std.specs.Prelude.{◌≡◌, IfOk, OnOk};
 ghost use Rattle.std.specs.String.{string_bytes};
-ghost use Rattle.day_text.specs.Spans.{AreSpans, IsSpan};
+ghost use Rattle.day_text.specs.Spans.{AreSpans, IsProbeSpan};
 ghost use Rattle.check_report.specs.Probes.{AddsOne, AreTexts, Grew};
 ghost use Rattle.loading_report.specs.Designs.{IsDesignReport, IsDesignText, IsOnlyDesignReport, governing_moment_line, governing_shear_line, governing_text, load_name};
 
@@ -48,7 +48,7 @@ fn add_probes(text: &mut String, train: &Train, probes: &[Probe]) -> Result<(), 
 
 // The truck on one probe.
 fn add_probe(text: &mut String, train: &Train, probe: &Probe) -> Result<(), AllocError>
-    requires { IsSpan probe.now }
+    requires { IsProbeSpan probe.now }
     ensures { OnOk result (AddsOne (IsDesignText train.now probe.now) (string_bytes text.old) (string_bytes text.new)) }
 {
     let truck = effects_of(train, probe.inches);

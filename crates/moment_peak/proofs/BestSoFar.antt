@@ -8,7 +8,7 @@ use Rattle.moment_peak.specs.declared.best.Candidate.{Candidate}
 use Rattle.moment_peak.specs.declared.pair.Pair.{Pair}
 use Rattle.moment_peak.specs.Candidates.{IsAttained, IsValueOf}
 use Rattle.moment_peak.specs.Centres.{IsNoBetter}
-use Rattle.moment_peak.specs.Pairs.{weight_to, IsTight, IsPair, IsThere, IsUpTo, IsFirstPair, IsNextPair}
+use Rattle.moment_peak.specs.Pairs.{weight_to, IsTight, IsPair, IsThisPair, IsUpToPair, IsFirstPair, IsNextPair}
 use Rattle.moment_peak.specs.Runs.{run_value, run_weight, run_moment, moment_in, IsRun}
 use Rattle.moment_peak.specs.Sweeps.{IsSummed, IsOnSpan}
 use Rattle.moment_peak.proofs.BestBounds.{run_loaded}
@@ -38,16 +38,16 @@ attained_of span axles pair found train p v small some = record {
 }
 
 -- the pair itself is no better than what is no worse than its candidate
-itself : (span : ℕ) (axles : List Axle) (pair : Pair) (found result : Candidate) (k first last : ℕ) → IsPair span axles pair → IsValueOf span axles pair found → IsNoBetter axles result found.value found.run.sums.weight found.axle found.run.first found.run.last → IsThere pair k first last → IsNoBetter axles result (run_value span axles k first last) (run_weight axles first last) k first last
+itself : (span : ℕ) (axles : List Axle) (pair : Pair) (found result : Candidate) (k first last : ℕ) → IsPair span axles pair → IsValueOf span axles pair found → IsNoBetter axles result found.value found.run.sums.weight found.axle found.run.first found.run.last → IsThisPair pair k first last → IsNoBetter axles result (run_value span axles k first last) (run_weight axles first last) k first last
 itself span axles pair found result k first last p v met there = rw (there.at_axle, there.at_first, there.at_last) (rw (v.value, v.axle, v.run, p.on.sums.weight) at met)
 
 -- the first pair
-pub best_start : (span : ℕ) (axles : List Axle) (pair : Pair) (found : Candidate) → IsTrain axles → IsPair span axles pair → IsValueOf span axles pair found → IsFirstPair span axles pair → (k first last : ℕ) → IsTight span axles k first last → IsUpTo pair k first last → IsNoBetter axles found (run_value span axles k first last) (run_weight axles first last) k first last
+pub best_start : (span : ℕ) (axles : List Axle) (pair : Pair) (found : Candidate) → IsTrain axles → IsPair span axles pair → IsValueOf span axles pair found → IsFirstPair span axles pair → (k first last : ℕ) → IsTight span axles k first last → IsUpToPair pair k first last → IsNoBetter axles found (run_value span axles k first last) (run_weight axles first last) k first last
 best_start span axles pair found train p v is_first k first last t upto =
     itself span axles pair found found k first last p v (met_by_itself axles found train (value_summed span axles pair found p v)) (is_first k first last t upto)
 
 -- the next pair joins those before
-pub best_more : (span : ℕ) (axles : List Axle) (pair next : Pair) (best found result : Candidate) → IsTrain axles → IsPair span axles next → IsNextPair span axles pair next → ((k first last : ℕ) → IsTight span axles k first last → IsUpTo pair k first last → IsNoBetter axles best (run_value span axles k first last) (run_weight axles first last) k first last) → ((v w k first last : ℕ) → 0 < w → IsNoBetter axles best v w k first last → IsNoBetter axles result v w k first last) → IsValueOf span axles next found → IsNoBetter axles result found.value found.run.sums.weight found.axle found.run.first found.run.last → (k first last : ℕ) → IsTight span axles k first last → IsUpTo next k first last → IsNoBetter axles result (run_value span axles k first last) (run_weight axles first last) k first last
+pub best_more : (span : ℕ) (axles : List Axle) (pair next : Pair) (best found result : Candidate) → IsTrain axles → IsPair span axles next → IsNextPair span axles pair next → ((k first last : ℕ) → IsTight span axles k first last → IsUpToPair pair k first last → IsNoBetter axles best (run_value span axles k first last) (run_weight axles first last) k first last) → ((v w k first last : ℕ) → 0 < w → IsNoBetter axles best v w k first last → IsNoBetter axles result v w k first last) → IsValueOf span axles next found → IsNoBetter axles result found.value found.run.sums.weight found.axle found.run.first found.run.last → (k first last : ℕ) → IsTight span axles k first last → IsUpToPair next k first last → IsNoBetter axles result (run_value span axles k first last) (run_weight axles first last) k first last
 best_more span axles pair next best found result train p is_next before kept v met k first last t upto =
     elim (is_next k first last t upto) [
       | inl earlier ↦ kept (run_value span axles k first last) (run_weight axles first last) k first last (run_loaded axles k first last train.each t.is_run) (before k first last t earlier)

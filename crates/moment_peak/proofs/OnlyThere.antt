@@ -13,10 +13,10 @@ use Rattle.influence_line.specs.declared.placing.Place.{Place}
 use Rattle.influence_line.proofs.Sections.{StandsAt}
 use Rattle.moment_peak.specs.declared.best.Candidate.{Candidate}
 use Rattle.moment_peak.specs.declared.run.Run.{Run}
-use Rattle.moment_peak.specs.Centres.{HaveOneCentre, IsFirstBest, IsNoLater, IsWidest}
+use Rattle.moment_peak.specs.Centres.{HaveOneCentre, IsFirstBestPair, IsNoLater, IsWidest}
 use Rattle.moment_peak.specs.Pairs.{IsTight}
 use Rattle.moment_peak.specs.Runs.{run_weight, run_moment, run_value}
-use Rattle.moment_peak.specs.Vertices.{IsVertex, Reaches, IsFirstReached}
+use Rattle.moment_peak.specs.Vertices.{IsVertex, HasMomentAt, IsFirstReached}
 use Rattle.moment_peak.proofs.Bound.{SomeVertex, below_vertex_of}
 use Rattle.moment_peak.proofs.BestBounds.{run_loaded}
 use Rattle.moment_peak.proofs.SamePlace.{VertexAtPeak}
@@ -60,7 +60,7 @@ pub record TightOf (span : ℕ) (axles : List Axle) (num den k first last : ℕ)
   pub centre : HaveOneCentre axles first last first' last'
 
 module _ (axles : List Axle) (span num den : ℕ) (some : 1 ≤ span) (long : span ≤ 6000) (train : IsTrain axles) (peak : IsPeakMoment (IsTrainPlaced axles) span num den) where
-  from_some : (k first last : ℕ) (at : Place) → IsVertex axles span k first last at → 1 ≤ at.q → 0 < moment_sum (at.q * span) at.section (placed at.q at.lead axles) → Reaches axles span num den at → (s : SomeVertex at.q span (moment_sum (at.q * span) at.section (placed at.q at.lead axles)) at.section at.lead axles) → s.k ≡ k → TightOf span axles num den k first last
+  from_some : (k first last : ℕ) (at : Place) → IsVertex axles span k first last at → 1 ≤ at.q → 0 < moment_sum (at.q * span) at.section (placed at.q at.lead axles) → HasMomentAt axles span num den at → (s : SomeVertex at.q span (moment_sum (at.q * span) at.section (placed at.q at.lead axles)) at.section at.lead axles) → s.k ≡ k → TightOf span axles num den k first last
   from_some k first last at vertex scale high reaches s same_k =
       let p = peak_at axles span num den some train peak at.q (moment_sum (at.q * span) at.section (placed at.q at.lead axles)) at.section at.lead scale high reaches s in
       let R = run_weight axles first last in
@@ -76,7 +76,7 @@ module _ (axles : List Axle) (span num den : ℕ) (some : 1 ≤ span) (long : sp
       }
 
   -- a vertex at which the moment is the peak
-  tight_of : (k first last : ℕ) (at : Place) → IsVertex axles span k first last at → Reaches axles span num den at → TightOf span axles num den k first last
+  tight_of : (k first last : ℕ) (at : Place) → IsVertex axles span k first last at → HasMomentAt axles span num den at → TightOf span axles num den k first last
   tight_of k first last at vertex reaches =
       let m = moment_sum (at.q * span) at.section (placed at.q at.lead axles) in
       let b = vertex_bounds axles span k first last at long train vertex in
@@ -91,13 +91,13 @@ module _ (axles : List Axle) (span num den : ℕ) (some : 1 ≤ span) (long : sp
   as_high V R w v e h = eq_of_mul-eq-mul_right den peak.some (V * w) (v * R) (omega (arith, ap (λ t. w * t) e, ap (λ t. R * t) h))
 
   -- the best axle with its widest run is no later than any vertex at the peak
-  no_later : (best : Candidate) (found : Run) → IsFirstBest span axles best → num * (4 * best.run.sums.weight * span) ≡ best.value * den → IsWidest axles best.run.sums found → (k first last : ℕ) (at : Place) → IsVertex axles span k first last at → Reaches axles span num den at → IsNoLater best.axle found k first last
+  no_later : (best : Candidate) (found : Run) → IsFirstBestPair span axles best → num * (4 * best.run.sums.weight * span) ≡ best.value * den → IsWidest axles best.run.sums found → (k first last : ℕ) (at : Place) → IsVertex axles span k first last at → HasMomentAt axles span num den at → IsNoLater best.axle found k first last
   no_later best found is_first e w k first last at vertex reaches =
       let t = tight_of k first last at vertex reaches in
       (is_first k t.first' t.last' t.tight).order (as_high (run_value span axles k t.first' t.last') (run_weight axles t.first' t.last') best.run.sums.weight best.value t.exact e) found w first last (omega (arith, vertex.is_run.from, vertex.is_run.to)) vertex.is_run.within t.centre
 
   -- so it is the first of them
-  pub first_reached : (best : Candidate) (found : Run) (at : Place) → IsFirstBest span axles best → num * (4 * best.run.sums.weight * span) ≡ best.value * den → IsWidest axles best.run.sums found → VertexAtPeak span axles num den best.axle found.first found.last at → IsFirstReached axles span num den best.axle found.first found.last at
+  pub first_reached : (best : Candidate) (found : Run) (at : Place) → IsFirstBestPair span axles best → num * (4 * best.run.sums.weight * span) ≡ best.value * den → IsWidest axles best.run.sums found → VertexAtPeak span axles num den best.axle found.first found.last at → IsFirstReached axles span num den best.axle found.first found.last at
   first_reached best found at is_first e w there =
       let order = no_later best found is_first e w in
       record {

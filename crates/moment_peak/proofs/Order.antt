@@ -7,7 +7,7 @@ use Rattle.axle_train.specs.Bounds.{IsTrain}
 use Rattle.axle_train.specs.Trains.{axle_at, spread}
 use Rattle.axle_train.proofs.Places.{place_ordered}
 use Rattle.moment_peak.specs.declared.pair.Pair.{Pair}
-use Rattle.moment_peak.specs.Pairs.{IsTight, IsPair, IsUpTo, IsFirstPair, IsNextPair, IsLastPair, IsLastOfRun}
+use Rattle.moment_peak.specs.Pairs.{IsTight, IsPair, IsUpToPair, IsFirstPair, IsNextPair, IsLastPair, IsLastOfRun}
 use Rattle.moment_peak.specs.Runs.{run_weight, CanBeOnSpan}
 use Rattle.moment_peak.proofs.BestBounds.{run_loaded}
 use Rattle.moment_peak.proofs.Pointer.{centre_to}
@@ -25,7 +25,7 @@ raised_next span axles pair next same axle = λ k first last t upto.
     ]
 
 -- a tight pair whose run is no later than this pair's, or is its run
-run_up_to : (span : ℕ) (axles : List Axle) (pair : Pair) (k first last : ℕ) → IsTrain axles → IsPair span axles pair → IsLastOfRun span axles pair → IsTight span axles k first last → first + last ≤ pair.run.first + pair.run.last → IsUpTo pair k first last
+run_up_to : (span : ℕ) (axles : List Axle) (pair : Pair) (k first last : ℕ) → IsTrain axles → IsPair span axles pair → IsLastOfRun span axles pair → IsTight span axles k first last → first + last ≤ pair.run.first + pair.run.last → IsUpToPair pair k first last
 run_up_to span axles pair k first last train p over t h =
     elim (cases_lt (first + last) (pair.run.first + pair.run.last)) [
       | inl earlier ↦ inl earlier

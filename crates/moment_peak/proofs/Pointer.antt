@@ -12,7 +12,7 @@ use Rattle.moment_peak.specs.declared.run.Run.{Run}
 use Rattle.moment_peak.specs.declared.run.Sums.{Sums}
 use Rattle.moment_peak.specs.Pairs.{far_support, weight_to, IsTight, IsShearFrom, IsPair, IsRunEnd, IsLastOfRun}
 use Rattle.moment_peak.specs.Runs.{run, run_weight, run_moment}
-use Rattle.moment_peak.specs.Sweeps.{AreSums, IsSummed, IsOnSpan, IsFull}
+use Rattle.moment_peak.specs.Sweeps.{AreSums, IsSummed, IsOnSpan, IsFullRun}
 use Rattle.moment_peak.proofs.Runs.{weight_of, moment_of, balance}
 use Rattle.moment_peak.proofs.Between.{rises_on, all_from, all_up_to, all_take, no_front, no_back, IsFrom}
 use Rattle.moment_peak.proofs.RunSums.{are_sums, sum_less}
@@ -98,14 +98,14 @@ start_on span axles run s first half = record {
 }
 
 -- an axle alone, where the one before it is further from it than the span
-pub alone_on : (span : ℕ) (axles : List Axle) (run next : Run) → IsTrain axles → IsFull span axles run → run.first ≡ run.last → run.last + 1 < length axles → IsSummed axles next → next.first ≡ run.last + 1 → next.last ≡ run.last + 1 → IsOnSpan span axles next
+pub alone_on : (span : ℕ) (axles : List Axle) (run next : Run) → IsTrain axles → IsFullRun span axles run → run.first ≡ run.last → run.last + 1 < length axles → IsSummed axles next → next.first ≡ run.last + 1 → next.last ≡ run.last + 1 → IsOnSpan span axles next
 alone_on span axles run next train full one more s first last =
     let here : run.last + 1 - 1 ≡ run.last = omega arith in
     let far : span < spread axles (run.last + 1 - 1) (run.last + 1) = rw here (rw one at (full more)) in
     record { can_be = rw (first, last) (can_be-alone span axles (run.last + 1) train more far); sums = s.sums }
 
 -- the run without its first axle
-pub shorter_on : (span : ℕ) (axles : List Axle) (run next : Run) → IsTrain axles → IsOnSpan span axles run → IsFull span axles run → run.first < run.last → IsSummed axles next → next.first ≡ run.first + 1 → next.last ≡ run.last → IsOnSpan span axles next
+pub shorter_on : (span : ℕ) (axles : List Axle) (run next : Run) → IsTrain axles → IsOnSpan span axles run → IsFullRun span axles run → run.first < run.last → IsSummed axles next → next.first ≡ run.first + 1 → next.last ≡ run.last → IsOnSpan span axles next
 shorter_on span axles run next train on full longer s first last = record {
   can_be = rw (first, last) (can_be-shorter span axles run.first run.last train on.can_be longer full);
   sums = s.sums;
@@ -146,7 +146,7 @@ shear_without : (span B' B R' R S' S w p : ℕ) → B' + w ≡ B → R' + w ≡ 
 shear_without span B' B R' R S' S w p b r s h = omega (arith, h, s, ap (λ t. span * t) b, ap (λ t. t * (p + span)) r)
 
 -- the first axle goes off, and the pair's axle is another
-pub shorter_pair : (span : ℕ) (axles : List Axle) (pair next : Pair) → IsTrain axles → IsPair span axles pair → pair.run.first < pair.axle → IsFull span axles pair.run → IsSummed axles next.run → next.run.first ≡ pair.run.first + 1 → next.run.last ≡ pair.run.last → next.axle ≡ pair.axle → AreSums axles (pair.run.first + 1) pair.axle next.before → next.before.weight + (axle_at axles pair.run.first).weight ≡ pair.before.weight → next.run.sums.weight + (axle_at axles pair.run.first).weight ≡ pair.run.sums.weight → next.run.sums.moment + (axle_at axles pair.run.first).weight * (axle_at axles pair.run.first).place ≡ pair.run.sums.moment → IsShearFrom span next ((axle_at axles pair.run.first).place + span) × IsPair span axles next
+pub shorter_pair : (span : ℕ) (axles : List Axle) (pair next : Pair) → IsTrain axles → IsPair span axles pair → pair.run.first < pair.axle → IsFullRun span axles pair.run → IsSummed axles next.run → next.run.first ≡ pair.run.first + 1 → next.run.last ≡ pair.run.last → next.axle ≡ pair.axle → AreSums axles (pair.run.first + 1) pair.axle next.before → next.before.weight + (axle_at axles pair.run.first).weight ≡ pair.before.weight → next.run.sums.weight + (axle_at axles pair.run.first).weight ≡ pair.run.sums.weight → next.run.sums.moment + (axle_at axles pair.run.first).weight * (axle_at axles pair.run.first).place ≡ pair.run.sums.moment → IsShearFrom span next ((axle_at axles pair.run.first).place + span) × IsPair span axles next
 shorter_pair span axles pair next train p behind full summed first last axle before front weight moment =
     let off = axle_at axles pair.run.first in
     let shear : IsShearFrom span next (off.place + span) = shear_without span next.before.weight pair.before.weight next.run.sums.weight pair.run.sums.weight next.run.sums.moment pair.run.sums.moment off.weight off.place front weight moment p.to_first in

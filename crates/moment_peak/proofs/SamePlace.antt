@@ -14,7 +14,7 @@ use Rattle.moment_peak.specs.declared.run.Run.{Run}
 use Rattle.moment_peak.specs.Candidates.{IsAttained}
 use Rattle.moment_peak.specs.Centres.{HaveOneCentre, IsWidest}
 use Rattle.moment_peak.specs.Runs.{run, front_in, back_in, run_weight, run_moment, run_value, IsRun}
-use Rattle.moment_peak.specs.Vertices.{IsVertex, Reaches}
+use Rattle.moment_peak.specs.Vertices.{IsVertex, HasMomentAt}
 use Rattle.moment_peak.proofs.BestBounds.{lead_at, vertex_reaches, inside_left, run_loaded}
 use Rattle.moment_peak.proofs.BySums.{balance_in}
 use Rattle.moment_peak.proofs.Finer.{moment_scaled}
@@ -83,7 +83,7 @@ left_from g R L S p T v some f c = le_of_mul-le-mul_left {m = S} {n = R * L + R 
 -- the vertex of axle k and a run with that centre
 pub record VertexAtPeak (span : ℕ) (axles : List Axle) (num den k first last : ℕ) (at : Place) : Type 0 where
   pub vertex : IsVertex axles span k first last at
-  pub reaches : Reaches axles span num den at
+  pub reaches : HasMomentAt axles span num den at
 
 pub vertex_at_peak : (span : ℕ) (axles : List Axle) (num den k first last first' last' : ℕ) (at : Place) → IsTrain axles → IsRun axles k first' last' → PeakPlace span axles num den k first' last' → IsRun axles k first last → HaveOneCentre axles first last first' last' → at.q ≡ 2 * run_weight axles first last → at.section + run_moment axles first last ≡ run_weight axles first last * span + run_weight axles first last * (axle_at axles k).place → at.lead +ℤ pos (run_moment axles first last + run_weight axles first last * (axle_at axles k).place) ≡ pos (run_weight axles first last * span) → VertexAtPeak span axles num den k first last at
 vertex_at_peak span axles num den k first last first' last' at train peak_run place is_run centre scale section lead =

@@ -9,7 +9,7 @@ use Rattle.influence_line.specs.declared.placing.Place.{Place}
 use Rattle.influence_line.specs.Places.{IsLead}
 use Rattle.influence_line.specs.Placed.{moment_sum, placed}
 use Rattle.influence_line.proofs.Lowest.{gcd_pos, gcd_quotients}
-use Rattle.moment_peak.specs.Vertices.{IsLowestPlace, Reaches}
+use Rattle.moment_peak.specs.Vertices.{IsLowestPlace, HasMomentAt}
 use Rattle.moment_peak.proofs.Finer.{moment_scaled}
 
 lead_scaled : (g q section behind : ℕ) (lead small : ℤ) → lead +ℤ pos (g * q * behind) ≡ pos (g * section) → small ≡ pos section -ℤ pos (q * behind) → lead ≡ pos g *ℤ small
@@ -34,7 +34,7 @@ cancel_square : (g M num den q span : ℕ) → 0 < g → g * g * M * den ≡ num
 cancel_square g M num den q span h e = eq_of_mul-eq-mul_right (g * g) (mul-pos h h) (M * den) (num * (q * q * span)) (omega (arith, e))
 
 -- it has the same moment
-pub reaches_lowest : (axles : List Axle) (span num den : ℕ) (whole small : Place) → IsLowestPlace whole small → whole.section ≤ whole.q * span → Reaches axles span num den whole → Reaches axles span num den small
+pub reaches_lowest : (axles : List Axle) (span num den : ℕ) (whole small : Place) → IsLowestPlace whole small → whole.section ≤ whole.q * span → HasMomentAt axles span num den whole → HasMomentAt axles span num den small
 reaches_lowest axles span num den whole small l on r =
     let g = l.divisor in
     let length : whole.q * span ≡ g * (small.q * span) = rw l.scale (mul_assoc g small.q span) in

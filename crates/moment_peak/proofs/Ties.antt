@@ -4,7 +4,7 @@ use Rattle.std.proofs.Math.Nat.{mul-le-mul_left, mul-le-mul_right, eq_of_mul-eq-
 use Rattle.axle_train.specs.declared.axle.Axle.{Axle}
 use Rattle.axle_train.specs.Bounds.{IsTrain}
 use Rattle.moment_peak.specs.declared.best.Candidate.{Candidate}
-use Rattle.moment_peak.specs.Centres.{IsFirstTo, IsNoBetter, IsEarlier}
+use Rattle.moment_peak.specs.Centres.{IsFirstTo, IsNoBetter, HasEarlierRun}
 use Rattle.moment_peak.specs.Sweeps.{IsSummed}
 use Rattle.moment_peak.proofs.Cross.{cross_trans}
 use Rattle.moment_peak.proofs.OneCentre.{inside_later, one_widest, summed_loaded, centre_of}
@@ -41,7 +41,7 @@ met_by_axle axles best next most less = record {
 }
 
 -- the earlier one of two is first to the run of the other
-earlier_first : (axles : List Axle) (best next : Candidate) → IsTrain axles → IsSummed axles next.run → best.axle ≡ next.axle → IsEarlier axles best.run.sums next.run.sums → IsFirstTo axles best next.axle next.run.first next.run.last
+earlier_first : (axles : List Axle) (best next : Candidate) → IsTrain axles → IsSummed axles next.run → best.axle ≡ next.axle → HasEarlierRun axles best.run.sums next.run.sums → IsFirstTo axles best next.axle next.run.first next.run.last
 earlier_first axles best next train s same e = λ wide w first last ordered within centre.
     let one = one_widest axles best.run.sums wide e.wide w e.is_widest in
     let later = own_first axles next train s e.wide' e.is_widest' first last ordered within centre in
@@ -53,11 +53,11 @@ earlier_first axles best next train s same e = λ wide w first last ordered with
           omega (arith, one.1, e.by_last (omega (arith, one.0, begin, other)), later.by_last refl other);
     }
 
-pub met_by_earlier : (axles : List Axle) (best next : Candidate) → IsTrain axles → IsSummed axles next.run → best.axle ≡ next.axle → next.value * best.run.sums.weight ≡ best.value * next.run.sums.weight → IsEarlier axles best.run.sums next.run.sums → IsNoBetter axles best next.value next.run.sums.weight next.axle next.run.first next.run.last
+pub met_by_earlier : (axles : List Axle) (best next : Candidate) → IsTrain axles → IsSummed axles next.run → best.axle ≡ next.axle → next.value * best.run.sums.weight ≡ best.value * next.run.sums.weight → HasEarlierRun axles best.run.sums next.run.sums → IsNoBetter axles best next.value next.run.sums.weight next.axle next.run.first next.run.last
 met_by_earlier axles best next train s same high e = record { most = omega (arith, high); order = λ _. earlier_first axles best next train s same e }
 
 -- one as good and earlier in place of the best
-pub kept_by_earlier : (axles : List Axle) (best next : Candidate) (v w k first last : ℕ) → 0 < best.run.sums.weight → 0 < next.run.sums.weight → best.axle ≡ next.axle → next.value * best.run.sums.weight ≡ best.value * next.run.sums.weight → IsEarlier axles next.run.sums best.run.sums → IsNoBetter axles best v w k first last → IsNoBetter axles next v w k first last
+pub kept_by_earlier : (axles : List Axle) (best next : Candidate) (v w k first last : ℕ) → 0 < best.run.sums.weight → 0 < next.run.sums.weight → best.axle ≡ next.axle → next.value * best.run.sums.weight ≡ best.value * next.run.sums.weight → HasEarlierRun axles next.run.sums best.run.sums → IsNoBetter axles best v w k first last → IsNoBetter axles next v w k first last
 kept_by_earlier axles best next v w k first' last' loaded some axle high e n = record {
   most = cross_trans v w best.value best.run.sums.weight next.value next.run.sums.weight n.most (omega (arith, high)) loaded;
   order = λ same wide u first last ordered within centre.

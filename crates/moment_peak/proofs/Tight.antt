@@ -13,7 +13,7 @@ use Rattle.influence_line.proofs.Totals.{total, total_is}
 use Rattle.moment_peak.specs.declared.best.Candidate.{Candidate}
 use Rattle.moment_peak.specs.declared.run.Sums.{Sums}
 use Rattle.moment_peak.specs.Candidates.{IsBest}
-use Rattle.moment_peak.specs.Centres.{IsFirstBest}
+use Rattle.moment_peak.specs.Centres.{IsFirstBestPair}
 use Rattle.moment_peak.specs.Pairs.{far_support, weight_to, IsTight}
 use Rattle.moment_peak.specs.PeakMoment.{peak_moment_of}
 use Rattle.moment_peak.specs.Runs.{run, vertex_value, front_in, back_in, run_weight, run_moment, run_value, weight_in, moment_in, IsRun, CanBeOnSpan}
@@ -248,7 +248,7 @@ under_peak : (V R U W num den L : ℕ) → 0 < den → V * den ≤ num * (4 * R 
 under_peak V R U W num den L some most exact = le_of_mul-le-mul_right {m = V * W} {n = U * R} {k = den} (omega (arith, mul-le-mul_left W most, ap (λ t. R * t) exact)) some
 
 -- what no tight pair is better than is the best of all
-pub best_of_tight : (span : ℕ) (axles : List Axle) (best : Candidate) → 1 ≤ span → span ≤ 6000 → IsTrain axles → IsFirstBest span axles best → IsBest span axles best
+pub best_of_tight : (span : ℕ) (axles : List Axle) (best : Candidate) → 1 ≤ span → span ≤ 6000 → IsTrain axles → IsFirstBestPair span axles best → IsBest span axles best
 best_of_tight span axles best some long train is_first = λ k first last is_run can.
     let moment = peak_moment_of axles span in
     let peak = (peak_moment_is axles span train some long).peak in

@@ -51,7 +51,7 @@ abbrev pub KeepsAll : List Axle → Candidate → Candidate → Type 0
 KeepsAll axles best result = (v w k first last : ℕ) → 0 < w → IsNoBetter axles best v w k first last → IsNoBetter axles result v w k first last
 
 -- the widest run with the one centre comes before that with the other in the order of first and last, or is the same
-pub record IsEarlier (axles : List Axle) (one other : Sums) : Type 0 where
+pub record HasEarlierRun (axles : List Axle) (one other : Sums) : Type 0 where
   pub wide : Run
   pub wide' : Run
   pub is_widest : IsWidest axles one wide
@@ -60,5 +60,5 @@ pub record IsEarlier (axles : List Axle) (one other : Sums) : Type 0 where
   pub by_last : wide.first ≡ wide'.first → wide.last ≤ wide'.last
 
 -- no tight pair is better than the candidate
-abbrev pub IsFirstBest : ℕ → List Axle → Candidate → Type 0
-IsFirstBest span axles best = (k first last : ℕ) → IsTight span axles k first last → IsNoBetter axles best (run_value span axles k first last) (run_weight axles first last) k first last
+abbrev pub IsFirstBestPair : ℕ → List Axle → Candidate → Type 0
+IsFirstBestPair span axles best = (k first last : ℕ) → IsTight span axles k first last → IsNoBetter axles best (run_value span axles k first last) (run_weight axles first last) k first last

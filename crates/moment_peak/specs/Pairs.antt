@@ -40,14 +40,14 @@ pub record IsPair (span : ℕ) (axles : List Axle) (pair : Pair) : Type 0 where
   pub to_next : pair.run.last + 1 < length axles → IsShearFrom span pair (axle_at axles (pair.run.last + 1)).place
 
 -- axle k and the run first to last are this pair
-pub record IsThere (pair : Pair) (k first last : ℕ) : Type 0 where
+pub record IsThisPair (pair : Pair) (k first last : ℕ) : Type 0 where
   pub at_axle : k ≡ pair.axle
   pub at_first : first ≡ pair.run.first
   pub at_last : last ≡ pair.run.last
 
 -- they are of a run before the pair's, which begins or ends earlier, or of the pair's own run and no later axle
-abbrev pub IsUpTo : Pair → ℕ → ℕ → ℕ → Type 0
-IsUpTo pair k first last = (first + last < pair.run.first + pair.run.last) ⊎ ((k ≤ pair.axle) × (first ≡ pair.run.first) × (last ≡ pair.run.last))
+abbrev pub IsUpToPair : Pair → ℕ → ℕ → ℕ → Type 0
+IsUpToPair pair k first last = (first + last < pair.run.first + pair.run.last) ⊎ ((k ≤ pair.axle) × (first ≡ pair.run.first) × (last ≡ pair.run.last))
 
 -- the one pair comes after the other in the sweep: the places of its three axles in the train have a greater sum
 abbrev pub IsAfter : Pair → Pair → Type 0
@@ -55,15 +55,15 @@ IsAfter pair next = pair.run.first + pair.run.last + pair.axle < next.run.first 
 
 -- the pair is the first of the tight ones, if it is one
 abbrev pub IsFirstPair : ℕ → List Axle → Pair → Type 0
-IsFirstPair span axles pair = (k first last : ℕ) → IsTight span axles k first last → IsUpTo pair k first last → IsThere pair k first last
+IsFirstPair span axles pair = (k first last : ℕ) → IsTight span axles k first last → IsUpToPair pair k first last → IsThisPair pair k first last
 
 -- no tight pair is between the two
 abbrev pub IsNextPair : ℕ → List Axle → Pair → Pair → Type 0
-IsNextPair span axles pair next = (k first last : ℕ) → IsTight span axles k first last → IsUpTo next k first last → IsUpTo pair k first last ⊎ IsThere next k first last
+IsNextPair span axles pair next = (k first last : ℕ) → IsTight span axles k first last → IsUpToPair next k first last → IsUpToPair pair k first last ⊎ IsThisPair next k first last
 
 -- no tight pair is after this one
 abbrev pub IsLastPair : ℕ → List Axle → Pair → Type 0
-IsLastPair span axles pair = (k first last : ℕ) → IsTight span axles k first last → IsUpTo pair k first last
+IsLastPair span axles pair = (k first last : ℕ) → IsTight span axles k first last → IsUpToPair pair k first last
 
 -- a run ends where the far support meets the train as the next axle comes on or the first one goes off
 pub record IsRunEnd (span : ℕ) (axles : List Axle) (run : Run) (place : ℕ) : Type 0 where

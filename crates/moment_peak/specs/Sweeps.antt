@@ -30,5 +30,5 @@ pub record IsOnSpan (span : ℕ) (axles : List Axle) (run : Run) : Type 0 where
   pub sums : AreSums axles run.first (run.last + 1) run.sums
 
 -- the axle behind the run, if there is one, does not fit on the span with it
-abbrev pub IsFull : ℕ → List Axle → Run → Type 0
-IsFull span axles run = run.last + 1 < length axles → span < spread axles run.first (run.last + 1)
+abbrev pub IsFullRun : ℕ → List Axle → Run → Type 0
+IsFullRun span axles run = run.last + 1 < length axles → span < spread axles run.first (run.last + 1)

@@ -16,17 +16,17 @@ pub record IsVertex (axles : List Axle) (span k first last : ℕ) (at : Place) :
   pub on : at.section ≤ at.q * span
 
 -- the true moment at a place, of all axles that are on the span there, is num/den
-abbrev pub Reaches : List Axle → ℕ → ℕ → ℕ → Place → Type 0
-Reaches axles span num den at = moment_sum (at.q * span) at.section (placed at.q at.lead axles) * den ≡ num * (at.q * at.q * span)
+abbrev pub HasMomentAt : List Axle → ℕ → ℕ → ℕ → Place → Type 0
+HasMomentAt axles span num den at = moment_sum (at.q * span) at.section (placed at.q at.lead axles) * den ≡ num * (at.q * at.q * span)
 
 -- the true moment at a vertex is another
 abbrev pub Misses : List Axle → ℕ → ℕ → ℕ → ℕ → ℕ → ℕ → Type 0
-Misses axles span num den k first last = (at : Place) → IsVertex axles span k first last at → Reaches axles span num den at → ⊥
+Misses axles span num den k first last = (at : Place) → IsVertex axles span k first last at → HasMomentAt axles span num den at → ⊥
 
 -- the first vertex, in the order of axle, first and last, whose true moment is num/den
 pub record IsFirstReached (axles : List Axle) (span num den k first last : ℕ) (at : Place) : Type 0 where
   pub vertex : IsVertex axles span k first last at
-  pub reaches : Reaches axles span num den at
+  pub reaches : HasMomentAt axles span num den at
   pub no_last : (l : ℕ) → l < last → Misses axles span num den k first l
   pub no_first : (f l : ℕ) → f < first → Misses axles span num den k f l
   pub no_axle : (i f l : ℕ) → i < k → Misses axles span num den i f l
@@ -45,4 +45,4 @@ pub record IsFirstPlace (axles : List Axle) (span num den k first last : ℕ) (p
   pub whole : Place
   pub is_first : IsFirstReached axles span num den k first last whole
   pub lowest : IsLowestPlace whole place
-  pub reaches : Reaches axles span num den place
+  pub reaches : HasMomentAt axles span num den place

@@ -3,7 +3,7 @@
 ghost use Rattle.std.specs.Prelude.{◌≡◌, ◌+◌, ◌-◌, ◌*◌, ◌<◌, ◌≤◌, ◌^◌, ◌⊎◌, IsTrue, false};
 ghost use Rattle.axle_train.specs.Bounds.{IsTrain};
 ghost use Rattle.moment_peak.specs.Candidates.{IsAttained, IsBest, value_by_sums};
-ghost use Rattle.moment_peak.specs.Centres.{IsEarlier, IsFirstBest, IsNoWorse, KeepsAll};
+ghost use Rattle.moment_peak.specs.Centres.{HasEarlierRun, IsFirstBestPair, IsNoWorse, KeepsAll};
 ghost use Rattle.moment_peak.specs.Sweeps.{IsSummed};
 
 use crate::pair::Pair;
@@ -27,7 +27,7 @@ pub fn best_pair(train: &Train, span: u32) -> Candidate
     requires long { span ≤ 6000 }
     ensures attained { IsAttained span train.now result }
     ensures best { IsBest span train.now result }
-    ensures first { IsFirstBest span train.now result }
+    ensures first { IsFirstBestPair span train.now result }
     ensures bounds { IsTrain train.now }
 {
     let mut pair = Pair::start(train, span);
@@ -70,8 +70,8 @@ fn better(train: &Train, best: Candidate, next: Candidate) -> Candidate
 #[inline(never)]
 fn comes_first(train: &Train, one: Run, other: Run) -> bool
     requires runs { IsSummed train.now one × IsSummed train.now other }
-    ensures before { IsTrue result → IsEarlier train.now one.sums other.sums }
-    ensures behind { result ≡ false → IsEarlier train.now other.sums one.sums }
+    ensures before { IsTrue result → HasEarlierRun train.now one.sums other.sums }
+    ensures behind { result ≡ false → HasEarlierRun train.now other.sums one.sums }
 {
     let one = widest(train, one);
     let other = widest(train, other);

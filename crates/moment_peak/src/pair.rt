@@ -5,7 +5,7 @@ ghost use Rattle.axle_train.specs.Bounds.{IsTrain};
 ghost use Rattle.axle_train.specs.Trains.{axle_at, spread};
 ghost use Rattle.moment_peak.specs.Candidates.{IsValueOf};
 ghost use Rattle.moment_peak.specs.Pairs.{IsAfter, IsFirstPair, IsLastOfRun, IsLastPair, IsNextPair, IsPair, IsRunEnd};
-ghost use Rattle.moment_peak.specs.Sweeps.{IsFull};
+ghost use Rattle.moment_peak.specs.Sweeps.{IsFullRun};
 
 use crate::best::{Candidate, vertex_value};
 use crate::run::{Run, Sums};
@@ -83,7 +83,7 @@ impl Pair {
         requires some { 1 ≤ span }
         requires long { span ≤ 6000 }
         requires pair { IsPair span train.now self }
-        requires full { IsFull span train.now self.run }
+        requires full { IsFullRun span train.now self.run }
         ensures pair { IfSome result (λ next. IsPair span train.now next) }
         ensures later { IfSome result (λ next. IsAfter self next) }
         ensures axle { IfSome result (λ next. self.axle ≤ next.axle) }
@@ -159,7 +159,7 @@ impl Pair {
         requires pair { IsPair span train.now self }
         requires last { IsLastOfRun span train.now self }
         requires more { self.run.last + 1 < length train.now }
-        requires full { IsFull span train.now self.run }
+        requires full { IsFullRun span train.now self.run }
         requires one { self.run.first ≡ self.run.last }
         ensures pair { IsPair span train.now result }
         ensures later { IsAfter self result }
@@ -179,7 +179,7 @@ impl Pair {
     fn without_first(self, train: &Train, span: u32) -> Pair
         requires pair { IsPair span train.now self }
         requires last { IsLastOfRun span train.now self }
-        requires full { IsFull span train.now self.run }
+        requires full { IsFullRun span train.now self.run }
         requires longer { self.run.first < self.run.last }
         ensures pair { IsPair span train.now result }
         ensures later { IsAfter self result }

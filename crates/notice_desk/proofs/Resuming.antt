@@ -9,7 +9,7 @@ use Rattle.std.proofs.lemmas.Option.{slice_get_within}
 use Rattle.notice_desk.specs.declared.notice.Recall.{Recall}
 use Rattle.notice_desk.specs.declared.notice.Whom.{Whom}
 use Rattle.notice_desk.specs.Notices.{is_for, recalls_for, told_more}
-use Rattle.notice_desk.specs.Standings.{AreNew, AreWithin, Standing}
+use Rattle.notice_desk.specs.Standings.{AreNew, AreWithinRecalls, Standing}
 use Rattle.notice_desk.specs.Deliveries.{Stopped, StoppedAt, through, told_all}
 use Rattle.notice_desk.specs.Laws.{DeliveriesGoOn, DeliveriesResume, DeliveriesResumeWithout, Extends, NewAreToldAll}
 use Rattle.notice_desk.proofs.Places.{All-front, map-remove}
@@ -49,7 +49,7 @@ stopped_on recalls more s t h =
     ∙ told_on (recalls ++ more) s (slice_range recalls s.passed t.passed) t.passed
     (ap (λ l. l ++ drop t.passed (recalls ++ more)) (sym range) ∙ sym (drop_split (recalls ++ more) s.passed t.passed h.further)))
 
-all_on : (recalls more : List Recall) (ss : List Standing) → AreWithin recalls ss
+all_on : (recalls more : List Recall) (ss : List Standing) → AreWithinRecalls recalls ss
     → map (through (recalls ++ more)) (map (through recalls) ss) ≡ map (through (recalls ++ more)) ss
 all_on recalls more [] all = refl
 all_on recalls more (s ∷ ss) all =
@@ -57,12 +57,12 @@ all_on recalls more (s ∷ ss) all =
     ∙ ap (λ ts. through (recalls ++ more) s ∷ ts) (all_on recalls more ss (All-tail (λ t. t.passed ≤ length recalls) s ss all))
 
 -- what is left to tell after a delivery that stopped
-resumed : (place : ℕ) (before middle : List Standing) (recalls more : List Recall) → AreWithin recalls before
+resumed : (place : ℕ) (before middle : List Standing) (recalls more : List Recall) → AreWithinRecalls recalls before
     → StoppedAt place before recalls middle
     → map (through (recalls ++ more)) middle ≡ map (through (recalls ++ more)) before
 resumed place before middle recalls more within stop =
     let T = through (recalls ++ more) in
-    let front = All-front (λ s. s.passed ≤ length recalls) stop.front (stop.found ∷ stop.back) (subst (AreWithin recalls) stop.were within) in
+    let front = All-front (λ s. s.passed ≤ length recalls) stop.front (stop.found ∷ stop.back) (subst (AreWithinRecalls recalls) stop.were within) in
     ap (map T) stop.are
     ∙ (map-append T (map (through recalls) stop.front) (stop.left ∷ stop.back)
     ∙ (ap (λ l. l ++ T stop.left ∷ map T stop.back) (all_on recalls more stop.front front)

@@ -7,7 +7,7 @@ use Rattle.std.proofs.lemmas.List.{get_or-map, length-map, map-set, take-append-
 use Rattle.std.proofs.lemmas.List.Elements.{All-get_or}
 use Rattle.office_io.specs.Causes.{Rose}
 use Rattle.notice_desk.specs.declared.notice.Recall.{Recall}
-use Rattle.notice_desk.specs.Standings.{AreWithin, Standing}
+use Rattle.notice_desk.specs.Standings.{AreWithinRecalls, Standing}
 use Rattle.notice_desk.specs.Deliveries.{RoseAt, Stopped, StoppedAt, through}
 use Rattle.notice_desk.proofs.Places.{gone, gone_here, gone_on, gone_put, set-split}
 
@@ -22,7 +22,7 @@ module _ {S : Type 0} (view : S → Standing) (items : List S) (at : ℕ) (x : S
   next_is = ap view is_x ∙ (sym (get_or-map view items at x (view x) within)
       ∙ (ap (λ l. get_or l at (view x)) done ∙ gone_here (through recalls) at before (view x) in_before))
 
-  pub next_within : AreWithin recalls before → (view x).passed ≤ length recalls
+  pub next_within : AreWithinRecalls recalls before → (view x).passed ≤ length recalls
   next_within all = rw next_is (All-get_or (λ s. s.passed ≤ length recalls) before at (view x) in_before all)
 
   pub served_on : (y : S) → view y ≡ through recalls (view x) → map view (set items at y) ≡ gone (through recalls) (at + 1) before

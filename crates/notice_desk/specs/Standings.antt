@@ -47,5 +47,5 @@ abbrev pub AreNew : List Standing → Type 0
 AreNew standings = All (λ s. s.passed ≡ 0) standings
 
 -- no subscriber is through with more recalls than there are
-abbrev pub AreWithin : List Recall → List Standing → Type 0
-AreWithin recalls standings = All (λ s. s.passed ≤ length recalls) standings
+abbrev pub AreWithinRecalls : List Recall → List Standing → Type 0
+AreWithinRecalls recalls standings = All (λ s. s.passed ≤ length recalls) standings

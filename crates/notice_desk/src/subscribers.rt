@@ -5,7 +5,7 @@ ghost use Rattle.std.specs.List.{remove};
 ghost use Rattle.office_io.specs.Causes.{HasCause};
 ghost use Rattle.notice_desk.specs.Notices.{is_for, recalls_for, told_more};
 ghost use Rattle.std.specs.Io.KnownBytes.{Appends};
-ghost use Rattle.notice_desk.specs.Standings.{AreWithin, At, fault_counts, new_standing, standing_of, standings, texts};
+ghost use Rattle.notice_desk.specs.Standings.{AreWithinRecalls, At, fault_counts, new_standing, standing_of, standings, texts};
 ghost use Rattle.notice_desk.specs.Lines.{AppendsFront, EachWrote, WroteUntil, WroteUntilAt, lines_for, recall_line, recall_lines};
 ghost use Rattle.notice_desk.specs.Deliveries.{Delivered, RoseAt, Stopped, StoppedAt, through};
 
@@ -117,7 +117,7 @@ impl Subscribers {
     /// Where an object tells what it wrote, this grew by the lines of just the recalls that it was told, in order. Of the
     /// object that failed it grew by a front of the next line too.
     pub fn deliver(&mut self, recalls: &[Recall]) -> Result<(), NoticeFault>
-        requires { AreWithin recalls.now (standings list self.old) }
+        requires { AreWithinRecalls recalls.now (standings list self.old) }
         ensures done { OnOk result (Delivered (standings list self.old) recalls.now (standings list self.new)) }
         ensures stands { OnOk result (fault_counts faults self.new ≡ fault_counts faults self.old) }
         ensures stopped { IfErr result

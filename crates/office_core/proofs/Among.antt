@@ -9,7 +9,7 @@ use Rattle.permit_book.specs.declared.permit.Permit.{Permit}
 use Rattle.permit_book.specs.Permits.{AreNumbered, in_force, is_live, permit_of}
 use Rattle.fleet.specs.Bases.{BaseLists}
 use Rattle.fleet.specs.Passing.{is_passable}
-use Rattle.trip_analysis.specs.Findings.{is_in}
+use Rattle.trip_analysis.specs.Findings.{is_number_among}
 use Rattle.office_core.specs.Recalls.{InForceMeetElsewhere, MeetsElsewhereIfInForce, fails, is_recalled, recalled_by}
 use Rattle.office_core.specs.Users.{users_of, uses}
 use Rattle.office_core.proofs.ByNumber.{found_seam}
@@ -51,8 +51,8 @@ module _ (test keep : Permit → Bool) where
 recalled_uses : (base : BaseLists) (state : InForce) (segment : ℕ) (day : List ℕ) (p : Permit) → MeetsElsewhereIfInForce base state segment day p → is_recalled base state day p ≡ true → uses segment p ≡ true
 recalled_uses base state segment day p elsewhere is =
     let both = and_parts (in_force day p) (fails base state p) is in
-    let on = and_parts (is_in segment (concat p.trip.routes)) (not (is_passable base state p.trip.truck segment)) (sym (fails_there base state segment p (elsewhere both.0)) ∙ both.1) in
-    and_from (is_live p.mark) (is_in segment (concat p.trip.routes)) (live_in_force p day both.0) on.0
+    let on = and_parts (is_number_among segment (concat p.trip.routes)) (not (is_passable base state p.trip.truck segment)) (sym (fails_there base state segment p (elsewhere both.0)) ∙ both.1) in
+    and_from (is_live p.mark) (is_number_among segment (concat p.trip.routes)) (live_in_force p day both.0) on.0
 
 -- so those that it recalls are found among the permits that use the segment
 pub recalled_among : (base : BaseLists) (state : InForce) (segment : ℕ) (day : List ℕ) (ps : List Permit) → AreNumbered 0 ps → InForceMeetElsewhere base state segment day ps
@@ -65,5 +65,5 @@ recalled_among base state segment day ps numbered elsewhere =
 pub recalled_if_failing : (base : BaseLists) (state : InForce) (segment : ℕ) (day : List ℕ) (p : Permit) → MeetsElsewhereIfInForce base state segment day p → uses segment p ≡ true
     → in_force day p ≡ true → not (is_passable base state p.trip.truck segment) ≡ is_recalled base state day p
 recalled_if_failing base state segment day p elsewhere use' on =
-    let holds = (and_parts (is_live p.mark) (is_in segment (concat p.trip.routes)) use').1 in
+    let holds = (and_parts (is_live p.mark) (is_number_among segment (concat p.trip.routes)) use').1 in
     sym (ap (λ b. b && fails base state p) on ∙ (fails_there base state segment p (elsewhere on) ∙ ap (λ b. b && not (is_passable base state p.trip.truck segment)) holds))

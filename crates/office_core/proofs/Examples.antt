@@ -17,7 +17,7 @@ use Rattle.permit_book.specs.declared.permit.Mark.TheVariants as mark
 use Rattle.permit_book.specs.declared.permit.Status.TheVariants as status
 use Rattle.trip_applications.specs.declared.application.Application.{Application}
 use Rattle.fleet.specs.Bases.{BaseLists}
-use Rattle.trip_analysis.specs.Findings.{is_in}
+use Rattle.trip_analysis.specs.Findings.{is_number_among}
 use Rattle.office_words.specs.declared.entry.Call.TheVariants as call
 use Rattle.office_words.specs.declared.entry.Reply.{Reply}
 use Rattle.office_words.specs.declared.entry.Reply.TheVariants as reply
@@ -82,7 +82,7 @@ module _ (day : List ℕ) (first second : Application) (change : Change) (ends :
   second_kept : (at : List Entry) → RecallsAt three 2 at → ⊥
   second_kept [] (v, (by, c, ns, on, (back, is))) = let r = ap replies is in cc
   second_kept (x ∷ []) (v, (by, c, ns, on, (back, is))) = let r = ap replies is in cc
-  second_kept (x ∷ y ∷ []) (v, (by, c, ns, on, (back, is))) = let r = ap replies is in let same : 1 ∷ [] ≡ ns = cc in false≢true (ap (is_in 2) same ∙ on)
+  second_kept (x ∷ y ∷ []) (v, (by, c, ns, on, (back, is))) = let r = ap replies is in let same : 1 ∷ [] ≡ ns = cc in false≢true (ap (is_number_among 2) same ∙ on)
   second_kept (x ∷ y ∷ z ∷ []) (v, (by, c, ns, on, (back, is))) = let r = ap replies is in cc
   second_kept (x ∷ y ∷ z ∷ w ∷ at) (v, (by, c, ns, on, (back, is))) = let r = ap replies is in cc
 

@@ -5,7 +5,7 @@ use Rattle.office_words.specs.declared.entry.Reply.{Reply}
 use Rattle.office_words.specs.declared.entry.Entry.{Entry}
 use Rattle.office_core.specs.Machine.{Machine, opened, MayAsk, IsAnswer, after, Step, after_entry, IsLegal, machine_of}
 use Rattle.office_core.specs.Replies.{is_full}
-use Rattle.office_core.specs.Registers.{Leaves, RegisterParts}
+use Rattle.office_core.specs.Registers.{LeavesParts, RegisterParts}
 use Rattle.office_core.proofs.Cases.{never_full}
 use Rattle.office_core.proofs.Prefixes.{legal_join, legal_later, after_all-append}
 
@@ -30,7 +30,7 @@ pub record Goes (r next : RegisterParts) (day : List ℕ) (old new : List Entry)
   pub not_full : is_full e.reply ≡ false
 
 pub stepped : (r next : RegisterParts) (day : List ℕ) (old new : List Entry) (e : Entry) (given : Reply) → IsLegal r.base day old → r.machine ≡ machine_of r.base day old → MayAsk r.base (machine_of r.base day old) e.call
-    → e.reply ≡ given → next.base ≡ r.base → IsAnswer r.base r.machine e.caller e.call given → Leaves r e.caller e.call next given → new ≡ old ++ e ∷ [] → Goes r next day old new e
+    → e.reply ≡ given → next.base ≡ r.base → IsAnswer r.base r.machine e.caller e.call given → LeavesParts r e.caller e.call next given → new ≡ old ++ e ∷ [] → Goes r next day old new e
 stepped r next day old new e given legal is ask told stays answer goes longer =
     let m : Machine = machine_of r.base day old in
     let at : IsAnswer r.base m e.caller e.call e.reply =

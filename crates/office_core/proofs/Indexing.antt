@@ -12,7 +12,7 @@ use Rattle.recall_index.specs.Uses.{AreBelow, AreRemoved, IsAdded, IsRemoved, Is
 use Rattle.recall_index.specs.Uses.{is_in as index_is_in}
 use Rattle.recall_index.proofs.Lists.{end_gone}
 use Rattle.recall_index.proofs.Rising.{without_next, without_none}
-use Rattle.trip_analysis.specs.Findings.{is_in}
+use Rattle.trip_analysis.specs.Findings.{is_number_among}
 use Rattle.trip_analysis.proofs.Found.{is_in_from_among}
 use Rattle.office_core.specs.Recalls.{AreLive, marked_all}
 use Rattle.office_core.specs.Users.{IsIndexed, IsUser, IsOnRoads, users_of, uses}
@@ -49,7 +49,7 @@ users_marked : (s b k : ℕ) (ps : List Permit) (m : Mark) → is_live m ≡ fal
 users_marked s b k [] m off h = refl
 users_marked s b zero (p ∷ ps) m off h = gone (uses s p) (let same : b + 0 + 1 ≡ b + 1 = omega arith in subst (λ n. without n (users_of s ps) ≡ users_of s ps) (sym same) (untouched (b + 1) (users_of s ps) (above s (b + 1) ps h.1)))
   where
-    gone : (x : Bool) → without (b + 0 + 1) (users_of s ps) ≡ users_of s ps → map (λ (y : Permit). y.number) (cond (is_live m && is_in s (concat p.trip.routes)) ((record p { mark = m }) ∷ filter (uses s) ps) (filter (uses s) ps)) ≡ without (b + 0 + 1) (map (λ (y : Permit). y.number) (cond x (p ∷ filter (uses s) ps) (filter (uses s) ps)))
+    gone : (x : Bool) → without (b + 0 + 1) (users_of s ps) ≡ users_of s ps → map (λ (y : Permit). y.number) (cond (is_live m && is_number_among s (concat p.trip.routes)) ((record p { mark = m }) ∷ filter (uses s) ps) (filter (uses s) ps)) ≡ without (b + 0 + 1) (map (λ (y : Permit). y.number) (cond x (p ∷ filter (uses s) ps) (filter (uses s) ps)))
     gone true e = let hit : not (nat_eq p.number (b + 0 + 1)) ≡ false = grind (arith, nat_tests, h.0) in rw off (sym (ap (λ c. cond c (p.number ∷ without (b + 0 + 1) (users_of s ps)) (without (b + 0 + 1) (users_of s ps))) hit ∙ e))
     gone false e = rw off (sym e)
 users_marked s b (suc k) (p ∷ ps) m off h = kept (uses s p) (users_marked s (b + 1) k ps m off h.1)
@@ -106,9 +106,9 @@ module _ (segments : ℕ) (ps : List Permit) (index : Lists) (is : IsIndexed seg
   index_issued next n p added same live inside = record {
     many = added.many ∙ is.many;
     users = λ s low. (let here : s < length index = omega (arith, low, is.many) in
-        added.using s here ∙ (ap (λ l. l ++ cond (is_in s (concat p.trip.routes)) (n ∷ []) []) (is.users s low)
-        ∙ (ap (λ k. users_of s ps ++ cond (is_in s (concat p.trip.routes)) (k ∷ []) []) (sym same)
-        ∙ (ap (λ b. users_of s ps ++ cond (b && is_in s (concat p.trip.routes)) (p.number ∷ []) []) (sym live) ∙ sym (users_issued s ps p)))));
+        added.using s here ∙ (ap (λ l. l ++ cond (is_number_among s (concat p.trip.routes)) (n ∷ []) []) (is.users s low)
+        ∙ (ap (λ k. users_of s ps ++ cond (is_number_among s (concat p.trip.routes)) (k ∷ []) []) (sym same)
+        ∙ (ap (λ b. users_of s ps ++ cond (b && is_number_among s (concat p.trip.routes)) (p.number ∷ []) []) (sym live) ∙ sym (users_issued s ps p)))));
     within = All-append (IsOnRoads segments) ps (p ∷ []) is.within (All-cons (IsOnRoads segments) p [] inside (All-nil (IsOnRoads segments)));
   }
 
@@ -117,7 +117,7 @@ module _ (segments : ℕ) (ps : List Permit) (index : Lists) (is : IsIndexed seg
   index_undone mid last n path next added gone = record {
     many = gone.many ∙ (added.many ∙ is.many);
     users = λ s low. (let here : s < length index = omega (arith, low, is.many) in let there : s < length mid = omega (arith, here, added.many) in
-        gone.using s there ∙ (ap (without n) (added.using s here) ∙ (end_gone n (using_in index s) (is_in s path) (index_below n next s here) ∙ is.users s low)));
+        gone.using s there ∙ (ap (without n) (added.using s here) ∙ (end_gone n (using_in index s) (is_number_among s path) (index_below n next s here) ∙ is.users s low)));
     within = is.within;
   }
 
@@ -140,8 +140,8 @@ module _ (segments : ℕ) (ps : List Permit) (index : Lists) (is : IsIndexed seg
     -- a live permit is there with its routes
     pub index_there : (p : Permit) → p ≡ permit_of ps n → is_live (permit_of ps n).mark ≡ true → IsThere index n (concat p.trip.routes)
     index_there p same live s low = let here : s < segments = omega (arith, low, is.many) in
-        ap (is_in n) (is.users s here) ∙ (in_numbers (uses s) ps n h some few
-        ∙ (ap (λ b. b && is_in s (concat (permit_of ps n).trip.routes)) live ∙ ap (λ (q : Permit). is_in s (concat q.trip.routes)) (sym same)))
+        ap (is_number_among n) (is.users s here) ∙ (in_numbers (uses s) ps n h some few
+        ∙ (ap (λ b. b && is_number_among s (concat (permit_of ps n).trip.routes)) live ∙ ap (λ (q : Permit). is_number_among s (concat q.trip.routes)) (sym same)))
 
     pub index_inside : (p : Permit) → p ≡ permit_of ps n → All (λ s. s < length index) (concat p.trip.routes)
     index_inside p same = let low : n - 1 < length ps = omega (arith, some, few) in

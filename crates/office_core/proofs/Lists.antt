@@ -3,7 +3,7 @@ use Rattle.std.proofs.Common.{◌≡◌, ◌∷◌, ◌++◌, [], ℕ, List, map
 use Rattle.std.specs.List.{All, concat, AllByRecursion as ByRecursion}
 use Rattle.std.proofs.lemmas.List.Elements.{All-from_recursion, recursion_from_All}
 use Rattle.std.proofs.lemmas.Option.{get_or_from_slice_get, slice_get_within}
-use Rattle.trip_analysis.specs.Findings.{is_in}
+use Rattle.trip_analysis.specs.Findings.{is_number_among}
 use Rattle.trip_analysis.proofs.Found.{among_from_is_in}
 pub use Rattle.trip_analysis.proofs.Found.{pick}
 
@@ -38,7 +38,7 @@ pub All-each : (P : ℕ → Type 0) → (lists : List (List ℕ)) → All P (con
 All-each P lists h = All-from_recursion (All P) lists (rec-each P lists (recursion_from_All P (concat lists) h))
 
 -- and of one number that is among those of a list
-pub one_in : (P : ℕ → Type 0) (n : ℕ) (numbers : List ℕ) → All P numbers → is_in n numbers ≡ true → P n
+pub one_in : (P : ℕ → Type 0) (n : ℕ) (numbers : List ℕ) → All P numbers → is_number_among n numbers ≡ true → P n
 one_in P n numbers all on = let (k, at) = among_from_is_in n numbers on in
     subst P (get_or_from_slice_get numbers k n 0 at) (all k 0 (slice_get_within numbers k n at))
 

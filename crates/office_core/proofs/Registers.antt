@@ -11,7 +11,7 @@ use Rattle.road_graph.specs.Roads.{Roads}
 use Rattle.restriction_log.specs.declared.change.Change.{Change}
 use Rattle.restriction_log.specs.Changes.{touched}
 use Rattle.restriction_log.specs.States.{InForce, state_of}
-use Rattle.snapshot_store.specs.Stores.{IsNextOf, NextState, Stored, version_of, with_change, state_now as store_state}
+use Rattle.snapshot_store.specs.Stores.{IsNextOf, NextState, Stored, store_version_of, with_change, state_now as store_state}
 use Rattle.permit_book.specs.declared.permit.Permit.{Permit}
 use Rattle.permit_book.specs.declared.permit.Mark.TheVariants as mark
 use Rattle.permit_book.specs.Permits.{AreNumbered, in_force, is_live, no_permit, permit_of}
@@ -30,7 +30,7 @@ use Rattle.office_words.specs.declared.entry.Reply.TheVariants as reply
 use Rattle.office_core.specs.Recalls.{AreLive, AreVerdicts, InForceMeet, IsRanged, is_recalled, marked_all, recalled_by, recalled_now}
 use Rattle.office_core.specs.Users.{IsIndexed, IsUser, users_of}
 use Rattle.office_core.specs.Machine.{IsGood, Machine, machine_at, posted_reply, state_with, with_posting}
-use Rattle.office_core.specs.Registers.{HeldAt, IsNext, IsRegister, MeetElsewhere, RegisterParts, is_recalled_in, parts_of, posting_reply, recalls_of, state_now, stored_now}
+use Rattle.office_core.specs.Registers.{HeldAt, IsNextState, IsRegister, MeetElsewhere, RegisterParts, is_recalled_in, register_parts_of, posting_reply, recalls_of, register_state_now, stored_now}
 use Rattle.office_core.proofs.Founds.{found_in_range, holds_now}
 use Rattle.office_core.proofs.Goods.{good_entered, good_posted}
 use Rattle.office_core.proofs.ByNumber.{recalled_live, recalled_marked}
@@ -40,32 +40,32 @@ use Rattle.office_core.proofs.Touching.{met_elsewhere}
 use Rattle.office_core.proofs.Among.{recalled_among, recalled_if_failing}
 
 -- the state of the store is that of the postings
-pub kept_state : (i : Inside) → IsRegister i → store_state i.store ≡ state_now (parts_of i)
+pub kept_state : (i : Inside) → IsRegister i → store_state i.store ≡ register_state_now (register_parts_of i)
 kept_state i inv = ap (λ (r : Roads). state_of r i.store.postings) inv.store
 
 -- the store is of the base, with what is posted
-pub stored_is : (i : Inside) (p : RegisterParts) → parts_of i ≡ p → IsRegister i → i.store ≡ stored_now p
+pub stored_is : (i : Inside) (p : RegisterParts) → register_parts_of i ≡ p → IsRegister i → i.store ≡ stored_now p
 stored_is i p seen inv = ap (λ (r : Roads). let s : Stored = record { roads = r; postings = i.store.postings } in s) inv.store ∙ ap stored_now seen
 
-next_here : (i : Inside) (p : RegisterParts) (next : NextState) → parts_of i ≡ p → IsRegister i → IsNextOf i.store next → IsNext p next
+next_here : (i : Inside) (p : RegisterParts) (next : NextState) → register_parts_of i ≡ p → IsRegister i → IsNextOf i.store next → IsNextState p next
 next_here i p next seen inv is = subst (λ (s : Stored). IsNextOf s next) (stored_is i p seen inv) is
 
-pub next_if_made : {E : Type 0} (i : Inside) (p : RegisterParts) (r : Result NextState E) → parts_of i ≡ p → IsRegister i → IfOk r (IsNextOf i.store) → IfOk r (IsNext p)
+pub next_if_made : {E : Type 0} (i : Inside) (p : RegisterParts) (r : Result NextState E) → register_parts_of i ≡ p → IsRegister i → IfOk r (IsNextOf i.store) → IfOk r (IsNextState p)
 next_if_made i p (Ok next) seen inv is = next_here i p next seen inv is
 next_if_made i p (Err e) seen inv is = tt
 
 -- in the state that a posting would make, each permit in force meets its truck but where the change touches
-pub elsewhere_if_made : {E : Type 0} (i : Inside) (p : RegisterParts) (change : Change) (r : Result NextState E) → parts_of i ≡ p → IsRegister i → IfOk r (IsNextOf i.store) → IfOk r (λ next. next.change ≡ change)
+pub elsewhere_if_made : {E : Type 0} (i : Inside) (p : RegisterParts) (change : Change) (r : Result NextState E) → register_parts_of i ≡ p → IsRegister i → IfOk r (IsNextOf i.store) → IfOk r (λ next. next.change ≡ change)
     → IfOk r (λ next. MeetElsewhere p next.state (touched p.base.roads change))
 elsewhere_if_made i p change (Ok next) seen inv is same =
-    let its : IsNext p next = next_here i p next seen inv is in
+    let its : IsNextState p next = next_here i p next seen inv is in
     let made : next.state ≡ state_with p.base p.machine change = its.state ∙ ap (λ (c : Change). state_with p.base p.machine c) same in
-    let meet : InForceMeet p.base (state_now p) p.machine.day p.machine.permits = subst (λ (q : RegisterParts). InForceMeet q.base (state_now q) q.machine.day q.machine.permits) seen inv.good.meets in
+    let meet : InForceMeet p.base (register_state_now p) p.machine.day p.machine.permits = subst (λ (q : RegisterParts). InForceMeet q.base (register_state_now q) q.machine.day q.machine.permits) seen inv.good.meets in
     met_elsewhere p.base p.machine.postings next.state change (touched p.base.roads change) p.machine.day p.machine.permits made refl meet
 elsewhere_if_made i p change (Err e) seen inv is same = tt
 
 -- the index tells which permits use a segment
-pub users_are : (i : Inside) (p : RegisterParts) (s : ℕ) (list : List ℕ) → parts_of i ≡ p → IsRegister i → s < length p.base.roads.segments → list ≡ using_in i.index s → All (IsUser p.machine.permits s) list
+pub users_are : (i : Inside) (p : RegisterParts) (s : ℕ) (list : List ℕ) → register_parts_of i ≡ p → IsRegister i → s < length p.base.roads.segments → list ≡ using_in i.index s → All (IsUser p.machine.permits s) list
 users_are i p s list seen inv low is =
     let here : s < length (arc_value i.base).roads.segments = subst (λ (q : RegisterParts). s < length q.base.roads.segments) (sym seen) low in
     subst (λ (q : RegisterParts). All (IsUser q.machine.permits s) list) seen
@@ -102,48 +102,48 @@ none_judged base state segment trucks all = record {
 }
 
 -- the answer to a posting is made of what it would make
-pub posted_as : (p : RegisterParts) (next : NextState) (change : Change) (numbers : List ℕ) (v : ℕ) → IsNext p next → next.change ≡ change → numbers ≡ recalls_of p next.state → v ≡ length p.machine.postings + 1 → reply.Posted v numbers ≡ posting_reply p change
+pub posted_as : (p : RegisterParts) (next : NextState) (change : Change) (numbers : List ℕ) (v : ℕ) → IsNextState p next → next.change ≡ change → numbers ≡ recalls_of p next.state → v ≡ length p.machine.postings + 1 → reply.Posted v numbers ≡ posting_reply p change
 posted_as p next change numbers v is same are counted = subst (λ (c : Change). reply.Posted v numbers ≡ posting_reply p c) same
     (rw (is.takes, counted, are ∙ ap (recalls_of p) is.state) refl)
 
 -- what is found now is in range, and held at the current version
-pub found_within : (i : Inside) (p : RegisterParts) (base : BaseLists) (state : InForce) (a : Application) (w : What) → parts_of i ≡ p → IsRegister i → base ≡ arc_value i.base → Sound p.base a → IsFinding base state a w → InRange p.base w
+pub found_within : (i : Inside) (p : RegisterParts) (base : BaseLists) (state : InForce) (a : Application) (w : What) → register_parts_of i ≡ p → IsRegister i → base ≡ arc_value i.base → Sound p.base a → IsFinding base state a w → InRange p.base w
 found_within i p base state a w seen inv same sound is =
     let found : IsFinding (arc_value i.base) state a w = subst (λ (b : BaseLists). IsFinding b state a w) same is in
     let asked : Sound (arc_value i.base) a = subst (λ (q : RegisterParts). Sound q.base a) (sym seen) sound in
     subst (λ (q : RegisterParts). InRange q.base w) seen (found_in_range (arc_value i.base) state a w inv.roads asked found)
 
-pub found_held : (i : Inside) (p : RegisterParts) (base : BaseLists) (state : InForce) (a : Application) (n : ℕ) (w : What) → parts_of i ≡ p → IsRegister i → base ≡ arc_value i.base → state ≡ store_state i.store → n ≡ length i.store.postings → Sound p.base a → IsFinding base state a w → HeldAt p n a.truck w
+pub found_held : (i : Inside) (p : RegisterParts) (base : BaseLists) (state : InForce) (a : Application) (n : ℕ) (w : What) → register_parts_of i ≡ p → IsRegister i → base ≡ arc_value i.base → state ≡ store_state i.store → n ≡ length i.store.postings → Sound p.base a → IsFinding base state a w → HeldAt p n a.truck w
 found_held i p base state a n w seen inv same here now sound is =
     let found : IsFinding (arc_value i.base) state a w = subst (λ (b : BaseLists). IsFinding b state a w) same is in
     let asked : Sound (arc_value i.base) a = subst (λ (q : RegisterParts). Sound q.base a) (sym seen) sound in
     subst (λ (q : RegisterParts). HeldAt q n a.truck w) seen (holds_now (arc_value i.base) i.store.postings n state a w inv.roads (here ∙ kept_state i inv) now asked found)
 
-pub within_if_found : {E : Type 0} (i : Inside) (p : RegisterParts) (base : BaseLists) (s : Stored) (a : Application) (r : Result Proposal E) → parts_of i ≡ p → IsRegister i → base ≡ arc_value i.base → Sound p.base a
+pub within_if_found : {E : Type 0} (i : Inside) (p : RegisterParts) (base : BaseLists) (s : Stored) (a : Application) (r : Result Proposal E) → register_parts_of i ≡ p → IsRegister i → base ≡ arc_value i.base → Sound p.base a
     → IfOk r (λ q. IsFoundAt base s a q.what) → IfOk r (λ q. InRange p.base q.what)
 within_if_found i p base s a (Ok q) seen inv same sound found = found_within i p base (store_state s) a q.what seen inv same sound found
 within_if_found i p base s a (Err e) seen inv same sound found = tt
 
-pub held_if_found : {E : Type 0} (i : Inside) (p : RegisterParts) (base : BaseLists) (s : Stored) (a : Application) (r : Result Proposal E) → parts_of i ≡ p → IsRegister i → base ≡ arc_value i.base → s ≡ i.store → Sound p.base a
-    → IfOk r (λ q. q.seen ≡ version_of s) → IfOk r (λ q. IsFoundAt base s a q.what) → IfOk r (λ q. HeldAt p q.seen a.truck q.what)
+pub held_if_found : {E : Type 0} (i : Inside) (p : RegisterParts) (base : BaseLists) (s : Stored) (a : Application) (r : Result Proposal E) → register_parts_of i ≡ p → IsRegister i → base ≡ arc_value i.base → s ≡ i.store → Sound p.base a
+    → IfOk r (λ q. q.seen ≡ store_version_of s) → IfOk r (λ q. IsFoundAt base s a q.what) → IfOk r (λ q. HeldAt p q.seen a.truck q.what)
 held_if_found i p base s a (Ok q) seen inv same is sound at found =
-    found_held i p base (store_state s) a q.seen q.what seen inv same (ap store_state is) (at ∙ ap version_of is) sound found
+    found_held i p base (store_state s) a q.seen q.what seen inv same (ap store_state is) (at ∙ ap store_version_of is) sound found
 held_if_found i p base s a (Err e) seen inv same is sound at found = tt
 
 -- the segments that are passed are in the index
-pub segments_there : (i : Inside) (p : RegisterParts) (path : List ℕ) → parts_of i ≡ p → IsRegister i → All (λ s. s < length p.base.roads.segments) path → All (λ s. s < length i.index) path
+pub segments_there : (i : Inside) (p : RegisterParts) (path : List ℕ) → register_parts_of i ≡ p → IsRegister i → All (λ s. s < length p.base.roads.segments) path → All (λ s. s < length i.index) path
 segments_there i p path seen inv inside = subst (λ k. All (λ s. s < k) path) (sym inv.index.many) (subst (λ (q : RegisterParts). All (λ s. s < length q.base.roads.segments) path) (sym seen) inside)
 
 -- with one permit more, whose routes meet, and its routes in the index
-pub issue_keeps : (i : Inside) (p : RegisterParts) (book : List Permit) (index : Lists) (q : Permit) → parts_of i ≡ p → IsRegister i → q.number ≡ length i.book + 1 → is_live q.mark ≡ true
-    → q.trip.truck < length p.base.fleet → All (λ s. s < length p.base.roads.segments) (concat q.trip.routes) → first_on p.base (state_now p) q.trip.truck (concat q.trip.routes) ≡ None
+pub issue_keeps : (i : Inside) (p : RegisterParts) (book : List Permit) (index : Lists) (q : Permit) → register_parts_of i ≡ p → IsRegister i → q.number ≡ length i.book + 1 → is_live q.mark ≡ true
+    → q.trip.truck < length p.base.fleet → All (λ s. s < length p.base.roads.segments) (concat q.trip.routes) → first_on p.base (register_state_now p) q.trip.truck (concat q.trip.routes) ≡ None
     → IsAdded i.index q.number (concat q.trip.routes) index → book ≡ i.book ++ q ∷ [] → IsRegister (record i { book = book; index = index })
 issue_keeps i p book index q seen inv number live there within meets added entered =
     let base : BaseLists = arc_value i.base in
     let m : Machine = machine_at i.store.postings i.book i.day in
     let fits : q.trip.truck < length base.fleet = subst (λ (r : RegisterParts). q.trip.truck < length r.base.fleet) (sym seen) there in
     let inside : All (λ s. s < length base.roads.segments) (concat q.trip.routes) = subst (λ (r : RegisterParts). All (λ s. s < length r.base.roads.segments) (concat q.trip.routes)) (sym seen) within in
-    let passes : first_on base (state_now (parts_of i)) q.trip.truck (concat q.trip.routes) ≡ None = subst (λ (r : RegisterParts). first_on r.base (state_now r) q.trip.truck (concat q.trip.routes) ≡ None) (sym seen) meets in
+    let passes : first_on base (register_state_now (register_parts_of i)) q.trip.truck (concat q.trip.routes) ≡ None = subst (λ (r : RegisterParts). first_on r.base (register_state_now r) q.trip.truck (concat q.trip.routes) ≡ None) (sym seen) meets in
     let ranged : IsRanged base q = record { truck = fits; routes = inside } in
     record {
       roads = inv.roads;
@@ -166,13 +166,13 @@ undo_keeps i book mid index n path inv next added gone same = record {
 }
 
 -- the permits that a state recalls are live still when those before them are marked
-pub recalls_live : (i : Inside) (p : RegisterParts) (next : InForce) (v : ℕ) (numbers : List ℕ) → parts_of i ≡ p → IsRegister i → numbers ≡ recalls_of p next → AreLive (mark.Recalled v) i.book numbers
+pub recalls_live : (i : Inside) (p : RegisterParts) (next : InForce) (v : ℕ) (numbers : List ℕ) → register_parts_of i ≡ p → IsRegister i → numbers ≡ recalls_of p next → AreLive (mark.Recalled v) i.book numbers
 recalls_live i p next v numbers seen inv are =
     let same : numbers ≡ recalled_by (arc_value i.base) next i.day i.book = are ∙ ap (λ (q : RegisterParts). recalls_of q next) (sym seen) in
     rw same (recalled_live (arc_value i.base) next i.day v i.book inv.good.numbered)
 
 -- and their numbers rise
-pub recalls_rise : (i : Inside) (p : RegisterParts) (next : InForce) (numbers : List ℕ) → parts_of i ≡ p → IsRegister i → numbers ≡ recalls_of p next → IsStrictlyIncreasing numbers
+pub recalls_rise : (i : Inside) (p : RegisterParts) (next : InForce) (numbers : List ℕ) → register_parts_of i ≡ p → IsRegister i → numbers ≡ recalls_of p next → IsStrictlyIncreasing numbers
 recalls_rise i p next numbers seen inv are =
     let same : numbers ≡ recalled_by (arc_value i.base) next i.day i.book = are ∙ ap (λ (q : RegisterParts). recalls_of q next) (sym seen) in
     rw same (are_increasing (is_recalled (arc_value i.base) next i.day) i.book inv.good.numbered)
@@ -180,27 +180,27 @@ recalls_rise i p next numbers seen inv are =
 -- what the posting of a change leaves
 pub record Posted (i : Inside) (p : RegisterParts) (change : Change) (next : Inside) : Type 0 where
   pub kept : IsRegister next
-  pub after : (parts_of next).machine ≡ with_posting p.base p.machine change (posted_reply p.base p.machine change)
+  pub after : (register_parts_of next).machine ≡ with_posting p.base p.machine change (posted_reply p.base p.machine change)
 
-pub post_keeps : (i : Inside) (p : RegisterParts) (store : Stored) (next : NextState) (book : List Permit) (index : Lists) (v : ℕ) (numbers : List ℕ) → parts_of i ≡ p → IsRegister i → IsNext p next
-    → numbers ≡ recalls_of p next.state → v ≡ version_of i.store + 1 → store ≡ with_change i.store next.change → book ≡ marked_all (mark.Recalled v) i.book numbers → IsIndexed (length i.index) book index
+pub post_keeps : (i : Inside) (p : RegisterParts) (store : Stored) (next : NextState) (book : List Permit) (index : Lists) (v : ℕ) (numbers : List ℕ) → register_parts_of i ≡ p → IsRegister i → IsNextState p next
+    → numbers ≡ recalls_of p next.state → v ≡ store_version_of i.store + 1 → store ≡ with_change i.store next.change → book ≡ marked_all (mark.Recalled v) i.book numbers → IsIndexed (length i.index) book index
     → Posted i p next.change (record i { store = store; book = book; index = index })
 post_keeps i p store next book index v numbers seen inv is are counted longer marks indexed =
     let here : BaseLists = arc_value i.base in
     let m : Machine = machine_at i.store.postings i.book i.day in
     let change : Change = next.change in
-    let its : IsNext (parts_of i) next = subst (λ (q : RegisterParts). IsNext q next) (sym seen) is in
-    let recalls : numbers ≡ recalled_by here (state_with here m change) i.day i.book = are ∙ (ap (λ (q : RegisterParts). recalls_of q next.state) (sym seen) ∙ ap (recalls_of (parts_of i)) its.state) in
+    let its : IsNextState (register_parts_of i) next = subst (λ (q : RegisterParts). IsNextState q next) (sym seen) is in
+    let recalls : numbers ≡ recalled_by here (state_with here m change) i.day i.book = are ∙ (ap (λ (q : RegisterParts). recalls_of q next.state) (sym seen) ∙ ap (recalls_of (register_parts_of i)) its.state) in
     let permits : book ≡ recalled_now here (state_with here m change) i.day v i.book =
     marks ∙ (ap (marked_all (mark.Recalled v) i.book) recalls ∙ recalled_marked here (state_with here m change) i.day v i.book inv.good.numbered) in
-    let goes : machine_at store.postings book i.day ≡ with_posting here m change (reply.Posted v (recalls_of (parts_of i) (state_with here m change))) =
+    let goes : machine_at store.postings book i.day ≡ with_posting here m change (reply.Posted v (recalls_of (register_parts_of i) (state_with here m change))) =
     ap (λ (t : Stored). machine_at t.postings book i.day) longer ∙ ap (λ (l : List Permit). machine_at (i.store.postings ++ change ∷ []) l i.day) permits in
-    let answered : with_posting here m change (reply.Posted v (recalls_of (parts_of i) (state_with here m change))) ≡ with_posting here m change (posted_reply here m change) =
+    let answered : with_posting here m change (reply.Posted v (recalls_of (register_parts_of i) (state_with here m change))) ≡ with_posting here m change (posted_reply here m change) =
     rw (its.takes, counted) refl in
     record {
       kept = record {
         roads = inv.roads;
-        good = subst (IsGood here) (sym goes) (good_posted here m change v (recalls_of (parts_of i) (state_with here m change)) its.takes inv.good);
+        good = subst (IsGood here) (sym goes) (good_posted here m change v (recalls_of (register_parts_of i) (state_with here m change)) its.takes inv.good);
         store = ap (λ (t : Stored). t.roads) longer ∙ inv.store;
         follower = inv.follower;
         later = subst (GoesOn i.follower.last) (sym longer) (goes_on_posted i.follower.last i.store change inv.later);

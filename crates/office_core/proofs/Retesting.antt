@@ -22,7 +22,7 @@ use Rattle.office_words.specs.declared.entry.Call.{Call}
 use Rattle.office_words.specs.declared.entry.Call.TheVariants as call
 use Rattle.office_core.specs.Costs.{IsCost}
 use Rattle.office_core.specs.Machine.{Machine}
-use Rattle.office_core.specs.Retests.{IsWithin, changed_on, is_changed}
+use Rattle.office_core.specs.Retests.{AreTestsWithin, changed_on, is_changed}
 
 if_counted : (b : Bool) (s : ℕ) (l : List ℕ) → length (cond b (s ∷ l) l) ≡ cond b 1 0 + length l
 if_counted true s l = omega arith
@@ -197,7 +197,7 @@ module _ (base : BaseLists) (postings : List Change) (seen truck : ℕ) (nodes :
       (sym (ap (first_meeting base (state_of base.roads postings) truck) none) ∙ on.left, omega (arith, on.steps))
 
 -- to test nothing is within what any call may cost
-within_none : (base : BaseLists) (postings : List Change) (seen : ℕ) (w : What) (n : ℕ) → IsWithin base postings seen w n n
+within_none : (base : BaseLists) (postings : List Change) (seen : ℕ) (w : What) (n : ℕ) → AreTestsWithin base postings seen w n n
 within_none base postings seen what.NotNeeded n = refl
 within_none base postings seen (what.Route routes) n = omega arith
 within_none base postings seen (what.Fails s) n = omega arith
@@ -212,7 +212,7 @@ none_changed base postings (s ∷ rest) =
     ∙ (zero-add (changed_on base postings (length postings) rest) ∙ none_changed base postings rest))
 
 pub within_now : (base : BaseLists) (postings : List Change) (w : What) (before now : ℕ)
-    → IsWithin base postings (length postings) w before now → now ≤ before + 1
+    → AreTestsWithin base postings (length postings) w before now → now ≤ before + 1
 within_now base postings what.NotNeeded before now within = omega (arith, within)
 within_now base postings (what.Route routes) before now within = omega (arith, within, none_changed base postings (concat routes))
 within_now base postings (what.Fails s) before now within = within

@@ -12,7 +12,7 @@ use Rattle.permit_book.specs.declared.permit.Permit.{Permit}
 use Rattle.permit_book.specs.Permits.{in_force}
 use Rattle.fleet.specs.Bases.{BaseLists, truck_of}
 use Rattle.fleet.specs.Passing.{is_passable}
-use Rattle.trip_analysis.specs.Findings.{is_in}
+use Rattle.trip_analysis.specs.Findings.{is_number_among}
 use Rattle.office_core.specs.Recalls.{InForceMeet, InForceMeetElsewhere, MeetsElsewhere, fails}
 
 not_false : (b : Bool) → not b ≡ false → b ≡ true
@@ -30,16 +30,16 @@ one_more true p q i x same passes again = rw (same refl, again) (absorbed q i)
 one_more false p q i x same passes again = rw (passes refl, again) refl
 
 -- of numbers that pass but for one, some fail where that one is among them and fails
-fails_on : (pass : ℕ → Bool) (segment : ℕ) (route : List ℕ) → All (λ s. s ≢ segment → pass s ≡ true) route → list_any (λ s. not (pass s)) route ≡ (is_in segment route && not (pass segment))
+fails_on : (pass : ℕ → Bool) (segment : ℕ) (route : List ℕ) → All (λ s. s ≢ segment → pass s ≡ true) route → list_any (λ s. not (pass s)) route ≡ (is_number_among segment route && not (pass segment))
 fails_on pass segment [] h = refl
 fails_on pass segment (s ∷ rest) h =
     let head = All-head (λ n. n ≢ segment → pass n ≡ true) s rest h in
     let tail = All-tail (λ n. n ≢ segment → pass n ≡ true) s rest h in
-    one_more (s == segment) (pass s) (pass segment) (is_in segment rest) (list_any (λ n. not (pass n)) rest)
+    one_more (s == segment) (pass s) (pass segment) (is_number_among segment rest) (list_any (λ n. not (pass n)) rest)
     (λ e. ap pass (eqb-true s segment e)) (λ e. head (eqb-false s segment e)) (fails_on pass segment rest tail)
 
 -- a permit that meets its truck at each segment but one fails where that one is on its route and fails
-pub fails_there : (base : BaseLists) (state : InForce) (segment : ℕ) (p : Permit) → MeetsElsewhere base state segment p → fails base state p ≡ (is_in segment (concat p.trip.routes) && not (is_passable base state p.trip.truck segment))
+pub fails_there : (base : BaseLists) (state : InForce) (segment : ℕ) (p : Permit) → MeetsElsewhere base state segment p → fails base state p ≡ (is_number_among segment (concat p.trip.routes) && not (is_passable base state p.trip.truck segment))
 fails_there base state segment p h = fails_on (is_passable base state p.trip.truck) segment (concat p.trip.routes) h
 
 -- numbers that passed pass still where they are tested alike

@@ -15,7 +15,7 @@ use Rattle.trip_analysis.specs.declared.finding.What.{What}
 use Rattle.fleet.specs.Bases.{BaseLists}
 use Rattle.trip_applications.specs.Applications.{Sound, IsAskedWalk}
 use Rattle.fleet.specs.Passing.{limit_for, is_passable, first_on, first_or, flags_of, needs_none}
-use Rattle.trip_analysis.specs.Findings.{first_meeting, leaving, leaves, IsFinding, IsFoundBy, asked_finding, is_in, what_of}
+use Rattle.trip_analysis.specs.Findings.{first_meeting, leaving, leaves, IsFinding, IsFoundBy, asked_finding, is_number_among, proposed_of}
 use Rattle.trip_analysis.specs.declared.finding.What.TheVariants as what
 use Rattle.route_search.specs.Walks.{IsWalk, every, flagged, CanReach, AreReached}
 use Rattle.route_search.specs.declared.shortest.Shortest.{Shortest}
@@ -35,7 +35,7 @@ found_by base state a w off h = elim (cases_Bool (needs_none base a.truck)) [ in
 pub is_needed : (base : BaseLists) (state : InForce) (a : Application) → needs_none base a.truck ≡ false → IsFinding base state a what.NotNeeded → ⊥
 is_needed base state a needed h = by a.asked (h.found needed)
   where
-    searched : (f : Shortest) → what.NotNeeded ≡ what_of f → ⊥
+    searched : (f : Shortest) → what.NotNeeded ≡ proposed_of f → ⊥
     searched (shortest.Route segments feet) same = cc
     searched (shortest.Cut reached) same = cc
     searched (shortest.NoRoad reached) same = cc
@@ -64,7 +64,7 @@ routes_walk base state a routes sound h = by a.asked refl sound.asked
 pub record IsOnAsked (a : Application) (s : ℕ) : Type 0 where
   pub routes : List (List ℕ)
   pub asked : a.asked ≡ Some routes
-  pub on : is_in s (concat routes) ≡ true
+  pub on : is_number_among s (concat routes) ≡ true
 
 here_or : (s t : ℕ) (b : Bool) → s ≡ t → ((s == t) || b) ≡ true
 here_or s t b e = rw (eq-eqb s t e) refl
@@ -73,13 +73,13 @@ later_or : (b c : Bool) → c ≡ true → (b || c) ≡ true
 later_or true c e = refl
 later_or false c e = e
 
-pub first_in : (base : BaseLists) (state : InForce) (truck : ℕ) (f : Failing) (route : List ℕ) → first_on base state truck route ≡ Some f → is_in f.segment route ≡ true
+pub first_in : (base : BaseLists) (state : InForce) (truck : ℕ) (f : Failing) (route : List ℕ) → first_on base state truck route ≡ Some f → is_number_among f.segment route ≡ true
 first_in base state truck f [] e = cc
 first_in base state truck f (s ∷ rest) e = by (limit_for base state truck s) e (first_in base state truck f rest)
   where
-    by : (l : Option Limit) → first_or l s (first_on base state truck rest) ≡ Some f → (first_on base state truck rest ≡ Some f → is_in f.segment rest ≡ true) → is_in f.segment (s ∷ rest) ≡ true
-    by (Some l) e again = let is : s ≡ f.segment = cc in here_or s f.segment (is_in f.segment rest) is
-    by None e again = later_or (s == f.segment) (is_in f.segment rest) (again e)
+    by : (l : Option Limit) → first_or l s (first_on base state truck rest) ≡ Some f → (first_on base state truck rest ≡ Some f → is_number_among f.segment rest ≡ true) → is_number_among f.segment (s ∷ rest) ≡ true
+    by (Some l) e again = let is : s ≡ f.segment = cc in here_or s f.segment (is_number_among f.segment rest) is
+    by None e again = later_or (s == f.segment) (is_number_among f.segment rest) (again e)
 
 -- and the limit that is named is its first failing one
 pub first_limit : (base : BaseLists) (state : InForce) (truck : ℕ) (f : Failing) (route : List ℕ) → first_on base state truck route ≡ Some f → limit_for base state truck f.segment ≡ Some f.limit
@@ -95,13 +95,13 @@ first_limit base state truck f (s ∷ rest) e = by (limit_for base state truck s
 pub fails_asked : (base : BaseLists) (state : InForce) (a : Application) (s : ℕ) → IsFinding base state a (what.Fails s) → IsOnAsked a s
 fails_asked base state a s h = by a.asked refl (found_by base state a (what.Fails s) (λ e. cc) h)
   where
-    searched : (f : Shortest) → what.Fails s ≡ what_of f → IsOnAsked a s
+    searched : (f : Shortest) → what.Fails s ≡ proposed_of f → IsOnAsked a s
     searched (shortest.Route segments feet) same = cc
     searched (shortest.Cut reached) same = cc
     searched (shortest.NoRoad reached) same = cc
 
     asked_by : (routes : List (List ℕ)) (f : Option Failing) → a.asked ≡ Some routes → first_on base state a.truck (concat routes) ≡ f → what.Fails s ≡ asked_finding f routes → IsOnAsked a s
-    asked_by routes (Some f) asked e is = let same : f.segment ≡ s = cc in record { routes = routes; asked = asked; on = ap (λ (n : ℕ). is_in n (concat routes)) (sym same) ∙ first_in base state a.truck f (concat routes) e }
+    asked_by routes (Some f) asked e is = let same : f.segment ≡ s = cc in record { routes = routes; asked = asked; on = ap (λ (n : ℕ). is_number_among n (concat routes)) (sym same) ∙ first_in base state a.truck f (concat routes) e }
     asked_by routes None asked e is = cc
 
     by : (asked : Option (List (List ℕ))) → a.asked ≡ asked → IsFoundBy base state a asked (what.Fails s) → IsOnAsked a s
@@ -110,13 +110,13 @@ fails_asked base state a s h = by a.asked refl (found_by base state a (what.Fail
 
 -- nodes that hold the one and not the other
 pub record Separates (nodes : List ℕ) (a b : ℕ) : Type 0 where
-  pub inside : is_in a nodes ≡ true
-  pub outside : is_in b nodes ≡ false
+  pub inside : is_number_among a nodes ≡ true
+  pub outside : is_number_among b nodes ≡ false
 
 reached_separate : (segments : List Segment) (may : ℕ → Bool) (a b : ℕ) (nodes : List ℕ) → AreReached segments may a nodes → (CanReach segments may a b → ⊥) → Separates nodes a b
 reached_separate segments may a b nodes h none = record {
   inside = let (k, at) = h.complete a ([], refl) in is_in_from_among a nodes k at;
-  outside = elim (cases_Bool (is_in b nodes)) [ inl e ↦ absurd (let (k, at) = among_from_is_in b nodes e in none (h.sound k b at)) | inr e ↦ e ];
+  outside = elim (cases_Bool (is_number_among b nodes)) [ inl e ↦ absurd (let (k, at) = among_from_is_in b nodes e in none (h.sound k b at)) | inr e ↦ e ];
 }
 
 -- a cut is found where no route is asked for, and its nodes hold the beginning of the trip and not its end
@@ -127,7 +127,7 @@ pub record IsCutOf (a : Application) (nodes : List ℕ) : Type 0 where
 pub cut_of : (base : BaseLists) (state : InForce) (a : Application) (nodes : List ℕ) → IsFinding base state a (what.Cut nodes) → IsCutOf a nodes
 cut_of base state a nodes h = by a.asked refl (found_by base state a (what.Cut nodes) (λ e. cc) h)
   where
-    searched : a.asked ≡ None → (f : Shortest) → IsSearched base.roads (flags_of base state a.truck) a.from a.to f → what.Cut nodes ≡ what_of f → IsCutOf a nodes
+    searched : a.asked ≡ None → (f : Shortest) → IsSearched base.roads (flags_of base state a.truck) a.from a.to f → what.Cut nodes ≡ proposed_of f → IsCutOf a nodes
     searched none (shortest.Route segments feet) is same = cc
     searched none (shortest.Cut reached) is same = let e : reached ≡ nodes = cc in
         record { asked = none; apart = subst (λ (l : List ℕ). Separates l a.from a.to) e (reached_separate base.roads.segments (flagged (flags_of base state a.truck)) a.from a.to reached is.nodes is.none) }
@@ -146,7 +146,7 @@ cut_of base state a nodes h = by a.asked refl (found_by base state a (what.Cut n
 pub road_or : (base : BaseLists) (state : InForce) (a : Application) (nodes : List ℕ) → IsFinding base state a (what.Cut nodes) → CanReach base.roads.segments every a.from a.to ⊎ (CanReach base.roads.segments every a.from a.to → ⊥)
 road_or base state a nodes h = by a.asked refl (found_by base state a (what.Cut nodes) (λ e. cc) h)
   where
-    searched : (f : Shortest) → IsSearched base.roads (flags_of base state a.truck) a.from a.to f → what.Cut nodes ≡ what_of f → CanReach base.roads.segments every a.from a.to ⊎ (CanReach base.roads.segments every a.from a.to → ⊥)
+    searched : (f : Shortest) → IsSearched base.roads (flags_of base state a.truck) a.from a.to f → what.Cut nodes ≡ proposed_of f → CanReach base.roads.segments every a.from a.to ⊎ (CanReach base.roads.segments every a.from a.to → ⊥)
     searched (shortest.Route segments feet) is same = cc
     searched (shortest.Cut reached) is same = inl is.walk
     searched (shortest.NoRoad reached) is same = inr is.none
@@ -160,8 +160,8 @@ road_or base state a nodes h = by a.asked refl (found_by base state a (what.Cut 
     by None asked is = let (f, is_found, same) = is in searched f is_found same
 
 -- a segment that begins in a set of nodes and does not end in it leaves it
-leaves_of : (roads : Roads) (nodes : List ℕ) (i : ℕ) (s : Segment) → slice_get roads.segments i ≡ Some s → Leaves (λ n. is_in n nodes) s → leaves roads nodes i ≡ true
-leaves_of roads nodes i s at h = ap (λ (t : Segment). is_in t.from nodes && not (is_in t.to nodes)) (get_or_from_slice_get roads.segments i s no_segment at) ∙ both h.0 h.1
+leaves_of : (roads : Roads) (nodes : List ℕ) (i : ℕ) (s : Segment) → slice_get roads.segments i ≡ Some s → Leaves (λ n. is_number_among n nodes) s → leaves roads nodes i ≡ true
+leaves_of roads nodes i s at h = ap (λ (t : Segment). is_number_among t.from nodes && not (is_number_among t.to nodes)) (get_or_from_slice_get roads.segments i s no_segment at) ∙ both h.0 h.1
   where
     both : {b c : Bool} → b ≡ true → c ≡ false → (b && not c) ≡ true
     both e f = rw (e, f) refl
@@ -263,17 +263,17 @@ none_left f a (suc k) e s low high on = by (f a) refl e (cases_eq s a) (λ rest 
 -- where no segment that leaves the nodes may be passed, no passable walk leads from the one to the other
 pub none_passable : (base : BaseLists) (state : InForce) (truck a b : ℕ) (nodes path : List ℕ) → Separates nodes a b → first_meeting base state truck (leaving base.roads nodes) ≡ None → IsWalk base.roads.segments (is_passable base state truck) a b path → ⊥
 none_passable base state truck a b nodes path apart none walk =
-    false≢true (sym apart.outside ∙ stays_in base.roads.segments (is_passable base state truck) (λ n. is_in n nodes) closed a b path apart.inside walk)
+    false≢true (sym apart.outside ∙ stays_in base.roads.segments (is_passable base state truck) (λ n. is_number_among n nodes) closed a b path apart.inside walk)
   where
-    closed : (i : ℕ) (s : Segment) → slice_get base.roads.segments i ≡ Some s → is_passable base state truck i ≡ true → Leaves (λ n. is_in n nodes) s → ⊥
+    closed : (i : ℕ) (s : Segment) → slice_get base.roads.segments i ≡ Some s → is_passable base state truck i ≡ true → Leaves (λ n. is_number_among n nodes) s → ⊥
     closed i s at may out = let within : i < length base.roads.segments = slice_get_within base.roads.segments i s at in
         false≢true (sym (none_meets base state truck (leaves base.roads nodes) 0 (length base.roads.segments - 0) none i (omega arith) (omega (arith, within)) (leaves_of base.roads nodes i s at out)) ∙ may)
 
 -- where no segment leaves the nodes, no walk leads from the one to the other
 pub none_there : (roads : Roads) (a b : ℕ) (nodes path : List ℕ) → Separates nodes a b → leaving roads nodes ≡ [] → IsWalk roads.segments every a b path → ⊥
 none_there roads a b nodes path apart none walk =
-    false≢true (sym apart.outside ∙ stays_in roads.segments every (λ n. is_in n nodes) closed a b path apart.inside walk)
+    false≢true (sym apart.outside ∙ stays_in roads.segments every (λ n. is_number_among n nodes) closed a b path apart.inside walk)
   where
-    closed : (i : ℕ) (s : Segment) → slice_get roads.segments i ≡ Some s → every i ≡ true → Leaves (λ n. is_in n nodes) s → ⊥
+    closed : (i : ℕ) (s : Segment) → slice_get roads.segments i ≡ Some s → every i ≡ true → Leaves (λ n. is_number_among n nodes) s → ⊥
     closed i s at may out = let within : i < length roads.segments = slice_get_within roads.segments i s at in
         none_left (leaves roads nodes) 0 (length roads.segments - 0) none i (omega arith) (omega (arith, within)) (leaves_of roads nodes i s at out)

@@ -4,7 +4,7 @@ use Rattle.permit_days.specs.Days.{is_before}
 use Rattle.permit_book.specs.declared.permit.Status.{Status}
 use Rattle.permit_book.specs.declared.permit.Status.TheVariants as status
 use Rattle.trip_applications.specs.declared.application.Application.{Application}
-use Rattle.trip_analysis.specs.Findings.{is_in}
+use Rattle.trip_analysis.specs.Findings.{is_number_among}
 use Rattle.office_words.specs.declared.entry.Call.{Call}
 use Rattle.office_words.specs.declared.entry.Call.TheVariants as call
 use Rattle.office_words.specs.declared.entry.Reply.TheVariants as reply
@@ -28,7 +28,7 @@ WasIssuedFor es n trip routes = (at : History) × (by : ℕ) × (c : Call) × (v
 
 -- the entry behind these is the posting of this version, and it recalls the permit
 abbrev pub RecallsAs : History → ℕ → History → ℕ → Type 0
-RecallsAs es n at v = (by : ℕ) × (c : Call) × (ns : Numbers) × (is_in n ns ≡ true)
+RecallsAs es n at v = (by : ℕ) × (c : Call) × (ns : Numbers) × (is_number_among n ns ≡ true)
     × Stands es at (entry by c (reply.Posted v ns))
 
 -- the entry behind these is a posting that recalls it

@@ -1,7 +1,7 @@
 -- What the calls of one caller leave. Others may call the same office between them.
 use Rattle.std.specs.Prelude.{◌≡◌, ◌++◌, ◌∷◌, [], ℕ, List, length, Option, Some, None, false, if◌then◌else◌, nat_le}
 use Rattle.std.specs.Borrow.{GName}
-use Rattle.snapshot_store.specs.Stores.{Stored, version_of}
+use Rattle.snapshot_store.specs.Stores.{Stored, store_version_of}
 use Rattle.fleet.specs.Bases.{BaseLists}
 use Rattle.office_words.specs.declared.entry.Call.{Call}
 use Rattle.office_words.specs.declared.entry.Call.TheVariants as call
@@ -73,7 +73,7 @@ module _ {P : Type 0} where
   -- A look at the office was answered: by a snapshot of what is then posted. It has its entry also where no
   -- memory was left for the snapshot.
   abbrev pub Looks : Calling P → Looked → Calling P → Type 0
-  Looks v (looked.At s) w = Answered v call.Snapshot (reply.SnapshotAt (version_of s)) w × (s ≡ stored_seen w)
+  Looks v (looked.At s) w = Answered v call.Snapshot (reply.SnapshotAt (store_version_of s)) w × (s ≡ stored_seen w)
   Looks v looked.NoMemory w = (version : ℕ) × Answered v call.Snapshot (reply.SnapshotAt version) w
   Looks v (looked.Full most) w = Answered v call.Snapshot (reply.Full most) w
 

@@ -8,7 +8,7 @@ use Rattle.office_words.specs.declared.entry.Call.{Call}
 use Rattle.office_words.specs.declared.entry.Call.TheVariants as call
 use Rattle.office_words.specs.declared.entry.Entry.{Entry}
 use Rattle.office_core.specs.Machine.{Machine, after_entry, opened}
-use Rattle.office_core.specs.Retests.{IsWithin}
+use Rattle.office_core.specs.Retests.{AreTestsWithin}
 use Rattle.office_core.specs.Users.{users_of}
 
 -- what the office finds itself is found by so many tests at the most: what it knows of the trucks is carried over to the current
@@ -20,7 +20,7 @@ tests_held base a = tests_to_go_on base + tests_for base a.asked + 1
 -- finds itself what finding takes; a posting at most the number of permits that use the segment which it names; a look, a day, a
 -- surrender and what a permit says nothing
 abbrev pub IsCost : BaseLists → Machine → Call → ℕ → ℕ → Type 0
-IsCost base m (call.Submit a p) before now = IsWithin base m.postings p.seen p.what before now
+IsCost base m (call.Submit a p) before now = AreTestsWithin base m.postings p.seen p.what before now
 IsCost base m (call.Held a) before now = now ≤ before + tests_held base a
 IsCost base m (call.Post change) before now = now ≤ before + length (users_of (touched base.roads change) m.permits)
 IsCost base m _ before now = now ≡ before

@@ -12,7 +12,7 @@ use Rattle.office_words.specs.declared.entry.Reply.TheVariants as reply
 use Rattle.office_core.specs.Offices.{entry}
 use Rattle.office_core.specs.Machine.{IsLegal, machine_of, state_in, trip_for, version_of}
 use Rattle.office_core.specs.Happened.{Day, History, Routes, Stands, WasIssued}
-use Rattle.office_core.specs.Happened.{application_in, day_after, issued_in, seen_by, state_after, version_after}
+use Rattle.office_core.specs.Happened.{application_in, day_after, issued_in, seen_by, state_left_by, version_after}
 use Rattle.office_core.specs.Became.{IsInForce, IsNotEnded, RecallsAs, SurrendersAt}
 
 -- the mark of a permit says what became of it: nothing yet, or that the posting of a version recalled it, or
@@ -44,7 +44,7 @@ pub record IsAsIssued (at front : History) (by : ℕ) (c : Call) (n v : ℕ) (ro
 pub record HoldsWhatItSays (base : BaseLists) (day : Day) (es : History) : Type 0 where
   -- the version, what is posted on the roads, the day, and how many permits there are
   pub version : version_of (machine_of base day es) ≡ version_after es
-  pub state : state_in base (machine_of base day es) ≡ state_after base es
+  pub state : state_in base (machine_of base day es) ≡ state_left_by base es
   pub today : (machine_of base day es).day ≡ day_after day es
   pub many : length (machine_of base day es).permits ≡ issued_in es
   -- it holds each permit as its entry issued it, with a mark of what became of it

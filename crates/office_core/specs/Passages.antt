@@ -19,7 +19,7 @@ pub record IsPassableWalk (base : BaseLists) (state : InForce) (truck from to : 
 
 -- of the passable walks from one node to another none is shorter, and of those as short it is the first in
 -- dictionary order
-pub record IsShortest (base : BaseLists) (state : InForce) (truck from to : ℕ) (route : Route) : Type 0 where
+pub record IsShortestPassable (base : BaseLists) (state : InForce) (truck from to : ℕ) (route : Route) : Type 0 where
   pub walk : IsPassableWalk base state truck from to route
   pub least : (other : Route) → IsPassableWalk base state truck from to other
       → feet_of base.roads.segments route ≤ feet_of base.roads.segments other
@@ -34,7 +34,7 @@ ArePassableWalks base state truck from to routes = All (IsPassableWalk base stat
 pub record IsShortestAlone (base : BaseLists) (state : InForce) (truck from to : ℕ) (routes : Routes) : Type 0 where
   pub route : Route
   pub alone : routes ≡ route ∷ []
-  pub shortest : IsShortest base state truck from to route
+  pub shortest : IsShortestPassable base state truck from to route
 
 -- the truck reaches a node: some passable walk leads there
 abbrev pub Reaches : BaseLists → InForce → ℕ → ℕ → ℕ → Type 0

@@ -18,7 +18,7 @@ use Rattle.office_words.specs.declared.entry.Reply.TheVariants as reply
 use Rattle.office_core.specs.declared.register.Register.TheInside.{Inside}
 use Rattle.office_core.specs.Recalls.{InForceMeetElsewhere, is_recalled, recalled_by}
 use Rattle.office_core.specs.Replies.{is_issue, what_reply}
-use Rattle.office_core.specs.Retests.{IsWithin, changed_on, is_changed}
+use Rattle.office_core.specs.Retests.{AreTestsWithin, changed_on, is_changed}
 use Rattle.office_core.specs.Costs.{IsCost}
 use Rattle.office_core.specs.Users.{IsIndexed}
 use Rattle.office_core.specs.Machine.{IsGiven, IsGood, Machine, after, machine_at, may_lack, posted_reply, state_at, state_in, stored_of, version_of, with_next, with_permit, with_posting}
@@ -28,12 +28,12 @@ pub record RegisterParts : Type 0 where
   pub base : BaseLists
   pub machine : Machine
 
-abbrev pub parts_of : Inside → RegisterParts
-parts_of r = record { base = arc_value r.base; machine = machine_at r.store.postings r.book r.day }
+abbrev pub register_parts_of : Inside → RegisterParts
+register_parts_of r = record { base = arc_value r.base; machine = machine_at r.store.postings r.book r.day }
 
 -- the roads are in order; the postings, the permits and the day are as every legal history leaves them; the store is of the
 -- roads, and the follower of the base and not ahead of the store; the index has at each segment the permits that use it
-pub record IsKept (r : Inside) (parts : RegisterParts) : Type 0 where
+pub record IsRegisterKept (r : Inside) (parts : RegisterParts) : Type 0 where
   pub roads : IsRoads parts.base.roads
   pub good : IsGood parts.base parts.machine
   pub store : r.store.roads ≡ parts.base.roads
@@ -42,11 +42,11 @@ pub record IsKept (r : Inside) (parts : RegisterParts) : Type 0 where
   pub index : IsIndexed (length parts.base.roads.segments) parts.machine.permits r.index
 
 abbrev pub IsRegister : Inside → Type 0
-IsRegister r = IsKept r (parts_of r)
+IsRegister r = IsRegisterKept r (register_parts_of r)
 
 -- what is in force on the roads, and what was at an earlier version
-abbrev pub state_now : RegisterParts → InForce
-state_now r = state_in r.base r.machine
+abbrev pub register_state_now : RegisterParts → InForce
+register_state_now r = state_in r.base r.machine
 
 abbrev pub state_then : RegisterParts → ℕ → InForce
 state_then r seen = state_at r.base r.machine seen
@@ -56,16 +56,16 @@ abbrev pub stored_now : RegisterParts → Stored
 stored_now r = stored_of r.base r.machine
 
 -- this is what a posting would make of the store
-abbrev pub IsNext : RegisterParts → NextState → Type 0
-IsNext r next = IsNextOf (stored_now r) next
+abbrev pub IsNextState : RegisterParts → NextState → Type 0
+IsNextState r next = IsNextOf (stored_now r) next
 
 -- this is the answer to the call, where memory suffices
 abbrev pub Gives : RegisterParts → ℕ → Call → Reply → Type 0
 Gives r caller c given = IsGiven r.base r.machine caller c given
 
 -- this is what the call and its answer leave
-abbrev pub Leaves : RegisterParts → ℕ → Call → RegisterParts → Reply → Type 0
-Leaves r caller c next given = next.machine ≡ after r.base r.machine caller c given
+abbrev pub LeavesParts : RegisterParts → ℕ → Call → RegisterParts → Reply → Type 0
+LeavesParts r caller c next given = next.machine ≡ after r.base r.machine caller c given
 
 -- want of memory may be the answer to the call
 abbrev pub MayLack : RegisterParts → Call → Type 0
@@ -73,7 +73,7 @@ MayLack r c = may_lack r.base r.machine c ≡ true
 
 -- the answer to what was found for a truck
 abbrev pub found_reply : RegisterParts → ℕ → What → Reply
-found_reply r truck w = what_reply r.base (state_now r) (version_of r.machine) (length r.machine.permits + 1) truck w
+found_reply r truck w = what_reply r.base (register_state_now r) (version_of r.machine) (length r.machine.permits + 1) truck w
 
 abbrev pub IsReplyTo : RegisterParts → ℕ → What → Reply → Type 0
 IsReplyTo r truck w given = given ≡ found_reply r truck w
@@ -84,7 +84,7 @@ Issues r truck w = is_issue (found_reply r truck w) ≡ true
 
 -- this is found now, and what was found held at this version
 abbrev pub IsFoundNow : RegisterParts → Application → What → Type 0
-IsFoundNow r a w = IsFinding r.base (state_now r) a w
+IsFoundNow r a w = IsFinding r.base (register_state_now r) a w
 
 abbrev pub HeldAt : RegisterParts → ℕ → ℕ → What → Type 0
 HeldAt r seen truck w = HoldsIn r.base (state_then r seen) truck w
@@ -142,7 +142,7 @@ changed_out r seen nodes = changed_among r seen (leaving r.base.roads nodes)
 
 -- only what changed after this version is tested again of what was found then, and one more where its limit is asked for
 abbrev pub IsRetested : RegisterParts → ℕ → What → ℕ → ℕ → Type 0
-IsRetested r seen w before now = IsWithin r.base r.machine.postings seen w before now
+IsRetested r seen w before now = AreTestsWithin r.base r.machine.postings seen w before now
 
 -- so many segments were tested before the call is answered, and so many when it is
 abbrev pub Costs : RegisterParts → Call → ℕ → ℕ → Type 0

@@ -95,10 +95,10 @@ has_list (reply.Posted version recalled) = true
 has_list _ = false
 
 -- the numbers that a reply lists: the segments of its routes, one route after another, or what it recalls
-abbrev pub list_of : Reply → List ℕ
-list_of (reply.Issued number version routes) = concat routes
-list_of (reply.Posted version recalled) = recalled
-list_of _ = []
+abbrev pub numbers_in_reply : Reply → List ℕ
+numbers_in_reply (reply.Issued number version routes) = concat routes
+numbers_in_reply (reply.Posted version recalled) = recalled
+numbers_in_reply _ = []
 
 -- whether a permit was issued
 abbrev pub is_issue : Reply → Bool

@@ -18,8 +18,8 @@ changed_on base postings seen segments = length (filter (is_changed base posting
 
 -- so many segments were tested before a proposal is answered, and so many when it is: of routes only places that
 -- changed are tested, of a segment that fails that one, and of a cut the segments out of it that changed, and one more
-abbrev pub IsWithin : BaseLists → List Change → ℕ → What → ℕ → ℕ → Type 0
-IsWithin base postings seen what.NotNeeded before now = now ≡ before
-IsWithin base postings seen (what.Route routes) before now = now ≤ before + changed_on base postings seen (concat routes)
-IsWithin base postings seen (what.Fails s) before now = now ≤ before + 1
-IsWithin base postings seen (what.Cut nodes) before now = now ≤ before + (changed_on base postings seen (leaving base.roads nodes) + 1)
+abbrev pub AreTestsWithin : BaseLists → List Change → ℕ → What → ℕ → ℕ → Type 0
+AreTestsWithin base postings seen what.NotNeeded before now = now ≡ before
+AreTestsWithin base postings seen (what.Route routes) before now = now ≤ before + changed_on base postings seen (concat routes)
+AreTestsWithin base postings seen (what.Fails s) before now = now ≤ before + 1
+AreTestsWithin base postings seen (what.Cut nodes) before now = now ≤ before + (changed_on base postings seen (leaving base.roads nodes) + 1)

@@ -5,19 +5,19 @@ use Rattle.restriction_log.specs.States.{InForce}
 use Rattle.permit_book.specs.declared.permit.Status.{Status}
 use Rattle.fleet.specs.Bases.{BaseLists}
 use Rattle.trip_applications.specs.declared.application.Application.{Application}
-use Rattle.trip_analysis.specs.Findings.{AreRising, is_in}
+use Rattle.trip_analysis.specs.Findings.{AreRising, is_number_among}
 use Rattle.office_words.specs.declared.entry.Call.{Call}
 use Rattle.office_words.specs.declared.entry.Call.TheVariants as call
 use Rattle.office_words.specs.declared.entry.Reply.TheVariants as reply
 use Rattle.office_core.specs.Offices.{entry}
 use Rattle.office_core.specs.Clearances.{MeetsTruck}
 use Rattle.office_core.specs.Happened.{Day, History, Numbers, Routes, Stands}
-use Rattle.office_core.specs.Happened.{application_in, day_after, seen_by, state_after, version_after}
+use Rattle.office_core.specs.Happened.{application_in, day_after, seen_by, state_left_by, version_after}
 use Rattle.office_core.specs.Became.{IsInForce, IsStatusOf, IssuesAt, RecallsAt, WasIssuedFor, WasIssuedTo}
 
 -- some segment of one of the routes fails the truck
 abbrev pub FailsOn : BaseLists → InForce → ℕ → Routes → Type 0
-FailsOn base state truck routes = (s : ℕ) × (is_in s (concat routes) ≡ true) × (MeetsTruck base state truck s → ⊥)
+FailsOn base state truck routes = (s : ℕ) × (is_number_among s (concat routes) ≡ true) × (MeetsTruck base state truck s → ⊥)
 
 -- a posting names the next version and, rising, exactly the permits in force that fail in the state it makes
 pub record TruePosting (base : BaseLists) (day : Day) (front now : History) (v : ℕ) (ns : Numbers) : Type 0
@@ -25,8 +25,8 @@ pub record TruePosting (base : BaseLists) (day : Day) (front now : History) (v :
     pub version : v ≡ version_after front + 1
     pub counted : v ≡ version_after now
     pub rising : AreRising ns
-    pub exact : (n : ℕ) → (is_in n ns ≡ true)
-        ↔ ((p : IsInForce day front n) × FailsOn base (state_after base now) p.trip.truck p.routes)
+    pub exact : (n : ℕ) → (is_number_among n ns ≡ true)
+        ↔ ((p : IsInForce day front n) × FailsOn base (state_left_by base now) p.trip.truck p.routes)
 
 -- just one entry issues the permit, before it is recalled, and just one recalls it
 pub record IsRecalledOnce (es front : History) (n : ℕ) : Type 0 where

@@ -3,7 +3,7 @@ use Rattle.std.specs.Prelude.{◌≡◌, ◌↔◌, ◌⊎◌, ℕ, ◌+◌, ◌
 use Rattle.std.specs.Prelude.{Option, Some, None}
 use Rattle.std.specs.List.{concat}
 use Rattle.restriction_log.specs.States.{InForce}
-use Rattle.clearance_rules.specs.Loads.{IsLegal}
+use Rattle.clearance_rules.specs.Loads.{IsLegalLoad}
 use Rattle.clearance_rules.specs.declared.limit.Limit.{Limit}
 use Rattle.clearance_rules.specs.Failing.{segment_of}
 use Rattle.clearance_rules.specs.Order.{FailsFirst}
@@ -14,7 +14,7 @@ use Rattle.trip_applications.specs.declared.application.Application.{Application
 use Rattle.trip_analysis.specs.declared.finding.Proposal.{Proposal}
 use Rattle.trip_analysis.specs.declared.finding.What.{What}
 use Rattle.trip_analysis.specs.declared.finding.What.TheVariants as what
-use Rattle.trip_analysis.specs.Findings.{is_in}
+use Rattle.trip_analysis.specs.Findings.{is_number_among}
 use Rattle.office_words.specs.declared.entry.Call.{Call}
 use Rattle.office_words.specs.declared.entry.Call.TheVariants as call
 use Rattle.office_words.specs.declared.entry.Cause.{Cause}
@@ -22,7 +22,7 @@ use Rattle.office_words.specs.declared.entry.Cause.TheVariants as cause
 use Rattle.office_core.specs.Clearances.{MeetsTruck}
 use Rattle.office_core.specs.Passages.{ArePassableWalks, IsPassableWalk, IsRoadWalk, IsShortestAlone, LeadsOut, Reaches}
 use Rattle.office_core.specs.Happened.{Day, History, Numbers, Route, Routes, application_in, day_after, issued_in}
-use Rattle.office_core.specs.Happened.{seen_by, state_after, state_at_version, state_seen, version_after}
+use Rattle.office_core.specs.Happened.{seen_by, state_left_by, state_at_version, state_seen, version_after}
 
 -- a call asks for a trip that can be asked for: its truck and its nodes are there, each asked route is a walk
 -- of it, its days are in order, and with two asked routes or more they are within a year
@@ -45,10 +45,10 @@ pub record TruePermit (base : BaseLists) (day : Day) (front : History) (c : Call
   pub asked : AsksFor base c trip
   pub number : n ≡ issued_in front + 1
   pub version : v ≡ version_after front
-  pub walks : ArePassableWalks base (state_after base front) trip.truck trip.from trip.to routes
+  pub walks : ArePassableWalks base (state_left_by base front) trip.truck trip.from trip.to routes
   pub seen : seen_by front c ≤ v
   pub found : WasFound base (state_seen base front c) trip routes trip.asked
-  pub needed : IsLegal (truck_of base trip.truck).load → ⊥
+  pub needed : IsLegalLoad (truck_of base trip.truck).load → ⊥
   pub on_time : is_before trip.first (day_after day front) ≡ false
 
 -- the limit is one of a segment that is there, and the first that fails the truck on it: it fails, with these
@@ -89,11 +89,11 @@ pub record TrueRefusal (base : BaseLists) (day : Day) (front : History) (c : Cal
     pub trip : Application
     pub asked : AsksFor base c trip
     pub version : v ≡ version_after front
-    pub limit : IsFirstLimit base (state_after base front) trip.truck l
+    pub limit : IsFirstLimit base (state_left_by base front) trip.truck l
     pub seen : seen_by front c ≤ v
-    pub stands : StandsInTheWay base (state_seen base front c) (state_after base front) trip (segment_of l)
+    pub stands : StandsInTheWay base (state_seen base front c) (state_left_by base front) trip (segment_of l)
         trip.asked
-    pub needed : IsLegal (truck_of base trip.truck).load → ⊥
+    pub needed : IsLegalLoad (truck_of base trip.truck).load → ⊥
     pub on_time : is_before trip.first (day_after day front) ≡ false
 
 -- where it is said that there is no road, no walk of the trip is there, whatever is posted
@@ -129,7 +129,7 @@ pub record LedOutOfCut (base : BaseLists) (before now : InForce) (a : Applicatio
     pub nodes : Numbers
     pub proposed : w ≡ what.Cut nodes
     pub unasked : a.asked ≡ None
-    pub cut : (node : ℕ) → (is_in node nodes ≡ true) ↔ Reaches base before a.truck a.from node
+    pub cut : (node : ℕ) → (is_number_among node nodes ≡ true) ↔ Reaches base before a.truck a.from node
     pub out : LeadsOut base before a.truck a.from s
     pub least : (k : ℕ) → LeadsOut base before a.truck a.from k → MeetsTruck base now a.truck k → s ≤ k
 
@@ -155,7 +155,7 @@ pub record TrueOutdated (base : BaseLists) (front : History) (c : Call) (v : ℕ
   pub sound : Sound base trip
   pub version : v ≡ version_after front
   pub later : proposal.seen < v
-  pub changed : HasChanged base (state_at_version base front proposal.seen) (state_after base front) trip
+  pub changed : HasChanged base (state_at_version base front proposal.seen) (state_left_by base front) trip
       proposal.what why
 
 -- a trip is late where it begins before the day, which is named
@@ -169,4 +169,4 @@ pub record TrueLate (base : BaseLists) (day : Day) (front : History) (c : Call) 
 pub record TrueNotNeeded (base : BaseLists) (c : Call) : Type 0 where
   pub trip : Application
   pub asked : AsksFor base c trip
-  pub legal : IsLegal (truck_of base trip.truck).load
+  pub legal : IsLegalLoad (truck_of base trip.truck).load

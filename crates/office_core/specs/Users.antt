@@ -4,11 +4,11 @@ use Rattle.std.specs.List.{concat}
 use Rattle.permit_book.specs.declared.permit.Permit.{Permit}
 use Rattle.permit_book.specs.Permits.{is_issued, is_live, permit_of}
 use Rattle.recall_index.specs.Uses.{Lists, using_in}
-use Rattle.trip_analysis.specs.Findings.{is_in}
+use Rattle.trip_analysis.specs.Findings.{is_number_among}
 
 -- whether a permit uses a segment: it is live, and one of its routes holds the segment
 abbrev pub uses : ℕ → Permit → Bool
-uses segment p = is_live p.mark && is_in segment (concat p.trip.routes)
+uses segment p = is_live p.mark && is_number_among segment (concat p.trip.routes)
 
 -- the numbers of the permits that use a segment
 abbrev pub users_of : ℕ → List Permit → List ℕ

@@ -1,7 +1,7 @@
 // A reply in two copies.
 
 ghost use Rattle.std.specs.Prelude.{◌≡◌, true, false, IfOk, OnErr};
-ghost use Rattle.office_core.specs.Replies.{has_list, list_of};
+ghost use Rattle.office_core.specs.Replies.{has_list, numbers_in_reply};
 
 use names::NoMemory;
 use office_words::Reply;
@@ -51,7 +51,7 @@ impl Answer {
 
     /// The numbers that it lists, the segments of its routes one route after another: none where it holds no list.
     pub(crate) fn numbers(&self) -> &[u32]
-        ensures { result.now ≡ list_of self.now }
+        ensures { result.now ≡ numbers_in_reply self.now }
     {
         match &self.kept {
             Reply::Issued { routes, .. } => routes.all(),

@@ -2,7 +2,7 @@
 
 ghost use Rattle.std.specs.Prelude.{◌≡◌, IfOk, OnErr};
 ghost use Rattle.office_core.specs.Machine.{HasRoom, IsAnswer, MayAsk};
-ghost use Rattle.office_core.specs.Registers.{Costs, Gives, Leaves, MayLack};
+ghost use Rattle.office_core.specs.Registers.{Costs, Gives, LeavesParts, MayLack};
 
 use crate::answer::Answer;
 use crate::register::Register;
@@ -23,7 +23,7 @@ impl Register {
         requires room { HasRoom self.old.machine }
         ensures base { self.new.base ≡ self.old.base }
         ensures answer { IsAnswer self.old.base self.old.machine caller call.now result }
-        ensures after { Leaves self.old caller call.now self.new result }
+        ensures after { LeavesParts self.old caller call.now self.new result }
         ensures cost { Costs self.old call.now steps.old steps.new }
     {
         match self.given(caller, call, steps) {
@@ -43,7 +43,7 @@ impl Register {
         requires room { HasRoom self.old.machine }
         ensures base { self.new.base ≡ self.old.base }
         ensures given { IfOk result (Gives self.old caller call.now) }
-        ensures after { IfOk result (Leaves self.old caller call.now self.new) }
+        ensures after { IfOk result (LeavesParts self.old caller call.now self.new) }
         ensures unchanged { OnErr result (self.new ≡ self.old) }
         ensures lack { OnErr result (MayLack self.old call.now) }
         ensures cost { Costs self.old call.now steps.old steps.new }

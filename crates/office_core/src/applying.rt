@@ -11,7 +11,7 @@ ghost use Rattle.office_words.specs.declared.entry.Reply.TheVariants as reply;
 ghost use Rattle.office_core.specs.Replies.{early_reply};
 ghost use Rattle.office_core.specs.Costs.{tests_held};
 ghost use Rattle.office_core.specs.Machine.{HasRoom, IsFound, trip_for, version_of};
-ghost use Rattle.office_core.specs.Registers.{Gives, HeldAt, IsReplyTo, IsRetested, Issues, Leaves, MayLack, Permits, changed_among, changed_out, found_reply, has_changed, least_out, next_issue, state_now, state_then};
+ghost use Rattle.office_core.specs.Registers.{Gives, HeldAt, IsReplyTo, IsRetested, Issues, LeavesParts, MayLack, Permits, changed_among, changed_out, found_reply, has_changed, least_out, next_issue, register_state_now, state_then};
 
 use crate::answer::Answer;
 use crate::register::Register;
@@ -41,7 +41,7 @@ impl Register {
         requires room { HasRoom self.old.machine }
         ensures base { self.new.base ≡ self.old.base }
         ensures given { IfOk result (Gives self.old caller (Submit application.now proposal.now)) }
-        ensures after { IfOk result (Leaves self.old caller (Submit application.now proposal.now) self.new) }
+        ensures after { IfOk result (LeavesParts self.old caller (Submit application.now proposal.now) self.new) }
         ensures unchanged { OnErr result (self.new ≡ self.old) }
         ensures lack { OnErr result (MayLack self.old (Submit application.now proposal.now)) }
         ensures cost { IsRetested self.old proposal.now.seen proposal.now.what steps.old steps.new }
@@ -63,7 +63,7 @@ impl Register {
         requires room { HasRoom self.old.machine }
         ensures base { self.new.base ≡ self.old.base }
         ensures given { IfOk result (Gives self.old caller (Held application.now)) }
-        ensures after { IfOk result (Leaves self.old caller (Held application.now) self.new) }
+        ensures after { IfOk result (LeavesParts self.old caller (Held application.now) self.new) }
         ensures unchanged { OnErr result (self.new ≡ self.old) }
         ensures lack { OnErr result (MayLack self.old (Held application.now)) }
         ensures cost { steps.new ≤ steps.old + tests_held self.old.base application.now }
@@ -122,7 +122,7 @@ impl Register {
         requires truck { truck < length self.now.base.fleet }
         requires there { All (λ s. s < length self.now.base.roads.segments) segments.now }
         requires met { first_in self.now.base (state_then self.now seen) truck segments.now ≡ None }
-        ensures value { result ≡ first_in self.now.base (state_now self.now) truck segments.now }
+        ensures value { result ≡ first_in self.now.base (register_state_now self.now) truck segments.now }
         ensures steps { steps.new ≤ steps.old + changed_among self.now seen segments.now }
     {
         if seen == self.version() {
@@ -148,7 +148,7 @@ impl Register {
         requires truck { truck < length self.now.base.fleet }
         requires segment { segment < length self.now.base.roads.segments }
         ensures value { result ≡ (if has_changed self.now seen segment
-            then limit_for self.now.base (state_now self.now) truck segment else None) }
+            then limit_for self.now.base (register_state_now self.now) truck segment else None) }
         ensures steps { steps.new ≡ steps.old + (if has_changed self.now seen segment then 1 else 0) }
     {
         if self.changed(segment, seen) {
@@ -168,7 +168,7 @@ impl Register {
     ) -> Option<u32>
         requires truck { truck < length self.now.base.fleet }
         requires met { least_out self.now.base (state_then self.now seen) truck nodes.now ≡ None }
-        ensures value { result ≡ least_out self.now.base (state_now self.now) truck nodes.now }
+        ensures value { result ≡ least_out self.now.base (register_state_now self.now) truck nodes.now }
         ensures steps { steps.new ≤ steps.old + changed_out self.now seen nodes.now }
     {
         let mut from = 0;
@@ -192,7 +192,7 @@ impl Register {
         requires truck { truck < length self.now.base.fleet }
         requires segment { segment < length self.now.base.roads.segments }
         ensures value { result ≡ (leaves self.now.base.roads nodes.now segment
-            && is_passable self.now.base (state_now self.now) truck segment) }
+            && is_passable self.now.base (register_state_now self.now) truck segment) }
         ensures steps { steps.new ≡ steps.old + (if leaves self.now.base.roads nodes.now segment then 1 else 0) }
     {
         let (base, state) = (self.base(), self.state());
@@ -259,7 +259,7 @@ impl Register {
     ) -> Result<Answer, NoMemory>
         requires truck { application.now.truck < length self.old.base.fleet }
         requires segments { All (λ s. s < length self.old.base.roads.segments) (concat routes.now) }
-        requires meets { first_in self.old.base (state_now self.old) application.now.truck (concat routes.now) ≡ None }
+        requires meets { first_in self.old.base (register_state_now self.old) application.now.truck (concat routes.now) ≡ None }
         requires room { HasRoom self.old.machine }
         ensures base { self.new.base ≡ self.old.base }
         ensures given { IfOk result (λ given. given ≡ next_issue self.old routes.now) }

@@ -4,7 +4,7 @@ ghost use Rattle.std.specs.Prelude.{◌≡◌};
 ghost use Rattle.office_words.specs.declared.entry.Call.TheVariants as call;
 ghost use Rattle.office_core.specs.Replies.{day_reply, show_reply, shown};
 ghost use Rattle.office_core.specs.Machine.{with_day};
-ghost use Rattle.office_core.specs.Registers.{Gives, Leaves};
+ghost use Rattle.office_core.specs.Registers.{Gives, LeavesParts};
 
 use crate::answer::Answer;
 use crate::register::Register;
@@ -42,7 +42,7 @@ impl Register {
     pub(crate) fn surrender(&mut self, caller: u32, number: u32) -> Answer
         ensures base { self.new.base ≡ self.old.base }
         ensures given { Gives self.old caller (call.Surrender number) result }
-        ensures after { Leaves self.old caller (call.Surrender number) self.new result }
+        ensures after { LeavesParts self.old caller (call.Surrender number) self.new result }
     {
         let Some(permit) = self.permit(number) else {
             return Answer::plain(Reply::Unknown);

@@ -17,7 +17,7 @@ ghost use Rattle.office_core.specs.Recalls.{IsRanged};
 ghost use Rattle.office_core.specs.Users.{IsUser, users_of};
 ghost use Rattle.office_core.specs.Costs.{tests_held};
 ghost use Rattle.office_core.specs.Machine.{HasRoom, opened, version_of, with_day, with_surrender};
-ghost use Rattle.office_core.specs.Registers.{AreUnchanged, Enters, HeldAt, IsFoundNow, IsNext, MeetElsewhere, Posts, has_changed, posting_reply, recalls_of, state_now, stored_now};
+ghost use Rattle.office_core.specs.Registers.{AreUnchanged, Enters, HeldAt, IsFoundNow, IsNextState, MeetElsewhere, Posts, has_changed, posting_reply, recalls_of, register_state_now, stored_now};
 
 use crate::recall_marks::recall_each;
 use clearance_rules::{Limit, Steps};
@@ -54,11 +54,11 @@ pub(crate) struct Register {
 }
 
 impl Model for Register {
-    ghost use Rattle.office_core.specs.Registers.{IsRegister, RegisterParts, parts_of};
+    ghost use Rattle.office_core.specs.Registers.{IsRegister, RegisterParts, register_parts_of};
 
     ghost Value = { RegisterParts };
 
-    ghost view = { parts_of };
+    ghost view = { register_parts_of };
 
     ghost invariant = { IsRegister };
 }
@@ -98,7 +98,7 @@ impl Register {
 
     /// What is in force on the roads. Takes no memory.
     pub(crate) fn state(&self) -> &State
-        ensures value { result.now ≡ state_now self.now }
+        ensures value { result.now ≡ register_state_now self.now }
         ensures of_base { AreOf self.now.base.roads result.now }
     {
         self.store.now()
@@ -161,7 +161,7 @@ impl Register {
     ) -> Option<Limit>
         requires truck { truck < length self.now.base.fleet }
         requires segment { segment < length self.now.base.roads.segments }
-        ensures value { result ≡ limit_for self.now.base (state_now self.now) truck segment }
+        ensures value { result ≡ limit_for self.now.base (register_state_now self.now) truck segment }
         ensures steps { steps.new ≡ steps.old + 1 }
     {
         let (base, state) = (self.base(), self.state());
@@ -206,7 +206,7 @@ impl Register {
     #[tactic(auto, using(crate::proofs::Registers::stored_is))]
     pub(crate) fn next(&self, change: &Change) -> Result<Next, PostRefusal>
         ensures change { IfOk result (λ next. next.change ≡ change.now) }
-        ensures next { IfOk result (IsNext self.now) }
+        ensures next { IfOk result (IsNextState self.now) }
         ensures of_roads { IfOk result (λ next. AreOf self.now.base.roads next.state) }
         ensures elsewhere { IfOk result
             (λ next. MeetElsewhere self.now next.state (touched self.now.base.roads change.now)) }
@@ -240,7 +240,7 @@ impl Register {
     pub(crate) fn enter_permit(&mut self, trip: Trip, seen: u32) -> Result<(), NoMemory>
         requires truck { trip.truck < length self.old.base.fleet }
         requires segments { All (λ s. s < length self.old.base.roads.segments) (concat trip.routes) }
-        requires meets { first_in self.old.base (state_now self.old) trip.truck (concat trip.routes) ≡ None }
+        requires meets { first_in self.old.base (register_state_now self.old) trip.truck (concat trip.routes) ≡ None }
         requires room { HasRoom self.old.machine }
         ensures base { self.new.base ≡ self.old.base }
         ensures after { OnOk result (Enters self.old trip seen self.new) }
@@ -263,7 +263,7 @@ impl Register {
 
     /// Goes on to the state that a change makes, and recalls these permits.
     pub(crate) fn enter(&mut self, next: Next, recalled: &[u32]) -> Result<(), NoMemory>
-        requires next { IsNext self.old next }
+        requires next { IsNextState self.old next }
         requires recalled { recalled.now ≡ recalls_of self.old next.state }
         ensures base { self.new.base ≡ self.old.base }
         ensures after { OnOk result (Posts self.old next.change self.new (posting_reply self.old next.change)) }

@@ -4,7 +4,7 @@ ghost use Rattle.std.specs.Prelude.{◌≡◌, ◌<◌, length, is_none, IfOk};
 ghost use Rattle.std.specs.Arc.{arc_value};
 ghost use Rattle.office_core.specs.Machine.{HasRoom, IsAnswer, IsFound, MayAsk, may_lack, opened, reply_in, version_of};
 ghost use Rattle.office_core.specs.Replies.{early_reply, is_issue};
-ghost use Rattle.office_core.specs.Registers.{Leaves, stored_now};
+ghost use Rattle.office_core.specs.Registers.{LeavesParts, stored_now};
 
 use crate::register::Register;
 use clearance_rules::Steps;
@@ -67,7 +67,7 @@ impl Replay {
         requires room { HasRoom self.old.machine }
         ensures base { self.new.base ≡ self.old.base }
         ensures answer { IsAnswer self.old.base self.old.machine caller call.now result }
-        ensures after { Leaves self.old caller call.now self.new result }
+        ensures after { LeavesParts self.old caller call.now self.new result }
     {
         let answer = self.register.answer(caller, call, steps);
         let (reply, _told) = answer.into_replies();

@@ -11,10 +11,10 @@ use Rattle.office_core.specs.Calls.{Added, Answered, Looks, stored_seen}
 use Rattle.office_core.specs.Machine.{IsLegal, entries_by, machine_of, stored_of, version_of}
 use Rattle.office_core.specs.Offices.{Opened, entry, grown, machine_in, stored_in_office}
 use Rattle.office_core.specs.Replies.{is_full}
-use Rattle.snapshot_store.specs.Stores.{version_of as postings_of}
+use Rattle.snapshot_store.specs.Stores.{store_version_of as postings_of}
 use Rattle.office_turn.specs.Story.{StartsWith, entries_of}
 use Rattle.office_turn.specs.Told.{Passing, after_hold, after_pass_on}
-use Rattle.office_desk.specs.Desks.{HandsOut, Terms, calls_of, terms_in, terms_of}
+use Rattle.office_desk.specs.Desks.{HandsOut, Terms, calls_with_pass, terms_in, terms_of}
 use Rattle.office_desk.proofs.Turns.{terms_found}
 
 -- A pass that holds a turn, in which one entry is added to the office found there, and that passes the turn on.
@@ -53,7 +53,7 @@ module _ (old held new : Passing Entry Terms) (found after : Opened) (e : Entry)
   legal_there : IsLegal (terms_in old.lock).0 (terms_in old.lock).1 after.history
   legal_there = subst (λ (x : Terms). IsLegal x.0 x.1 after.history) after_terms t.legal
 
-  added : Added (calls_of old) e (calls_of left)
+  added : Added (calls_with_pass old) e (calls_with_pass left)
   added = record {
     own = own_is;
     sees = record {
@@ -68,35 +68,35 @@ module _ (old held new : Passing Entry Terms) (found after : Opened) (e : Entry)
 
 -- the call is answered by that entry's reply
 pub answered : (old held new : Passing Entry Terms) (found after : Opened) (number : ℕ) (c : Call) (r : Reply)
-    → number ≡ old.number → is_full r ≡ false → IsTurn old held new found after (entry number c r) → Answered (calls_of old) c r (calls_of new)
+    → number ≡ old.number → is_full r ≡ false → IsTurn old held new found after (entry number c r) → Answered (calls_with_pass old) c r (calls_with_pass new)
 answered old held new found after number c r is not_full t =
-    subst (λ (p : Passing Entry Terms). Answered (calls_of old) c r (calls_of p)) (sym (left_is old held new found after (entry number c r) t))
+    subst (λ (p : Passing Entry Terms). Answered (calls_with_pass old) c r (calls_with_pass p)) (sym (left_is old held new found after (entry number c r) t))
     (record {
       who = refl;
       full = λ most full. cc (ap is_full full, not_full);
-      entry = λ room. subst (λ (n : ℕ). Added (calls_of old) (entry n c r) (calls_of (after_pass_on (after_hold old found.history) after.history))) is
+      entry = λ room. subst (λ (n : ℕ). Added (calls_with_pass old) (entry n c r) (calls_with_pass (after_pass_on (after_hold old found.history) after.history))) is
           (added old held new found after (entry number c r) t);
     })
 
 -- a look is answered by what is then posted
 pub looks : (old held new : Passing Entry Terms) (found after : Opened) (number : ℕ) (l : Looked)
     → number ≡ old.number → HandsOut l after
-    → IsTurn old held new found after (entry number call.Snapshot (reply.SnapshotAt (version_of (machine_in after)))) → Looks (calls_of old) l (calls_of new)
+    → IsTurn old held new found after (entry number call.Snapshot (reply.SnapshotAt (version_of (machine_in after)))) → Looks (calls_with_pass old) l (calls_with_pass new)
 looks old held new found after number l is out t = by l out
   where
     turned : Entry
     turned = entry number call.Snapshot (reply.SnapshotAt (version_of (machine_in after)))
 
-    stored_is : stored_in_office after ≡ stored_seen (calls_of new)
+    stored_is : stored_in_office after ≡ stored_seen (calls_with_pass new)
     stored_is = ap (λ (x : Terms). stored_of x.0 (machine_of x.0 x.1 after.history)) (after_terms old held new found after turned t)
-        ∙ ap (λ (p : Passing Entry Terms). stored_seen (calls_of p)) (sym (left_is old held new found after turned t))
+        ∙ ap (λ (p : Passing Entry Terms). stored_seen (calls_with_pass p)) (sym (left_is old held new found after turned t))
 
-    done : Answered (calls_of old) call.Snapshot (reply.SnapshotAt (version_of (machine_in after))) (calls_of new)
+    done : Answered (calls_with_pass old) call.Snapshot (reply.SnapshotAt (version_of (machine_in after))) (calls_with_pass new)
     done = answered old held new found after number call.Snapshot (reply.SnapshotAt (version_of (machine_in after))) is refl t
 
-    by : (l : Looked) → HandsOut l after → Looks (calls_of old) l (calls_of new)
+    by : (l : Looked) → HandsOut l after → Looks (calls_with_pass old) l (calls_with_pass new)
     by (looked.At s) out = (
-      subst (λ (v : ℕ). Answered (calls_of old) call.Snapshot (reply.SnapshotAt v) (calls_of new)) (sym (ap postings_of out)) done,
+      subst (λ (v : ℕ). Answered (calls_with_pass old) call.Snapshot (reply.SnapshotAt v) (calls_with_pass new)) (sym (ap postings_of out)) done,
       out ∙ stored_is,
     )
     by looked.NoMemory out = (version_of (machine_in after), done)

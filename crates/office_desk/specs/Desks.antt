@@ -37,8 +37,8 @@ abbrev pub full_of : Passing Entry Terms → Option ℕ
 full_of p = if p.worn then Some p.lock.most else None
 
 -- the calls that are made of a desk with one pass: they belong to the lock, and are those of the pass's number
-abbrev pub calls_of : Passing Entry Terms → Calling (Lock Terms)
-calls_of p = record {
+abbrev pub calls_with_pass : Passing Entry Terms → Calling (Lock Terms)
+calls_with_pass p = record {
   who = record {
     place = Some p.lock;
     reference = None;
@@ -54,7 +54,7 @@ calls_of p = record {
 
 -- what may be asked with a pass: what may be asked of the history that it has seen
 abbrev pub MayAskWith : Passing Entry Terms → Call → Type 0
-MayAskWith p c = MayAsk (calls_of p).who.base (machine_seen (calls_of p)) c
+MayAskWith p c = MayAsk (calls_with_pass p).who.base (machine_seen (calls_with_pass p)) c
 
 -- what a look hands out is what is then posted. It is never that the history is full
 abbrev pub HandsOut : Looked → Opened → Type 0

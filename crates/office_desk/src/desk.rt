@@ -7,7 +7,7 @@ ghost use Rattle.office_turn.specs.Told.{HasReceipt, IsReady, admitted_by, after
 ghost use Rattle.office_core.specs.Machine.{IsLegal, entries_by};
 ghost use Rattle.office_core.specs.Calls.{Answered, Looks};
 ghost use Rattle.office_core.specs.Promises.{KeepsPromises};
-ghost use Rattle.office_desk.specs.Desks.{MayAskWith, calls_of, terms_of};
+ghost use Rattle.office_desk.specs.Desks.{MayAskWith, calls_with_pass, terms_of};
 
 use crate::shared_office::SharedOffice;
 use clearance_rules::Steps;
@@ -135,7 +135,7 @@ impl<L: Ledger> Desk<L> {
     /// there also where no memory was left for them. It may wait.
     pub fn snapshot<R: Wait>(&self, rt: &R, pass: &mut Pass<L>) -> Looked
         requires ready { IsReady self.now pass.old }
-        ensures answered { Looks (calls_of pass.old) result (calls_of pass.new) }
+        ensures answered { Looks (calls_with_pass pass.old) result (calls_with_pass pass.new) }
         ensures ready { IsReady self.now pass.new }
     {
         match self.turn.hold(rt, pass) {
@@ -157,7 +157,7 @@ impl<L: Ledger> Desk<L> {
     pub fn ask<R: Wait>(&self, rt: &R, pass: &mut Pass<L>, call: Call) -> Reply
         requires ready { IsReady self.now pass.old }
         requires asked { MayAskWith pass.old call }
-        ensures answered { Answered (calls_of pass.old) call result (calls_of pass.new) }
+        ensures answered { Answered (calls_with_pass pass.old) call result (calls_with_pass pass.new) }
         ensures ready { IsReady self.now pass.new }
     {
         match self.turn.hold(rt, pass) {

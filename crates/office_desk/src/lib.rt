@@ -16,9 +16,9 @@
 #![tactic(auto)]
 
 mod desk;
-mod shared_office;
 mod seat;
+mod shared_office;
 
 pub use desk::{Desk, Pass, Root};
-pub use shared_office::SharedOffice;
 pub use seat::Seat;
+pub use shared_office::SharedOffice;

@@ -42,11 +42,11 @@ impl<'a, R: Wait, L: Ledger> Seat<'a, R, L> {
 }
 
 impl<R: Wait, L: Ledger> OfficeCalls for Seat<'_, R, L> {
-    ghost use Rattle.office_desk.specs.Desks.{calls_of};
+    ghost use Rattle.office_desk.specs.Desks.{calls_with_pass};
 
     type Place = Desk<L>;
 
-    ghost view = { λ s. calls_of s.pass };
+    ghost view = { λ s. calls_with_pass s.pass };
 
     fn snapshot(&mut self) -> Looked {
         self.desk.snapshot(self.rt, &mut self.pass)

@@ -1,5 +1,5 @@
 ghost use Rattle.std.specs.Prelude.{◌≡◌, ◌<◌, ◌++◌, [], List, IfOk, IfSome};
-ghost use Rattle.snapshot_store.specs.Stores.{version_of as postings_of};
+ghost use Rattle.snapshot_store.specs.Stores.{store_version_of as postings_of};
 ghost use Rattle.trip_applications.specs.Applications.{Sound};
 ghost use Rattle.trip_analysis.specs.Findings.{IsFoundAt};
 ghost use Rattle.office_words.specs.declared.entry.Call.{Call};

@@ -1,5 +1,5 @@
 ghost use Rattle.std.specs.Prelude.{OnOk};
-ghost use Rattle.notice_desk.specs.Standings.{AreNew, AreWithin, standings};
+ghost use Rattle.notice_desk.specs.Standings.{AreNew, AreWithinRecalls, standings};
 ghost use Rattle.notice_desk.specs.Deliveries.{EachToldAll};
 
 use crate::fixtures::recall;
@@ -47,9 +47,9 @@ fn add(rt: &impl Abort, subscribers: &mut Subscribers, whom: Whom, notice: Box<d
 #[tactic(auto, using(notice_desk::proofs::Ready::stopped_within, notice_desk::proofs::Ready::delivered_within))]
 fn deliver_more(subscribers: &mut Subscribers, recalls: &[Recall]) -> Result<(), NoticeFault>
     requires { let told = standings (λ n. (⟦<dyn Notice as Notice>⟧ n.vtable).list n.value) in
-        AreWithin recalls.now (told subscribers.old) }
+        AreWithinRecalls recalls.now (told subscribers.old) }
     ensures { let told = standings (λ n. (⟦<dyn Notice as Notice>⟧ n.vtable).list n.value) in
-        AreWithin recalls.now (told subscribers.new) }
+        AreWithinRecalls recalls.now (told subscribers.new) }
 {
     subscribers.deliver(recalls)
 }
@@ -59,7 +59,7 @@ fn deliver_more(subscribers: &mut Subscribers, recalls: &[Recall]) -> Result<(),
 fn deliver_first(subscribers: &mut Subscribers, recalls: &[Recall]) -> Result<(), NoticeFault>
     requires { AreNew (standings (λ n. (⟦<dyn Notice as Notice>⟧ n.vtable).list n.value) subscribers.old) }
     ensures { let told = standings (λ n. (⟦<dyn Notice as Notice>⟧ n.vtable).list n.value) in
-        AreWithin recalls.now (told subscribers.new) }
+        AreWithinRecalls recalls.now (told subscribers.new) }
 {
     deliver_more(subscribers, recalls)
 }
@@ -80,9 +80,9 @@ fn deliver_twice(subscribers: &mut Subscribers, recalls: &[Recall]) -> Result<()
 #[tactic(auto, using(notice_desk::proofs::Ready::removed_within))]
 fn leave(rt: &impl Abort, subscribers: &mut Subscribers, at: usize, recalls: &[Recall])
     requires { let told = standings (λ n. (⟦<dyn Notice as Notice>⟧ n.vtable).list n.value) in
-        AreWithin recalls.now (told subscribers.old) }
+        AreWithinRecalls recalls.now (told subscribers.old) }
     ensures { let told = standings (λ n. (⟦<dyn Notice as Notice>⟧ n.vtable).list n.value) in
-        AreWithin recalls.now (told subscribers.new) }
+        AreWithinRecalls recalls.now (told subscribers.new) }
 {
     let before = subscribers.len();
     assert!(rt; at < before);
@@ -138,7 +138,7 @@ fn tells_what_failed_once_more(rt: HostRuntime) {
 fn stop_at_the_second(rt: &impl Abort, subscribers: &mut Subscribers, recalls: &[Recall])
     requires { AreNew (standings (λ n. (⟦<dyn Notice as Notice>⟧ n.vtable).list n.value) subscribers.old) }
     ensures { let told = standings (λ n. (⟦<dyn Notice as Notice>⟧ n.vtable).list n.value) in
-        AreWithin recalls.now (told subscribers.new) }
+        AreWithinRecalls recalls.now (told subscribers.new) }
 {
     assert!(rt; deliver_first(subscribers, recalls) == Err(NoticeFault { at: 1 }));
     assert!(rt; recalls.len() == 3);

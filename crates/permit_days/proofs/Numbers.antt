@@ -7,7 +7,7 @@ use Rattle.std.proofs.lemmas.Bool.{cases_order}
 use Rattle.jiff_core.specs.Calendar.{days_from_civil, days_in_month, IsCivilDate}
 use Rattle.jiff_core.proofs.CalendarLemmas.{days_from_civil-day_count, day_count-day, day_count-lt_month, day_count-lt_year}
 use Rattle.jiff_core.proofs.SignedLemmas.{signed_arith}
-use Rattle.permit_days.specs.Days.{day_of, has_shape, is_day, is_day_text, month_of, number_of, year_of}
+use Rattle.permit_days.specs.Days.{day_of_month, has_shape, is_day, is_day_text, month_of, day_number_of, year_of}
 use Rattle.permit_days.specs.Laws.{IsEarlier}
 use Rattle.permit_days.proofs.Orders.{IsBefore}
 
@@ -55,16 +55,16 @@ by_parts y m d y' m' d' = elim (cases_order y y') [
   ]
 ]
 
-there : (text : List ℕ) → is_day_text text ≡ true → is_day (year_of text) (month_of text) (day_of text) ≡ true
-there text h = second_so (has_shape text) (is_day (year_of text) (month_of text) (day_of text)) h
+there : (text : List ℕ) → is_day_text text ≡ true → is_day (year_of text) (month_of text) (day_of_month text) ≡ true
+there text h = second_so (has_shape text) (is_day (year_of text) (month_of text) (day_of_month text)) h
 
 module _ (a b : List ℕ) (h : is_day_text a ≡ true) (k : is_day_text b ≡ true) where
-  pub lower_number : IsEarlier a b → number_of a <ℤ number_of b
-  lower_number before = lower (year_of a) (month_of a) (day_of a) (year_of b) (month_of b) (day_of b) (there a h) (there b k) before
+  pub lower_number : IsEarlier a b → day_number_of a <ℤ day_number_of b
+  lower_number before = lower (year_of a) (month_of a) (day_of_month a) (year_of b) (month_of b) (day_of_month b) (there a h) (there b k) before
 
-  pub earlier_day : number_of a <ℤ number_of b → IsEarlier a b
-  earlier_day less = elim (by_parts (year_of a) (month_of a) (day_of a) (year_of b) (month_of b) (day_of b)) [
+  pub earlier_day : day_number_of a <ℤ day_number_of b → IsEarlier a b
+  earlier_day less = elim (by_parts (year_of a) (month_of a) (day_of_month a) (year_of b) (month_of b) (day_of_month b)) [
     | inl before ↦ before
-    | inr (inl after) ↦ absurd (omega (arith, signed_arith, less, lower (year_of b) (month_of b) (day_of b) (year_of a) (month_of a) (day_of a) (there b k) (there a h) after))
-    | inr (inr same) ↦ absurd (let e : number_of a ≡ number_of b = rw (same.0, same.1, same.2) in omega (arith, signed_arith, less, e))
+    | inr (inl after) ↦ absurd (omega (arith, signed_arith, less, lower (year_of b) (month_of b) (day_of_month b) (year_of a) (month_of a) (day_of_month a) (there b k) (there a h) after))
+    | inr (inr same) ↦ absurd (let e : day_number_of a ≡ day_number_of b = rw (same.0, same.1, same.2) in omega (arith, signed_arith, less, e))
   ]

@@ -7,7 +7,7 @@ use Rattle.std.specs.Cmp.{first_so}
 use Rattle.std.specs.Cmp.Lexicographic.{bytes_decides, nat_list_cmp_total, slice_cmp, texts_ties}
 use Rattle.std.proofs.lemmas.Cmp.{ranked}
 use Rattle.std.proofs.lemmas.Bool.{cases_lt}
-use Rattle.permit_days.specs.Days.{day_of, digit_at, has_shape, is_day, is_day_text, month_of, year_of}
+use Rattle.permit_days.specs.Days.{day_of_month, digit_at, has_shape, is_day, is_day_text, month_of, year_of}
 use Rattle.permit_days.specs.Laws.{IsEarlier}
 use Rattle.permit_days.proofs.Shapes.{IsShaped, digit_at-most, shaped}
 
@@ -103,7 +103,7 @@ pub later : (a b : List ℕ) → IsShaped a → IsShaped b → IsEarlier a b →
 later a b s t h = by (slice_cmp nat_cmp a b) refl
   where
     twice : IsEarlier b a → ⊥
-    twice g = not_both (year_of a) (month_of a) (day_of a) (year_of b) (month_of b) (day_of b) h g
+    twice g = not_both (year_of a) (month_of a) (day_of_month a) (year_of b) (month_of b) (day_of_month b) h g
 
     by : (o : Ordering) → slice_cmp nat_cmp a b ≡ o → o ≡ Less
     by Less is = refl
@@ -111,4 +111,4 @@ later a b s t h = by (slice_cmp nat_cmp a b) refl
     by Greater is = absurd (twice (earlier b a t s (nat_list_cmp_total.antisymm b a ∙ ap ordering_reverse is)))
 
 pub shape_of : (text : List ℕ) → is_day_text text ≡ true → IsShaped text
-shape_of text h = shaped text (first_so (has_shape text) (is_day (year_of text) (month_of text) (day_of text)) h)
+shape_of text h = shaped text (first_so (has_shape text) (is_day (year_of text) (month_of text) (day_of_month text)) h)

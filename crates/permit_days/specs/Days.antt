@@ -31,8 +31,8 @@ abbrev pub month_of : List ℕ → ℕ
 month_of text = pair_at text 5
 
 -- the day of the month that a text of that shape writes
-abbrev pub day_of : List ℕ → ℕ
-day_of text = pair_at text 8
+abbrev pub day_of_month : List ℕ → ℕ
+day_of_month text = pair_at text 8
 
 -- the civil calendar has a day of this year, month and day of the month: the years 1 to 9999 of the Gregorian calendar, which is
 -- also taken for the years before its introduction, twelve months, and each month's days
@@ -42,11 +42,11 @@ is_day year month day =
 
 -- the text of a day
 abbrev pub is_day_text : List ℕ → Bool
-is_day_text text = has_shape text && is_day (year_of text) (month_of text) (day_of text)
+is_day_text text = has_shape text && is_day (year_of text) (month_of text) (day_of_month text)
 
 -- the number of the day that a text writes: how many days it lies after 1 January 1970
-abbrev pub number_of : List ℕ → ℤ
-number_of text = days_from_civil (pos (year_of text)) (month_of text) (day_of text)
+abbrev pub day_number_of : List ℕ → ℤ
+day_number_of text = days_from_civil (pos (year_of text)) (month_of text) (day_of_month text)
 
 -- a whole number, or 0 where it is negative
 abbrev pub or_zero : ℤ → ℕ
@@ -55,13 +55,13 @@ or_zero (negsuc n) = 0
 
 -- how many days the last day lies after the first one; 0 where it does not
 abbrev pub days_between : List ℕ → List ℕ → ℕ
-days_between first last = or_zero (number_of last -ℤ number_of first)
+days_between first last = or_zero (day_number_of last -ℤ day_number_of first)
 
 -- the day that a text writes, or why it is none: its shape, or that there is no such day
 abbrev pub reading_of : List ℕ → Result (List ℕ) DayRefusal
 reading_of text =
     if not (has_shape text) then Err Shape
-    else (if not (is_day (year_of text) (month_of text) (day_of text)) then Err NoSuchDay else Ok text)
+    else (if not (is_day (year_of text) (month_of text) (day_of_month text)) then Err NoSuchDay else Ok text)
 
 -- the first day comes before the second: as their texts are all of one length, in the order of their bytes
 abbrev pub is_before : List ℕ → List ℕ → Bool

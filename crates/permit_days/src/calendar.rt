@@ -4,7 +4,7 @@ ghost use Rattle.std.specs.Prelude.{◌≡◌, ◌≤◌, ◌<◌, pos, slice_in
 ghost use Rattle.std.specs.List.{list_all};
 ghost use Rattle.std.specs.Char.{is_ascii_digit};
 ghost use Rattle.jiff_core.specs.Calendar.{days_from_civil};
-ghost use Rattle.permit_days.specs.Days.{day_of, digit_at, has_shape, is_day, month_of, number_of, or_zero, pair_at, year_of};
+ghost use Rattle.permit_days.specs.Days.{day_of_month, digit_at, has_shape, is_day, month_of, day_number_of, or_zero, pair_at, year_of};
 
 use jiff_core::civil::Date;
 
@@ -82,7 +82,7 @@ fn number_on_calendar(year: u16, month: u8, day: u8) -> i32
 /// Whether there is a day of the year, month and day that a text of that shape writes.
 pub(crate) fn is_there(text: &[u8]) -> bool
     requires { has_shape text.now ≡ true }
-    ensures { result ≡ is_day (year_of text.now) (month_of text.now) (day_of text.now) }
+    ensures { result ≡ is_day (year_of text.now) (month_of text.now) (day_of_month text.now) }
 {
     is_on_calendar(year(text), pair(text, 5), pair(text, 8))
 }
@@ -90,8 +90,8 @@ pub(crate) fn is_there(text: &[u8]) -> bool
 /// The day number of the day that a text writes.
 pub(crate) fn number(text: &[u8]) -> i32
     requires shape { has_shape text.now ≡ true }
-    requires there { is_day (year_of text.now) (month_of text.now) (day_of text.now) ≡ true }
-    ensures { result ≡ number_of text.now }
+    requires there { is_day (year_of text.now) (month_of text.now) (day_of_month text.now) ≡ true }
+    ensures { result ≡ day_number_of text.now }
 {
     number_on_calendar(year(text), pair(text, 5), pair(text, 8))
 }

@@ -1,7 +1,7 @@
 // A day.
 
 ghost use Rattle.std.specs.Prelude.{◌≡◌, Some, Ok, Err, true};
-ghost use Rattle.permit_days.specs.Days.{days_between, is_day_text, number_of, reading_of};
+ghost use Rattle.permit_days.specs.Days.{days_between, is_day_text, day_number_of, reading_of};
 
 use crate::calendar::{days_above, is_shaped, is_there, number};
 use crate::refusal::DayRefusal;
@@ -57,7 +57,7 @@ impl Day {
 
     /// How many days it lies after 1970-01-01; negative before. Takes no memory.
     pub fn number(self) -> i32
-        ensures { result ≡ number_of self }
+        ensures { result ≡ day_number_of self }
     {
         number(&self.text())
     }

@@ -6,7 +6,7 @@ use Rattle.record_text.specs.declared.refusal.Cause.{Cause}
 use Rattle.record_text.specs.declared.refusal.FileRefusal.{FileRefusal}
 use Rattle.record_text.specs.declared.refusal.FileRefusal.TheVariants as file
 use Rattle.day_text.specs.Refusals.{IsRefusedAs}
-use Rattle.journal_reader.specs.Cuts.{IsCut}
+use Rattle.journal_reader.specs.Cuts.{IsCutBehindEnd}
 use Rattle.journal_audit.specs.declared.verdict.Verdict.{Verdict}
 use Rattle.journal_audit.specs.declared.verdict.Verdict.TheVariants.{Bad, Legal}
 use Rattle.journal_audit.specs.Verdicts.{IsVerdict}
@@ -18,8 +18,8 @@ use Rattle.journal_reader.proofs.Answers.{one_answer}
 use Rattle.journal_reader.proofs.OneCut.{one_cut}
 use Rattle.journal_reader.proofs.Whole.{one_history}
 use Rattle.journal_audit.proofs.Fronts.{verdicts_one}
-use Rattle.permit_program.specs.Audit.{JudgesAudit, JudgesHistory, JudgesParts, answer_to_entry, answer_to_line, answer_to_verdict, audit, legal_line}
-use Rattle.permit_program.specs.Command.{Answer, IsAnswer, IsAnswerTo, IsRefusalOf, Makes}
+use Rattle.permit_program.specs.Audit.{JudgesAudit, JudgesHistory, JudgesParts, answer_to_entry, answer_to_line, answer_to_verdict, audit, legal_history_line}
+use Rattle.permit_program.specs.Command.{Answer, IsCommandAnswer, IsAnswerTo, IsRefusalOf, Makes}
 use Rattle.permit_program.specs.declared.refusal.Refusal.{Refusal}
 use Rattle.permit_program.specs.declared.refusal.Refusal.TheVariants as refusal
 
@@ -47,7 +47,7 @@ audits_once bytes a b x y =
     (subst (λ (d : List ℕ). JudgesParts x.journal d b) (sym same.1) (subst (λ (j : List ℕ). JudgesParts j y.behind b) (sym same.0) y.judged))
 
 -- what stands behind a journal is refused as a day file, and the command refuses the bytes so
-module _ (bytes front rest : List ℕ) (cut : IsCut bytes front rest) (history : List Entry) (read : IsJournalOf history front) where
+module _ (bytes front rest : List ℕ) (cut : IsCutBehindEnd bytes front rest) (history : List Entry) (read : IsJournalOf history front) where
   pub refused_day : (refused : FileRefusal) (r : Refusal) → IsRefusedAs (day_of rest) refused → IsAnswerTo refused r → IsRefusalOf audit bytes r
   refused_day (file.Refused row cause) (refusal.Refused status line) is answers = record {
     journal = front;
@@ -68,12 +68,12 @@ module _ (bytes front rest : List ℕ) (cut : IsCut bytes front rest) (history :
     }
 
     -- the history is not legal, and the command refuses the bytes for its first bad entry
-    pub refused_entry : (n : ℕ) → IsVerdict day.base day.day history (Bad n) → (r : Refusal) → IsAnswer (answer_to_entry n) r → IsRefusalOf audit bytes r
+    pub refused_entry : (n : ℕ) → IsVerdict day.base day.day history (Bad n) → (r : Refusal) → IsCommandAnswer (answer_to_entry n) r → IsRefusalOf audit bytes r
     refused_entry n bad (refusal.Refused status line) answers = judged (Bad n) (Some (record { status = status; line = string_bytes line })) bad (ap Some answers)
     refused_entry n bad refusal.NoMemory answers = tt
 
     -- the history is legal, and the command says so
-    pub audit_made : IsVerdict day.base day.day history Legal → (text : List ℕ) → text ≡ legal_line (length history) → Makes audit bytes text
+    pub audit_made : IsVerdict day.base day.day history Legal → (text : List ℕ) → text ≡ legal_history_line (length history) → Makes audit bytes text
     audit_made legal text is = record {
       taken = judged Legal None legal refl;
       output = record {
@@ -90,5 +90,5 @@ module _ (bytes front rest : List ℕ) (cut : IsCut bytes front rest) (history :
       only = λ free other h.
           let same = one_cut bytes front rest h.journal h.behind cut h.cut in
           let theirs : IsJournalOf h.history front = subst (IsJournalOf h.history) (sym same.0) h.read in
-          h.line ∙ (ap (λ (es : List Entry). legal_line (length es)) (one_history h.history history front theirs read) ∙ sym is);
+          h.line ∙ (ap (λ (es : List Entry). legal_history_line (length es)) (one_history h.history history front theirs read) ∙ sym is);
     }

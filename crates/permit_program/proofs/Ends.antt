@@ -23,7 +23,7 @@ use Rattle.record_text.specs.declared.refusal.Cause.{Cause}
 use Rattle.record_text.specs.declared.refusal.Cause.TheVariants as why
 use Rattle.std.specs.Prelude.{Result, Ok, Err, option_map}
 use Rattle.std.specs.String.{string_bytes}
-use Rattle.refusal_text.specs.Lines.{status_of}
+use Rattle.refusal_text.specs.Lines.{refusal_status_of}
 use Rattle.day_text.specs.Days.{DayParts, day_of}
 use Rattle.office_words.specs.declared.entry.Entry.{Entry}
 use Rattle.journal_audit.specs.declared.verdict.Verdict.{Verdict}
@@ -34,7 +34,7 @@ use Rattle.permit_program.specs.Commands.{command_by, command_of}
 use Rattle.permit_program.specs.Convoy.{answer_to_convoy, convoy_refusal}
 use Rattle.permit_program.specs.Reroute.{JudgesFile, answer_to_entries}
 use Rattle.permit_program.specs.Endings.{AnswersRefusal, AnswersText, AnswersUnread, WasUnread}
-use Rattle.permit_program.specs.Runs.{AsksForDay, CallFor, CountedDay, CountsItsDay, IsPlain, IsRun, IsSettled, IsStatusFor, IsStatusOr, Outside, SinkFailed, SourceAt, Told, Took, WroteLine, bytes_for, bytes_line, most_bytes, status_by}
+use Rattle.permit_program.specs.Runs.{AsksForDay, CallFor, CountedDay, CountsItsDay, IsPlain, IsRun, IsStatusSettled, IsStatusFor, IsStatusOr, Outside, SinkFailed, SourceAt, Told, Took, WroteLine, bytes_for, bytes_line, most_bytes, status_called_for}
 use Rattle.permit_program.specs.declared.refusal.Refusal.{Refusal}
 use Rattle.permit_program.specs.declared.refusal.Refusal.TheVariants.{NoMemory, Refused}
 
@@ -64,13 +64,13 @@ takes_none (Some bytes) = ([], refl, omega arith)
 abbrev pub IsRefusalStatus : ℕ → Type 0
 IsRefusalStatus status = (status ≡ 5) ⊎ (status ≡ 6) ⊎ (status ≡ 9) ⊎ (status ≡ 10)
 
-cause_status : (cause : Cause) → IsRefusalStatus (status_of cause)
+cause_status : (cause : Cause) → IsRefusalStatus (refusal_status_of cause)
 cause_status (why.Bad cause) = inl refl
 cause_status (why.TooMany kind) = inr (inl refl)
 
 -- the answer is one of such a status
 answers : (told wanted : Answer) → Some told ≡ Some wanted → IsRefusalStatus told.status → IsRefusalStatus wanted.status
-answers told wanted is status = subst (λ (o : Option Answer). IsRefusalStatus (status_by o)) is status
+answers told wanted is status = subst (λ (o : Option Answer). IsRefusalStatus (status_called_for o)) is status
 
 file_status : {T : Type 0} (told : Result T (ℕ × Cause)) (answer : Answer) → refusal_in told ≡ Some answer → IsRefusalStatus answer.status
 file_status (Ok file) answer is = absurd cc
@@ -157,12 +157,12 @@ none_counted asked before after status tests lacks is zero = absurd (omega (arit
 
 -- the status that bytes call for which were taken
 module _ (c : Command) (bytes : List ℕ) (few : length bytes ≤ most_bytes) (judgement : Option Answer) (judges : c.Judges bytes judgement)
-    (status : ℕ) (is : IsStatusOr (status_by judgement) status) where
+    (status : ℕ) (is : IsStatusOr (status_called_for judgement) status) where
   here : IsStatusFor c bytes status
   here =
-      let called : CallFor c (nat_lt most_bytes (length bytes)) bytes (status_by judgement) =
-      subst (λ (many : Bool). CallFor c many bytes (status_by judgement)) (sym (not_below most_bytes (length bytes) few)) (judgement, judges, refl) in
-      inr (status_by judgement, called, is)
+      let called : CallFor c (nat_lt most_bytes (length bytes)) bytes (status_called_for judgement) =
+      subst (λ (many : Bool). CallFor c many bytes (status_called_for judgement)) (sym (not_below most_bytes (length bytes) few)) (judgement, judges, refl) in
+      inr (status_called_for judgement, called, is)
 
   of_all : (left rest : Option (List ℕ)) → IfSome left (λ all. (bytes ≡ all) × (rest ≡ Some [])) → IfSome left (λ all. IsStatusFor c all status)
   of_all None rest took = tt
@@ -266,7 +266,7 @@ module _ {S K : Type 0} (a : Asked) (before after : Outside S K) (most : TookAtM
   ends_unread unread.NoMemory status calm answered desk = of_status answered.0 (lacked answered.1 calm desk)
 
   module _ (bytes : List ℕ) (took : Took c.reads before.source after.source bytes) (few : length bytes ≤ most_bytes) (calm : after.source.faults ≡ before.source.faults) where
-    settles : (judgement : Option Answer) → c.Judges bytes judgement → (status : ℕ) → IsStatusOr (status_by judgement) status → IsSettled c before.source.left status
+    settles : (judgement : Option Answer) → c.Judges bytes judgement → (status : ℕ) → IsStatusOr (status_called_for judgement) status → IsStatusSettled c before.source.left status
     settles judgement judges status is = of_read c bytes few judgement judges status is c.reads before.source after.source took
 
     told_why : (answer : Answer) → c.Judges bytes (Some answer) → WroteLine answer.line before.sink after.sink → after.desk ≡ before.desk → IsRun (Some a) before after answer.status

@@ -26,7 +26,7 @@ use Rattle.day_trial.specs.Serial.{IsSerial, SerialHistoriesAreOne}
 use Rattle.trial_report.specs.Summaries.{summary_of}
 use Rattle.permit_program.specs.Headline.{Headline}
 use Rattle.permit_program.specs.Check.{check}
-use Rattle.permit_program.specs.Command.{IsAnswer, IsAnswerTo, IsRefusalOf, Makes, MakesAndTells, refusal_in}
+use Rattle.permit_program.specs.Command.{IsCommandAnswer, IsAnswerTo, IsRefusalOf, Makes, MakesAndTells, refusal_in}
 use Rattle.permit_program.specs.Convoy.{answer_to_convoy, convoy, convoy_refusal}
 use Rattle.permit_program.specs.Day.{HasFewActors, day}
 use Rattle.permit_program.specs.Design.{design}
@@ -70,7 +70,7 @@ module _ (trucks gap : ℕ) (bytes : List ℕ) (file : CheckFile) (read : check_
 
   -- the answer to trucks that are no convoy is the command's
   pub refused_convoy : (refused : ConvoyRefusal) (r : Refusal) → first_refusal (together file) ≡ Some refused
-      → IsAnswer (answer_to_convoy refused) r → IsRefusalOf (convoy trucks gap) bytes r
+      → IsCommandAnswer (answer_to_convoy refused) r → IsRefusalOf (convoy trucks gap) bytes r
   refused_convoy refused (refusal.Refused status line) first answers =
       ap (convoy_refusal trucks gap) read ∙ (ap (option_map answer_to_convoy) first ∙ ap Some answers)
   refused_convoy refused refusal.NoMemory first answers = tt

@@ -11,7 +11,7 @@ use Rattle.day_text.specs.Refusals.{IsRefusedAs}
 use Rattle.office_words.specs.declared.entry.Entry.{Entry}
 use Rattle.day_reroute.specs.Rerouted.{IsRerouted, IsTooLong, ReroutedHistoriesAreOne}
 use Rattle.reroute_report.specs.Lines.{reroute_text}
-use Rattle.permit_program.specs.Command.{Answer, IsAnswer, IsAnswerTo, IsRefusalOf, Makes}
+use Rattle.permit_program.specs.Command.{Answer, IsCommandAnswer, IsAnswerTo, IsRefusalOf, Makes}
 use Rattle.permit_program.specs.Reroute.{HasRoomFor, IsReroute, JudgesDay, JudgesFile, answer_to_entries, reroute}
 use Rattle.permit_program.specs.declared.refusal.Refusal.{Refusal}
 use Rattle.permit_program.specs.declared.refusal.Refusal.TheVariants as refusal
@@ -54,7 +54,7 @@ module _ (bytes : List ℕ) (f : DayParts) (read : day_of bytes ≡ Ok f) where
           ∙ (ap (reroute_text (length f.actors)) (one f history h.history roads rerouted theirs) ∙ sym is))
 
   -- a day that is too long is refused
-  pub refused_long : IsTooLong f → (r : Refusal) → IsAnswer answer_to_entries r → IsRefusalOf reroute bytes r
+  pub refused_long : IsTooLong f → (r : Refusal) → IsCommandAnswer answer_to_entries r → IsRefusalOf reroute bytes r
   refused_long long (refusal.Refused status line) answers = judged (Some (record { status = status; line = string_bytes line })) (inr (long, ap Some answers))
   refused_long long refusal.NoMemory answers = tt
 

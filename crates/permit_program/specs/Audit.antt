@@ -5,7 +5,7 @@ use Rattle.record_text.specs.declared.refusal.Cause.{Cause}
 use Rattle.day_text.specs.Days.{DayParts, day_of}
 use Rattle.office_words.specs.declared.entry.Entry.{Entry}
 use Rattle.office_core.specs.Machine.{IsLegal}
-use Rattle.journal_reader.specs.Cuts.{IsCut}
+use Rattle.journal_reader.specs.Cuts.{IsCutBehindEnd}
 use Rattle.journal_reader.specs.Journals.{IsBadLine, IsJournalOf}
 use Rattle.journal_reader.specs.declared.refusal.JournalRefusal.{JournalRefusal}
 use Rattle.journal_reader.specs.declared.refusal.JournalRefusal.TheVariants as text
@@ -52,12 +52,12 @@ JudgesParts journal behind judgement =
 pub record JudgesAudit (bytes : List ℕ) (judgement : Option Answer) : Type 0 where
   pub journal : List ℕ
   pub behind : List ℕ
-  pub cut : IsCut bytes journal behind
+  pub cut : IsCutBehindEnd bytes journal behind
   pub judged : JudgesParts journal behind judgement
 
 -- the line that says so of a legal history
-abbrev pub legal_line : ℕ → List ℕ
-legal_line count = codes "legal " ++ (decimal count ++ (10 ∷ []))
+abbrev pub legal_history_line : ℕ → List ℕ
+legal_history_line count = codes "legal " ++ (decimal count ++ (10 ∷ []))
 
 -- The promise: the bytes are a journal and behind it a day file; the history of the journal is one of an office about the file's
 -- roads and trucks that opened on its day; and the text says so, with the number of entries. Whether the history holds the
@@ -65,13 +65,13 @@ legal_line count = codes "legal " ++ (decimal count ++ (10 ∷ []))
 pub record IsAudit (bytes text : List ℕ) : Type 0 where
   pub journal : List ℕ
   pub behind : List ℕ
-  pub cut : IsCut bytes journal behind
+  pub cut : IsCutBehindEnd bytes journal behind
   pub history : List Entry
   pub read : IsJournalOf history journal
   pub file : DayParts
   pub day_read : day_of behind ≡ Ok file
   pub legal : IsLegal file.base file.day history
-  pub line : text ≡ legal_line (length history)
+  pub line : text ≡ legal_history_line (length history)
 
 -- `audit`: it reads, leaves no choice of the text, and tells nobody of recalls
 abbrev pub audit : Command

@@ -5,7 +5,7 @@ use Rattle.notice_desk.specs.declared.notice.Recall.{Recall}
 use Rattle.record_text.specs.declared.refusal.Cause.{Cause}
 use Rattle.record_text.specs.declared.refusal.FileRefusal.{FileRefusal}
 use Rattle.record_text.specs.declared.refusal.FileRefusal.TheVariants as file
-use Rattle.refusal_text.specs.Lines.{refusal_line_of, status_of}
+use Rattle.refusal_text.specs.Lines.{refusal_line_of, refusal_status_of}
 use Rattle.permit_program.specs.declared.refusal.Refusal.{Refusal}
 use Rattle.permit_program.specs.declared.refusal.Refusal.TheVariants.{NoMemory, Refused}
 
@@ -50,13 +50,13 @@ IsRefusalOf command bytes (Refused status line) =
 IsRefusalOf command bytes NoMemory = Unit {0}
 
 -- bytes are answered in this way, unless memory was wanting
-abbrev pub IsAnswer : Answer → Refusal → Type 0
-IsAnswer answer (Refused status line) = answer ≡ record { status = status; line = string_bytes line }
-IsAnswer answer NoMemory = Unit {0}
+abbrev pub IsCommandAnswer : Answer → Refusal → Type 0
+IsCommandAnswer answer (Refused status line) = answer ≡ record { status = status; line = string_bytes line }
+IsCommandAnswer answer NoMemory = Unit {0}
 
 -- how a refused record is answered
 abbrev pub answer_to : ℕ × Cause → Answer
-answer_to (row, cause) = record { status = status_of cause; line = refusal_line_of row cause }
+answer_to (row, cause) = record { status = refusal_status_of cause; line = refusal_line_of row cause }
 
 -- how a file is refused, if it is: by the row of its first refused record, and the first cause that holds for it
 abbrev pub refusal_in : {T : Type 0} → Result T (ℕ × Cause) → Option Answer

@@ -168,14 +168,14 @@ pub record RefusedBytes {S K : Type 0} (status : ℕ) (command : Command) (befor
   pub told : WroteLine bytes_line before.sink after.sink
 
 -- The status that a judgement calls for, where nothing fails.
-abbrev pub status_by : Option Answer → ℕ
-status_by None = 0
-status_by (Some answer) = answer.status
+abbrev pub status_called_for : Option Answer → ℕ
+status_called_for None = 0
+status_called_for (Some answer) = answer.status
 
 -- The status that bytes call for: 6 where there are too many, and else the one of the command's judgement of them.
 abbrev pub CallFor : Command → Bool → List ℕ → ℕ → Type 0
 CallFor command true bytes status = status ≡ 6
-CallFor command false bytes status = (judgement : Option Answer) × command.Judges bytes judgement × (status ≡ status_by judgement)
+CallFor command false bytes status = (judgement : Option Answer) × command.Judges bytes judgement × (status ≡ status_called_for judgement)
 
 -- The status is this one; and in the place of 0 the sink may have failed, or an object that is told.
 abbrev pub IsStatusOr : ℕ → ℕ → Type 0
@@ -192,8 +192,8 @@ bytes_for true left = left
 bytes_for false left = Some []
 
 -- The status is the one that the command and its bytes call for, where they are told.
-abbrev pub IsSettled : Command → Option (List ℕ) → ℕ → Type 0
-IsSettled command left status = IfSome (bytes_for command.reads left) (λ bytes. IsStatusFor command bytes status)
+abbrev pub IsStatusSettled : Command → Option (List ℕ) → ℕ → Type 0
+IsStatusSettled command left status = IfSome (bytes_for command.reads left) (λ bytes. IsStatusFor command bytes status)
 
 -- A status that is no refusal's.
 abbrev pub IsPlain : ℕ → Type 0
@@ -213,7 +213,7 @@ pub record IsRun {S K : Type 0} (asked : Option Asked) (before after : Outside S
   pub refused : IsPlain status
       ⊎ IsSomeAnd asked (λ a. RefusedBytes status (command_of a) before after ⊎ RefusedFile status (command_of a) before after)
   -- where the source does not fail, the command and its bytes decide, unless the sink or an object fails or no memory is left
-  pub settled : (SourceFailed before after → ⊥) → IfSome asked (λ a. IsSettled (command_of a) before.source.left status)
+  pub settled : (SourceFailed before after → ⊥) → IfSome asked (λ a. IsStatusSettled (command_of a) before.source.left status)
   -- what was written with each other status
   pub usage_told : status ≡ 2 → WroteLine usage_line before.sink after.sink
   pub nothing_read : status ≡ 3 → after.sink ≡ before.sink

@@ -3,7 +3,7 @@
 ghost use Rattle.std.specs.Prelude.{◌≡◌, ◌≤◌, IfErr, IfOk, length};
 ghost use Rattle.std.specs.String.{string_bytes};
 ghost use Rattle.journal_audit.specs.Verdicts.{IsVerdict};
-ghost use Rattle.permit_program.specs.Audit.{audit, legal_line};
+ghost use Rattle.permit_program.specs.Audit.{audit, legal_history_line};
 ghost use Rattle.permit_program.specs.Command.{IsRefusalOf, Makes};
 ghost use Rattle.permit_program.specs.Runs.{most_bytes};
 
@@ -56,7 +56,7 @@ fn judge(alloc: Global, file: DayFile, history: &[Entry]) -> Result<Verdict, NoM
 
 // The line that says so of a legal history, with the number of its entries.
 fn legal_line(alloc: Global, count: usize) -> Result<String, NoMemory>
-    ensures { IfOk result (λ text. string_bytes text ≡ legal_line count) }
+    ensures { IfOk result (λ text. string_bytes text ≡ legal_history_line count) }
 {
     let mut text = String::new(alloc);
     write!(text, "legal {count}\n")?;

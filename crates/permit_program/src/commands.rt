@@ -1,7 +1,7 @@
 // The list of the commands: which read the source, and what each makes of its bytes.
 
 ghost use Rattle.std.specs.Prelude.{◌≡◌, ◌≢◌, ◌≤◌, IfErr, IfOk, length};
-ghost use Rattle.command_line.specs.Asking.{AreInRange};
+ghost use Rattle.command_line.specs.Asking.{NumbersAreInRange};
 ghost use Rattle.command_line.specs.declared.asked.Task.TheVariants as task;
 ghost use Rattle.permit_program.specs.Command.{IsRefusalOf, Makes};
 ghost use Rattle.permit_program.specs.Commands.{command_of};
@@ -30,7 +30,7 @@ pub(crate) fn reads(asked: Asked) -> bool
 /// The text that a command makes of bytes, where it needs no threads.
 pub(crate) fn make_text(alloc: Global, asked: Asked, bytes: &[u8]) -> Result<Vec<u8>, Refusal>
     requires alone { asked.task ≢ task.Day }
-    requires range { AreInRange asked.options }
+    requires range { NumbersAreInRange asked.options }
     requires few { length bytes.now ≤ most_bytes }
     ensures made { IfOk result (λ text. Makes (command_of asked) bytes.now text.items) }
     ensures refused { IfErr result (IsRefusalOf (command_of asked) bytes.now) }

@@ -1,7 +1,7 @@
 // What `convoy` makes: the report on trucks that follow each other.
 
 ghost use Rattle.std.specs.Prelude.{IfErr, IfOk};
-ghost use Rattle.command_line.specs.Asking.{AreInRange};
+ghost use Rattle.command_line.specs.Asking.{NumbersAreInRange};
 ghost use Rattle.permit_program.specs.Command.{IsRefusalOf, Makes};
 ghost use Rattle.permit_program.specs.Convoy.{convoy};
 
@@ -22,7 +22,7 @@ pub(crate) fn make_convoy_report(
     options: Options,
     bytes: &[u8],
 ) -> Result<Vec<u8>, Refusal>
-    requires { AreInRange options }
+    requires { NumbersAreInRange options }
     ensures made { IfOk result (λ text. Makes (convoy options.trucks options.gap) bytes.now text.items) }
     ensures refused { IfErr result (IsRefusalOf (convoy options.trucks options.gap) bytes.now) }
 {

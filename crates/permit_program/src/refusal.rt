@@ -3,7 +3,7 @@
 ghost use Rattle.std.specs.Prelude.{◌≡◌, ◌<◌, ◌∷◌, ◌++◌, [], IfOk};
 ghost use Rattle.std.specs.Fmt.{decimal};
 ghost use Rattle.std.specs.String.{string_bytes};
-ghost use Rattle.permit_program.specs.Command.{IsAnswer, IsAnswerTo};
+ghost use Rattle.permit_program.specs.Command.{IsCommandAnswer, IsAnswerTo};
 ghost use Rattle.permit_program.specs.Audit.{IsAnswerToText, answer_to_entry};
 ghost use Rattle.permit_program.specs.Convoy.{answer_to_convoy};
 ghost use Rattle.permit_program.specs.Reroute.{answer_to_entries};
@@ -48,7 +48,7 @@ impl Refusal {
 
     /// How trucks that are no convoy are answered: by the first limit that they pass.
     pub(crate) fn of_convoy(alloc: Global, refused: ConvoyRefusal) -> Refusal
-        ensures { IsAnswer (answer_to_convoy refused) result }
+        ensures { IsCommandAnswer (answer_to_convoy refused) result }
     {
         match convoy_refusal_line(alloc, refused) {
             Ok(line) => Refusal::Refused { status: 5, line },
@@ -72,7 +72,7 @@ impl Refusal {
     /// How a history that is not legal is answered: by its first bad entry, counted from 0 here and from 1 in the line.
     pub(crate) fn of_entry(alloc: Global, entry: usize) -> Refusal
         requires { entry < 1000000 }
-        ensures { IsAnswer (answer_to_entry entry) result }
+        ensures { IsCommandAnswer (answer_to_entry entry) result }
     {
         match numbered_line(alloc, "not legal: entry", entry as u64 + 1) {
             Ok(line) => Refusal::Refused { status: 9, line },
@@ -82,7 +82,7 @@ impl Refusal {
 
     /// How a day is answered that makes more entries than a history may hold.
     pub(crate) fn of_entries(alloc: Global) -> Refusal
-        ensures { IsAnswer answer_to_entries result }
+        ensures { IsCommandAnswer answer_to_entries result }
     {
         match String::from_str(alloc, "refused: entries\n") {
             Ok(line) => Refusal::Refused { status: 10, line },

@@ -4,7 +4,7 @@ ghost use Rattle.std.specs.Prelude.{◌≡◌, ◌≢◌, ◌<◌, ◌≤◌, �
 ghost use Rattle.std.specs.String.{string_bytes};
 ghost use Rattle.office_io.specs.Causes.{TookAtMost, UnlessReadFault};
 ghost use Rattle.notice_desk.specs.Standings.{AreNew, standings};
-ghost use Rattle.command_line.specs.Asking.{AreInRange, asked_of};
+ghost use Rattle.command_line.specs.Asking.{NumbersAreInRange, asked_of};
 ghost use Rattle.command_line.specs.declared.asked.Asked.{Asked};
 ghost use Rattle.command_line.specs.declared.asked.Task.TheVariants as task;
 ghost use Rattle.permit_program.specs.Runs.{CountedDay, CountsItsDay, DeskAt, IsAlone, IsRun, Took, WroteLine, desk_at, most_bytes};
@@ -166,7 +166,7 @@ pub fn refuse_words<K: Sink>(sink: &mut K) -> u8
 // Performs a command that needs no threads: takes what it reads, and writes what it makes of that.
 fn perform<S: Source, K: Sink>(alloc: Global, asked: Asked, source: &mut S, sink: &mut K) -> u8
     requires alone { asked.task ≢ task.Day }
-    requires range { AreInRange asked.options }
+    requires range { NumbersAreInRange asked.options }
     ensures { let outside = outside_of S.left S.faults K.held K.faults in
         (desk : DeskAt) → IsRun (Some asked) (outside source.old sink.old desk) (outside source.new sink.new desk) result }
 {

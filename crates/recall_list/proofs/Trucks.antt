@@ -18,7 +18,7 @@ use Rattle.office_core.specs.Offices.{entry}
 use Rattle.office_core.specs.Happened.{History, Stands}
 use Rattle.office_core.specs.Recalled.{RecalledWereIssued, WasIssuedOnce}
 use Rattle.office_core.proofs.Once.{stands_in}
-use Rattle.recall_list.specs.Issues.{issued_by, issued_in}
+use Rattle.recall_list.specs.Issues.{issued_by, told_of_issued}
 use Rattle.recall_list.specs.RecallLists.{HasTrucks, HasTruck, truck_in}
 
 module _ {A : Type 0} (told : Application → A) where
@@ -63,7 +63,7 @@ module _ (base : BaseLists) (es front : History) (n : ℕ) (h : WasIssuedOnce ba
         ]
         by _ same = refl
 
-    pub found_told : issued_in told es n ≡ Some (told h.trip)
+    pub found_told : told_of_issued told es n ≡ Some (told h.trip)
     found_told =
         ap (fold (later told n) None) there.1
         ∙ (fold-append (later told n) None h.at (entry h.by h.c (reply.Issued n h.v h.routes) ∷ there.0)

@@ -15,8 +15,8 @@ issued_by told n c _ = None
 
 -- what is told of the application of a permit: that of the last entry that issued it; in the history of an office there is just
 -- one
-abbrev pub issued_in : {A : Type 0} → (Application → A) → History → ℕ → Option A
-issued_in told es n = fold (λ found e. option_or (issued_by told n e.call e.reply) found) None es
+abbrev pub told_of_issued : {A : Type 0} → (Application → A) → History → ℕ → Option A
+told_of_issued told es n = fold (λ found e. option_or (issued_by told n e.call e.reply) found) None es
 
 -- the numbers that an answer recalls
 abbrev pub recalled_numbers : Reply → Numbers

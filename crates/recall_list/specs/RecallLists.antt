@@ -7,7 +7,7 @@ use Rattle.office_words.specs.declared.entry.Call.{Call}
 use Rattle.office_words.specs.declared.entry.Reply.{Reply}
 use Rattle.office_words.specs.declared.entry.Reply.TheVariants as reply
 use Rattle.office_core.specs.Happened.{History}
-use Rattle.recall_list.specs.Issues.{issued_by, issued_in, recalled_numbers}
+use Rattle.recall_list.specs.Issues.{issued_by, told_of_issued, recalled_numbers}
 
 -- the truck for which a call and its answer issue the permit of a number, where they do
 abbrev pub truck_by : ℕ → Call → Reply → Option ℕ
@@ -15,7 +15,7 @@ truck_by n c r = issued_by (λ a. a.truck) n c r
 
 -- the truck of a permit
 abbrev pub truck_in : History → ℕ → Option ℕ
-truck_in es n = issued_in (λ a. a.truck) es n
+truck_in es n = told_of_issued (λ a. a.truck) es n
 
 -- the carrier of a truck
 abbrev pub carrier_of : BaseLists → Option ℕ → List ℕ

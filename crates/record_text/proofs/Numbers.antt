@@ -5,7 +5,7 @@ use Rattle.std.specs.List.{list_all}
 use Rattle.std.specs.Char.{is_ascii_digit}
 use Rattle.std.specs.Str.Parse.{digits_value, ParsesUnsigned}
 use Rattle.std.proofs.lemmas.Bool.Decides.{nat_tests}
-use Rattle.record_text.specs.Fields.{number_of}
+use Rattle.record_text.specs.Fields.{number_field}
 
 own : IsNumeralModel (λ ds. list_all is_ascii_digit ds ≡ true) (digits_value 10)
 own = numerals_by_value _ (search rules)
@@ -17,6 +17,6 @@ parsed text read h digits some few =
     parse_gives own 32 text read h digits some (omega arith)
 
 -- and are a number's field
-pub number_read : (text : List ℕ) → 0 < length text → length text ≤ 9 → list_all is_ascii_digit text ≡ true → number_of text ≡ Some (digits_value 10 text)
-unfolding number_of
+pub number_read : (text : List ℕ) → 0 < length text → length text ≤ 9 → list_all is_ascii_digit text ≡ true → number_field text ≡ Some (digits_value 10 text)
+unfolding number_field
 number_read text some few digits = grind (arith, nat_tests)

@@ -19,18 +19,18 @@ abbrev pub field_of : List (List ℕ) → ℕ → List ℕ
 field_of fields i = unwrap_or (field_at fields i) []
 
 -- a name: 1 to 16 letters, digits, dashes and underscores of ASCII
-abbrev pub name_of : List ℕ → Option (List ℕ)
-name_of text = if is_name text then Some text else None
+abbrev pub name_field : List ℕ → Option (List ℕ)
+name_field text = if is_name text then Some text else None
 
 -- a number: one to nine decimal digits of ASCII, read in base ten; zeros in front are accepted
-unfoldable pub number_of : List ℕ → Option ℕ
-number_of text = if nat_le 1 (length text) && nat_le (length text) 9 && list_all is_ascii_digit text then Some (digits_value 10 text) else None
+unfoldable pub number_field : List ℕ → Option ℕ
+number_field text = if nat_le 1 (length text) && nat_le (length text) 9 && list_all is_ascii_digit text then Some (digits_value 10 text) else None
 
 -- an axle by the parts of its text around colons, which are two numbers
 abbrev pub axle_of_parts : List (List ℕ) → Option Axle
 axle_of_parts [] = None
 axle_of_parts (place ∷ []) = None
-axle_of_parts (place ∷ weight ∷ []) = option_and_then (λ p. option_map (λ w. record { place = p; weight = w }) (number_of weight)) (number_of place)
+axle_of_parts (place ∷ weight ∷ []) = option_and_then (λ p. option_map (λ w. record { place = p; weight = w }) (number_field weight)) (number_field place)
 axle_of_parts (place ∷ weight ∷ more ∷ parts) = None
 
 -- an axle: PLACE:WEIGHT, so two numbers around the one colon
@@ -57,17 +57,17 @@ day_or_none (Err NoSuchDay) = Some None
 day_or_none (Err Shape) = None
 
 -- a text of the form of a day: the day, or none where the calendar lacks it
-abbrev pub day_of : List ℕ → Option (Option (List ℕ))
-day_of text = day_or_none (reading_of text)
+abbrev pub day_field : List ℕ → Option (Option (List ℕ))
+day_field text = day_or_none (reading_of text)
 
 -- a route: one name and more, with one space between them
 abbrev pub route_of : List ℕ → Option (List (List ℕ))
-route_of text = of_each name_of (slice_split (λ b. b == 32) text)
+route_of text = of_each name_field (slice_split (λ b. b == 32) text)
 
 -- at most eight routes
 abbrev pub few_routes : List (List ℕ) → Option (List (List (List ℕ)))
 few_routes parts = if nat_le (length parts) 8 then of_each route_of parts else None
 
 -- a route field: nothing, or one to eight routes with one bar between them
-abbrev pub routes_of : List ℕ → Option (List (List (List ℕ)))
-routes_of text = if length text == 0 then Some [] else few_routes (slice_split (λ b. b == 124) text)
+abbrev pub routes_field : List ℕ → Option (List (List (List ℕ)))
+routes_field text = if length text == 0 then Some [] else few_routes (slice_split (λ b. b == 124) text)

@@ -4,7 +4,7 @@ use Rattle.std.specs.List.{list_all}
 use Rattle.std.specs.Str.{bytes_eq, is_utf8}
 use Rattle.csv.specs.Reading.{default_config, records, strip_bom}
 use Rattle.record_text.specs.Causes.{demand, or_bad}
-use Rattle.record_text.specs.Fields.{day_of, field_of, name_of, number_of}
+use Rattle.record_text.specs.Fields.{day_field, field_of, name_field, number_field}
 use Rattle.record_text.specs.declared.refusal.Cause.{Cause}
 use Rattle.record_text.specs.declared.refusal.Cause.TheVariants as why
 use Rattle.record_text.specs.declared.refusal.RecordCause.TheVariants as bad
@@ -22,12 +22,12 @@ abbrev pub has_kind : List ℕ → Row → Bool
 has_kind name fields = bytes_eq (field_of fields 0) name
 
 -- whether a text is empty
-abbrev pub is_empty : List ℕ → Bool
-is_empty text = length text == 0
+abbrev pub is_empty_text : List ℕ → Bool
+is_empty_text text = length text == 0
 
 -- the fields from this place on, counted from 0, are empty
 abbrev pub is_blank_from : ℕ → Row → Bool
-is_blank_from first fields = list_all is_empty (drop first fields)
+is_blank_from first fields = list_all is_empty_text (drop first fields)
 
 -- a record of so many fields, the kind among them: those behind are empty
 abbrev pub has_only : ℕ → Row → Result (Unit {0}) Cause
@@ -35,15 +35,15 @@ has_only count fields = demand (is_blank_from count fields) bad.Extra
 
 -- the name in a field, counted from 1
 abbrev pub name_in : ℕ → Row → Result (List ℕ) Cause
-name_in number fields = or_bad (bad.Field number) (name_of (field_of fields (number - 1)))
+name_in number fields = or_bad (bad.Field number) (name_field (field_of fields (number - 1)))
 
 -- the number in a field, counted from 1
 abbrev pub number_in : ℕ → Row → Result ℕ Cause
-number_in number fields = or_bad (bad.Field number) (number_of (field_of fields (number - 1)))
+number_in number fields = or_bad (bad.Field number) (number_field (field_of fields (number - 1)))
 
 -- the day in a field, counted from 1; none where the calendar lacks it
 abbrev pub day_in : ℕ → Row → Result (Option (List ℕ)) Cause
-day_in number fields = or_bad (bad.Field number) (day_of (field_of fields (number - 1)))
+day_in number fields = or_bad (bad.Field number) (day_field (field_of fields (number - 1)))
 
 -- a record of text with eight fields
 abbrev pub is_record : Row → Bool

@@ -4,7 +4,7 @@ ghost use Rattle.std.specs.Prelude.{◌≡◌};
 ghost use Rattle.std.specs.List.{list_all};
 ghost use Rattle.std.specs.Char.{is_ascii_digit};
 ghost use Rattle.csv.specs.Records.{fields_of};
-ghost use Rattle.record_text.specs.Fields.{day_of, field_of, name_of, number_of};
+ghost use Rattle.record_text.specs.Fields.{day_field, field_of, name_field, number_field};
 
 use csv::StringRecord;
 use names::Name;
@@ -19,15 +19,15 @@ pub fn field(row: &StringRecord, i: usize) -> &str
 
 /// The name that a text is, or `None` where it is none.
 pub fn parse_name(text: &str) -> Option<Name>
-    ensures { result ≡ name_of text.now }
+    ensures { result ≡ name_field text.now }
 {
     Name::new(text.as_bytes()).ok()
 }
 
 /// The number of one to nine digits that a text is, or `None` where it is none.
-#[tactic(auto, unfolding(crate::specs::Fields::number_of))]
+#[tactic(auto, unfolding(crate::specs::Fields::number_field))]
 pub fn parse_number(text: &str) -> Option<u32>
-    ensures { result ≡ number_of text.now }
+    ensures { result ≡ number_field text.now }
 {
     if text.is_empty() || text.len() > 9 || !are_digits(text) {
         return None;
@@ -37,7 +37,7 @@ pub fn parse_number(text: &str) -> Option<u32>
 
 /// A text of the form of a day: the day, or none where the calendar lacks it.
 pub fn parse_day(text: &str) -> Option<Option<Day>>
-    ensures { result ≡ day_of text.now }
+    ensures { result ≡ day_field text.now }
 {
     match Day::read(text.as_bytes()) {
         Ok(day) => Some(Some(day)),

@@ -2,7 +2,7 @@
 
 ghost use Rattle.std.specs.Prelude.{◌≡◌, ◌==◌, nat_le, length, is_some, Some};
 ghost use Rattle.std.specs.List.{list_all, slice_split};
-ghost use Rattle.record_text.specs.Fields.{name_of, route_of, routes_of};
+ghost use Rattle.record_text.specs.Fields.{name_field, route_of, routes_field};
 
 use crate::fields::parse_name;
 use std::marker::Model;
@@ -22,19 +22,19 @@ pub struct RouteField<'a> {
 
 impl<'a> Model for RouteField<'a> {
     ghost use Rattle.std.specs.Prelude.{List, [], ℕ, IsSome, unwrap_or};
-    ghost use Rattle.record_text.specs.Fields.{routes_of};
+    ghost use Rattle.record_text.specs.Fields.{routes_field};
 
     ghost Value = { List (List (List ℕ)) };
 
-    ghost view = { λ f. unwrap_or (routes_of f.text.now) [] };
+    ghost view = { λ f. unwrap_or (routes_field f.text.now) [] };
 
-    ghost invariant = { λ f. IsSome (routes_of f.text.now) };
+    ghost invariant = { λ f. IsSome (routes_field f.text.now) };
 }
 
 impl<'a> RouteField<'a> {
     /// The text of the field. Takes no memory.
     pub fn as_str(&self) -> &'a str
-        ensures { routes_of result.now ≡ Some self.now }
+        ensures { routes_field result.now ≡ Some self.now }
     {
         self.text
     }
@@ -42,7 +42,7 @@ impl<'a> RouteField<'a> {
 
 /// The routes of a field, where it has their form. Takes no memory.
 pub fn parse_routes(text: &str) -> Option<RouteField<'_>>
-    ensures { result ≡ routes_of text.now }
+    ensures { result ≡ routes_field text.now }
 {
     if has_routes(text) {
         Some(RouteField { text })
@@ -53,7 +53,7 @@ pub fn parse_routes(text: &str) -> Option<RouteField<'_>>
 
 // Whether a text is a route field.
 fn has_routes(text: &str) -> bool
-    ensures { result ≡ is_some (routes_of text.now) }
+    ensures { result ≡ is_some (routes_field text.now) }
 {
     text.is_empty() || has_few_parts(text) && are_routes(text)
 }
@@ -81,7 +81,7 @@ fn is_route(text: &str) -> bool
 
 // Whether each part of a text around each space is a name.
 fn are_names(text: &str) -> bool
-    ensures { result ≡ list_all (λ part. is_some (name_of part)) (slice_split (λ b. b == 32) text.now) }
+    ensures { result ≡ list_all (λ part. is_some (name_field part)) (slice_split (λ b. b == 32) text.now) }
 {
     text.split(' ').all(|name| parse_name(name).is_some())
 }

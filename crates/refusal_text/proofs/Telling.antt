@@ -15,7 +15,7 @@ use Rattle.record_text.specs.declared.refusal.RecordCause.{RecordCause}
 use Rattle.record_text.specs.declared.refusal.RecordCause.TheVariants as bad
 use Rattle.record_text.specs.declared.refusal.Kind.{Kind}
 use Rattle.record_text.specs.declared.refusal.Kind.TheVariants as kind
-use Rattle.refusal_text.specs.Lines.{ending, number_of, word_of}
+use Rattle.refusal_text.specs.Lines.{ending, cause_number_of, word_of}
 use Rattle.refusal_text.specs.Laws.{RefusalLinesDiffer}
 
 -- a byte that is no space and no line feed, and texts of such bytes
@@ -113,7 +113,7 @@ told w o =
 
 -- the word of a cause is of letters, and the cause is told
 abbrev IsTold : Cause → Type 0
-IsTold cause = (are_letters (word_of cause) ≡ true) × (told (word_of cause) (number_of cause) ≡ cause)
+IsTold cause = (are_letters (word_of cause) ≡ true) × (told (word_of cause) (cause_number_of cause) ≡ cause)
 
 bad_is_told : (cause : RecordCause) → IsTold (why.Bad cause)
 bad_is_told bad.Fields = (refl, refl)
@@ -148,9 +148,9 @@ is_told (why.TooMany k) = kind_is_told k
 pub lines_differ : RefusalLinesDiffer
 lines_differ row row' cause cause' small small' n n' e =
     let behind = append_cancel_left (codes "refused: record ") _ _ e in
-    let rows = cut (decimal row) (decimal row') (word_of cause ++ ending (number_of cause)) (word_of cause' ++ ending (number_of cause')) 32 32 (decimal_letters row small) (decimal_letters row' small') (omega arith) (omega arith) behind in
-    let causes : word_of cause ++ ending (number_of cause) ≡ word_of cause' ++ ending (number_of cause') = cc in
-    let same = ends (word_of cause) (word_of cause') (number_of cause) (number_of cause') (is_told cause).0 (is_told cause').0 n n' causes in (
+    let rows = cut (decimal row) (decimal row') (word_of cause ++ ending (cause_number_of cause)) (word_of cause' ++ ending (cause_number_of cause')) 32 32 (decimal_letters row small) (decimal_letters row' small') (omega arith) (omega arith) behind in
+    let causes : word_of cause ++ ending (cause_number_of cause) ≡ word_of cause' ++ ending (cause_number_of cause') = cc in
+    let same = ends (word_of cause) (word_of cause') (cause_number_of cause) (cause_number_of cause') (is_told cause).0 (is_told cause').0 n n' causes in (
       decimal_injective row row' small small' rows.0,
-      sym (is_told cause).1 ∙ (ap (λ w. told w (number_of cause)) same.0 ∙ (ap (λ o. told (word_of cause') o) same.1 ∙ (is_told cause').1)),
+      sym (is_told cause).1 ∙ (ap (λ w. told w (cause_number_of cause)) same.0 ∙ (ap (λ o. told (word_of cause') o) same.1 ∙ (is_told cause').1)),
     )

@@ -9,9 +9,9 @@ use Rattle.record_text.specs.declared.refusal.Kind.{Kind}
 use Rattle.record_text.specs.declared.refusal.Kind.TheVariants as kind
 
 -- the status: 5 where the record is bad, and 6 where it is one too many of its kind
-abbrev pub status_of : Cause → ℕ
-status_of (Bad cause) = 5
-status_of (TooMany kind) = 6
+abbrev pub refusal_status_of : Cause → ℕ
+refusal_status_of (Bad cause) = 5
+refusal_status_of (TooMany kind) = 6
 
 -- the word for why a record is bad
 abbrev pub bad_word : RecordCause → List ℕ
@@ -56,9 +56,9 @@ bad_number (bad.Train rule) = Some rule
 bad_number other = None
 
 -- the number behind the word for a cause, if any: none where there is one too many
-abbrev pub number_of : Cause → Option ℕ
-number_of (Bad cause) = bad_number cause
-number_of (TooMany kind) = None
+abbrev pub cause_number_of : Cause → Option ℕ
+cause_number_of (Bad cause) = bad_number cause
+cause_number_of (TooMany kind) = None
 
 -- the end of the line, behind the word
 abbrev pub ending : Option ℕ → List ℕ
@@ -68,4 +68,4 @@ ending (Some number) = codes " " ++ (decimal number ++ (10 ∷ []))
 -- refused: record ROW CAUSE, where the cause is its word and its number, if it has one
 abbrev pub refusal_line_of : ℕ → Cause → List ℕ
 refusal_line_of row cause =
-    codes "refused: record " ++ (decimal row ++ (codes " " ++ (word_of cause ++ ending (number_of cause))))
+    codes "refused: record " ++ (decimal row ++ (codes " " ++ (word_of cause ++ ending (cause_number_of cause))))

@@ -3,7 +3,7 @@
 ghost use Rattle.std.specs.Prelude.{◌≡◌, IfOk};
 ghost use Rattle.std.specs.String.{string_bytes};
 ghost use Rattle.refusal_text.specs.Laws.{RefusalLinesDiffer};
-ghost use Rattle.refusal_text.specs.Lines.{bad_word, kind_word, number_of, refusal_line_of, status_of, word_of};
+ghost use Rattle.refusal_text.specs.Lines.{bad_word, kind_word, cause_number_of, refusal_line_of, refusal_status_of, word_of};
 
 use names::NoMemory;
 use record_text::{Cause, Kind, RecordCause};
@@ -29,7 +29,7 @@ pub fn refusal_lines_differ()
 
 /// The status of a refusal: 5 where the record is bad, and 6 where it is one too many of its kind.
 pub fn refusal_status(cause: Cause) -> u8
-    ensures { result ≡ status_of cause }
+    ensures { result ≡ refusal_status_of cause }
 {
     match cause {
         Cause::Bad(_) => 5,
@@ -87,7 +87,7 @@ fn kind_word(kind: Kind) -> &'static str
 
 // The number that stands behind the word: of a field, or of the rule that a train breaks.
 fn number(cause: Cause) -> Option<u32>
-    ensures { result ≡ number_of cause }
+    ensures { result ≡ cause_number_of cause }
 {
     match cause {
         Cause::Bad(RecordCause::Field(number)) => Some(number),

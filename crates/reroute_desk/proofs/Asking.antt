@@ -6,7 +6,7 @@ use Rattle.road_graph.specs.Roads.{IsRoads}
 use Rattle.permit_days.specs.Days.{is_before}
 use Rattle.trip_applications.specs.Applications.{Sound}
 use Rattle.fleet.specs.Bases.{AreTrains}
-use Rattle.trip_analysis.specs.Findings.{is_in}
+use Rattle.trip_analysis.specs.Findings.{is_number_among}
 use Rattle.trip_applications.specs.declared.application.Application.{Application}
 use Rattle.office_words.specs.declared.entry.Call.TheVariants as call
 use Rattle.office_words.specs.declared.entry.Reply.{Reply}
@@ -20,34 +20,34 @@ use Rattle.reroute_desk.specs.declared.handled.HandledAs.{HandledAs}
 use Rattle.reroute_desk.specs.declared.handled.HandledAs.TheVariants.{Ended, Refused, Replaced}
 use Rattle.reroute_desk.specs.declared.refusal.RerouteRefusal.{RerouteRefusal}
 use Rattle.reroute_desk.specs.declared.refusal.RerouteRefusal.TheVariants as refusal
-use Rattle.reroute_desk.specs.Desks.{AnswersRenewal, Desk, HasGoneOn, IsLeft, IsNext, IsRerouteCause, KeepsUp, day_in, is_ended, kept_reply, olds_of, refusal_reply}
+use Rattle.reroute_desk.specs.Desks.{AnswersRenewal, Desk, HasGoneOn, IsLeft, IsNext, IsRerouteCause, KeepsUp, office_day, is_ended, kept_reply, olds_of, refusal_reply}
 use Rattle.reroute_desk.specs.Replacements.{again_behind, renewed}
 use Rattle.reroute_desk.proofs.Going.{gone_answered, gone_lacked, gone_nowhere, kept_plain, with_entries, with_item}
 use Rattle.reroute_desk.proofs.Recalls.{IsKnown, in_seam, known, told_whole, was_issued}
 use Rattle.reroute_desk.proofs.Renewing.{IsWanted, answers_renewal, sound_again, wanted}
 
-module _ (d : Desk) (o : Opened) (promises : KeepsPromises o.base o.opening o.history) (old : ℕ) (next : IsNext d o old) (trip : Application) (is : again_behind o.opening o.history old ≡ Some trip) (in_time : is_before trip.last (day_in o) ≡ false) where
-  on : is_in old (recalled_in o.history) ≡ true
-  on = ap (λ (l : List ℕ). is_in old l) next.1 ∙ in_seam old (olds_of d.handled) next.0
+module _ (d : Desk) (o : Opened) (promises : KeepsPromises o.base o.opening o.history) (old : ℕ) (next : IsNext d o old) (trip : Application) (is : again_behind o.opening o.history old ≡ Some trip) (in_time : is_before trip.last (office_day o) ≡ false) where
+  on : is_number_among old (recalled_in o.history) ≡ true
+  on = ap (λ (l : List ℕ). is_number_among old l) next.1 ∙ in_seam old (olds_of d.handled) next.0
 
   k : IsKnown o.base o.opening o.history o.history old
   k = known o.base o.opening o.history o.history [] old (sym (append-nil o.history)) promises on
 
-  same : trip ≡ renewed (day_in o) k.trip
-  same = some_one (sym is ∙ told_whole k (renewed (day_in o)))
+  same : trip ≡ renewed (office_day o) k.trip
+  same = some_one (sym is ∙ told_whole k (renewed (office_day o)))
     where
       some_one : {a b : Application} → Some a ≡ Some b → a ≡ b
       some_one e = cc
 
-  k_in_time : is_before k.trip.last (day_in o) ≡ false
-  k_in_time = subst (λ (t : Application). is_before t.last (day_in o) ≡ false) same in_time
+  k_in_time : is_before k.trip.last (office_day o) ≡ false
+  k_in_time = subst (λ (t : Application). is_before t.last (office_day o) ≡ false) same in_time
 
   want : IsWanted o.base k.trip
   want = wanted o.base o.opening o.history old k.trip k.routes k.on_road.0 promises (was_issued k) k.on_road.1
 
   -- it may be asked for
   pub may_ask : Sound o.base trip
-  may_ask = subst (λ (t : Application). Sound o.base t) (sym same) (sound_again o.base (day_in o) k.trip want.sound k_in_time)
+  may_ask = subst (λ (t : Application). Sound o.base t) (sym same) (sound_again o.base (office_day o) k.trip want.sound k_in_time)
 
   -- it has not expired
   pub is_left : IsLeft d o old
@@ -63,7 +63,7 @@ module _ (d : Desk) (o : Opened) (promises : KeepsPromises o.base o.opening o.hi
 
         by : HasPlace o ⊎ IsFull o → AnswersRenewal r
         by (inl place) = answers_renewal o.base o.opening o.history caller k.trip want roads trains r
-            (of_legal (renewed (day_in o) k.trip) same (subst (λ (n : Opened). IsLegal n.base n.opening n.history) (grows place) legal))
+            (of_legal (renewed (office_day o) k.trip) same (subst (λ (n : Opened). IsLegal n.base n.opening n.history) (grows place) legal))
         by (inr filled) = subst AnswersRenewal (sym (full filled)) tt
 
     module _ (keeps : KeepsUp d o) (own : caller ≡ d.caller) where

@@ -7,7 +7,7 @@ use Rattle.std.proofs.Common.{◌⊎◌, inl, inr}
 use Rattle.office_words.specs.declared.entry.Entry.{Entry}
 use Rattle.office_core.specs.Happened.{History, Numbers}
 use Rattle.office_core.specs.Machine.{entries_by}
-use Rattle.recall_list.specs.Issues.{issued_in, recalled_in, recalled_numbers}
+use Rattle.recall_list.specs.Issues.{told_of_issued, recalled_in, recalled_numbers}
 use Rattle.reroute_desk.specs.declared.handled.Handled.{Handled}
 use Rattle.reroute_desk.specs.Desks.{AreFirst, AskAgain, Placed, is_answered, is_lack, olds_of, placed_behind, renewals}
 use Rattle.reroute_desk.specs.Laws.{CallsOfOthersKeepUp, NewDesksKeepUp}
@@ -29,7 +29,7 @@ noted_more notes es more are =
     record {
       within = omega (arith, are.within, length-append es more);
       recalled = are.recalled ∙ ap recalled_in (sym same);
-      trips = λ n. are.trips n ∙ ap (λ (l : History). issued_in unasked l n) (sym same);
+      trips = λ n. are.trips n ∙ ap (λ (l : History). told_of_issued unasked l n) (sym same);
     }
 
 -- what is handled is a front of what is recalled then

@@ -3,7 +3,7 @@ use Rattle.std.proofs.Common.{◌≡◌, ◌∙◌, ◌⊎◌, inl, inr, ap, sym
 use Rattle.std.specs.List.{flat_map}
 use Rattle.std.proofs.lemmas.Bool.{cases_Bool, eqb-true}
 use Rattle.std.proofs.lemmas.List.{length-append}
-use Rattle.trip_analysis.specs.Findings.{AreRising, is_in}
+use Rattle.trip_analysis.specs.Findings.{AreRising, is_number_among}
 use Rattle.trip_analysis.proofs.Found.{among_from_is_in}
 use Rattle.office_words.specs.declared.entry.Reply.{Reply}
 use Rattle.office_words.specs.declared.entry.Reply.TheVariants as reply
@@ -22,10 +22,10 @@ use Rattle.reroute_desk.specs.Laws.{PermitsAreReplacedOnce, StandOnce, new_of, n
 use Rattle.reroute_desk.proofs.Recalls.{in_either, or_right, recalls_at}
 
 -- a number is not in a list where that contradicts
-not_in : (n : ℕ) (ns : List ℕ) → (is_in n ns ≡ true → ⊥) → is_in n ns ≡ false
-not_in n ns never = by (cases_Bool (is_in n ns))
+not_in : (n : ℕ) (ns : List ℕ) → (is_number_among n ns ≡ true → ⊥) → is_number_among n ns ≡ false
+not_in n ns never = by (cases_Bool (is_number_among n ns))
   where
-    by : (is_in n ns ≡ true) ⊎ (is_in n ns ≡ false) → is_in n ns ≡ false
+    by : (is_number_among n ns ≡ true) ⊎ (is_number_among n ns ≡ false) → is_number_among n ns ≡ false
     by (inl on) = absurd (never on)
     by (inr off) = off
 
@@ -33,38 +33,38 @@ both : {b : Bool} → b ≡ true → b ≡ false → ⊥
 both e f = cc
 
 -- a number is the head of a list or in its tail
-head_or : (n x : ℕ) (xs : List ℕ) → is_in n (x ∷ xs) ≡ true → (x ≡ n) ⊎ (is_in n xs ≡ true)
+head_or : (n x : ℕ) (xs : List ℕ) → is_number_among n (x ∷ xs) ≡ true → (x ≡ n) ⊎ (is_number_among n xs ≡ true)
 head_or n x xs on = by (cases_Bool (x == n)) on
   where
-    by : ((x == n) ≡ true) ⊎ ((x == n) ≡ false) → (x == n || is_in n xs) ≡ true → (x ≡ n) ⊎ (is_in n xs ≡ true)
+    by : ((x == n) ≡ true) ⊎ ((x == n) ≡ false) → (x == n || is_number_among n xs) ≡ true → (x ≡ n) ⊎ (is_number_among n xs ≡ true)
     by (inl same) on = inl (eqb-true x n same)
-    by (inr other) on = inr (sym (ap (λ (b : Bool). b || is_in n xs) other) ∙ on)
+    by (inr other) on = inr (sym (ap (λ (b : Bool). b || is_number_among n xs) other) ∙ on)
 
-in_left : (n : ℕ) (xs ys : List ℕ) → is_in n xs ≡ true → is_in n (xs ++ ys) ≡ true
+in_left : (n : ℕ) (xs ys : List ℕ) → is_number_among n xs ≡ true → is_number_among n (xs ++ ys) ≡ true
 in_left n [] ys on = absurd cc
 in_left n (x ∷ xs) ys on = by (λ behind. in_left n xs ys behind) (cases_Bool (x == n)) on
   where
-    by : (is_in n xs ≡ true → is_in n (xs ++ ys) ≡ true) → ((x == n) ≡ true) ⊎ ((x == n) ≡ false) → (x == n || is_in n xs) ≡ true → (x == n || is_in n (xs ++ ys)) ≡ true
-    by rest (inl same) on = ap (λ (b : Bool). b || is_in n (xs ++ ys)) same
-    by rest (inr other) on = or_right (x == n) (is_in n (xs ++ ys)) (rest (sym (ap (λ (b : Bool). b || is_in n xs) other) ∙ on))
+    by : (is_number_among n xs ≡ true → is_number_among n (xs ++ ys) ≡ true) → ((x == n) ≡ true) ⊎ ((x == n) ≡ false) → (x == n || is_number_among n xs) ≡ true → (x == n || is_number_among n (xs ++ ys)) ≡ true
+    by rest (inl same) on = ap (λ (b : Bool). b || is_number_among n (xs ++ ys)) same
+    by rest (inr other) on = or_right (x == n) (is_number_among n (xs ++ ys)) (rest (sym (ap (λ (b : Bool). b || is_number_among n xs) other) ∙ on))
 
-in_right : (n : ℕ) (xs ys : List ℕ) → is_in n ys ≡ true → is_in n (xs ++ ys) ≡ true
+in_right : (n : ℕ) (xs ys : List ℕ) → is_number_among n ys ≡ true → is_number_among n (xs ++ ys) ≡ true
 in_right n [] ys on = on
-in_right n (x ∷ xs) ys on = or_right (x == n) (is_in n (xs ++ ys)) (in_right n xs ys on)
+in_right n (x ∷ xs) ys on = or_right (x == n) (is_number_among n (xs ++ ys)) (in_right n xs ys on)
 
 -- two lists that have no number in common
-once_both : (xs ys : List ℕ) → StandOnce xs → StandOnce ys → ((n : ℕ) → is_in n xs ≡ true → is_in n ys ≡ true → ⊥) → StandOnce (xs ++ ys)
+once_both : (xs ys : List ℕ) → StandOnce xs → StandOnce ys → ((n : ℕ) → is_number_among n xs ≡ true → is_number_among n ys ≡ true → ⊥) → StandOnce (xs ++ ys)
 once_both [] ys one two apart = two
 once_both (x ∷ xs) ys one two apart = (
   not_in x (xs ++ ys) (λ on. elim (in_either x xs ys on) [
     | inl left ↦ both left one.0
     | inr right ↦ apart x (here x xs) right
   ]),
-  once_both xs ys one.1 two (λ n left right. apart n (or_right (x == n) (is_in n xs) left) right),
+  once_both xs ys one.1 two (λ n left right. apart n (or_right (x == n) (is_number_among n xs) left) right),
 )
   where
-    here : (x : ℕ) (xs : List ℕ) → is_in x (x ∷ xs) ≡ true
-    here x xs = ap (λ (b : Bool). b || is_in x xs) (eq-eqb x x refl)
+    here : (x : ℕ) (xs : List ℕ) → is_number_among x (x ∷ xs) ≡ true
+    here x xs = ap (λ (b : Bool). b || is_number_among x xs) (eq-eqb x x refl)
 
 -- a front of such a list
 once_front : (xs ys : List ℕ) → StandOnce (xs ++ ys) → StandOnce xs
@@ -95,7 +95,7 @@ module _ (base : BaseLists) (day : Day) (es : History) (keeps : KeepsPromises ba
       by (reply.Posted v ns) same = once_rising ns (keeps.posted front e.caller e.call v ns (rest, stands v ns same)).rising
       by _ same = tt
 
-      apart : (r : Reply) → e.reply ≡ r → (n : ℕ) → is_in n (recalled_numbers r) ≡ true → (at : History) × RecallsAt rest n at → ⊥
+      apart : (r : Reply) → e.reply ≡ r → (n : ℕ) → is_number_among n (recalled_numbers r) ≡ true → (at : History) × RecallsAt rest n at → ⊥
       apart (reply.Posted v ns) same n on (at, (w, (by', c, ms, on', (more, parts)))) =
           let once = keeps.recalled_once front n (v, (e.caller, e.call, ns, on, (rest, stands v ns same))) in
           let other = once.recalled_once (front ++ e ∷ at) (w, (by', c, ms, on', (more, is ∙ (ap (λ l. front ++ e ∷ l) parts ∙ sym (append_assoc front (e ∷ at) (entry by' c (reply.Posted w ms) ∷ more)))))) in
@@ -115,7 +115,7 @@ numbers_in es = flat_map (λ e. number_in e.reply) es
 
 module _ (base : BaseLists) (day : Day) (es : History) (keeps : KeepsPromises base day es) where
   -- what some last entries issue has greater numbers than all that were issued before
-  issued_above : (front rest : History) → es ≡ front ++ rest → (n : ℕ) → is_in n (numbers_in rest) ≡ true → issued_in front < n
+  issued_above : (front rest : History) → es ≡ front ++ rest → (n : ℕ) → is_number_among n (numbers_in rest) ≡ true → issued_in front < n
   issued_above front [] is n on = absurd cc
   issued_above front (e ∷ rest) is n on = elim (in_either n (number_in e.reply) (numbers_in rest) on) [
     | inl here ↦ by e.reply refl here
@@ -124,7 +124,7 @@ module _ (base : BaseLists) (day : Day) (es : History) (keeps : KeepsPromises ba
         omega (arith, more, issued-append front (e ∷ []))
   ]
     where
-      by : (r : Reply) → e.reply ≡ r → is_in n (number_in r) ≡ true → issued_in front < n
+      by : (r : Reply) → e.reply ≡ r → is_number_among n (number_in r) ≡ true → issued_in front < n
       by (reply.Issued k v routes) same at =
           let permit = keeps.issued front e.caller e.call k v routes (rest, is ∙ ap (λ r. front ++ entry e.caller e.call r ∷ rest) same) in
           elim (head_or n k [] at) [
@@ -144,7 +144,7 @@ module _ (base : BaseLists) (day : Day) (es : History) (keeps : KeepsPromises ba
       by (reply.Issued k v routes) = (refl, tt)
       by _ = tt
 
-      apart : (r : Reply) → e.reply ≡ r → (n : ℕ) → is_in n (number_in r) ≡ true → issued_in (front ++ e ∷ []) < n → ⊥
+      apart : (r : Reply) → e.reply ≡ r → (n : ℕ) → is_number_among n (number_in r) ≡ true → issued_in (front ++ e ∷ []) < n → ⊥
       apart (reply.Issued k v routes) same n on above =
           let permit = keeps.issued front e.caller e.call k v routes (rest, is ∙ ap (λ r. front ++ entry e.caller e.call r ∷ rest) same) in
           let one : one_if e.reply ≡ 1 = ap one_if same in
@@ -163,16 +163,16 @@ placed_same front [] = refl
 placed_same front (e ∷ es) = ap (λ l. number_in e.reply ++ l) (placed_same (front ++ e ∷ []) es)
 
 -- some of the entries
-in_some : (p : Placed → Bool) (ps : List Placed) (n : ℕ) → is_in n (numbers_placed (filter p ps)) ≡ true → is_in n (numbers_placed ps) ≡ true
+in_some : (p : Placed → Bool) (ps : List Placed) (n : ℕ) → is_number_among n (numbers_placed (filter p ps)) ≡ true → is_number_among n (numbers_placed ps) ≡ true
 in_some p [] n on = on
 in_some p (q ∷ ps) n on = by (λ l. in_some p ps n l) (cases_Bool (p q))
   where
-    by : (is_in n (numbers_placed (filter p ps)) ≡ true → is_in n (numbers_placed ps) ≡ true) → (p q ≡ true) ⊎ (p q ≡ false) → is_in n (numbers_placed (q ∷ ps)) ≡ true
-    by rest (inl kept) = elim (in_either n (number_in q.entry.reply) (numbers_placed (filter p ps)) (subst (λ (b : Bool). is_in n (numbers_placed (cond b (q ∷ filter p ps) (filter p ps))) ≡ true) kept on)) [
+    by : (is_number_among n (numbers_placed (filter p ps)) ≡ true → is_number_among n (numbers_placed ps) ≡ true) → (p q ≡ true) ⊎ (p q ≡ false) → is_number_among n (numbers_placed (q ∷ ps)) ≡ true
+    by rest (inl kept) = elim (in_either n (number_in q.entry.reply) (numbers_placed (filter p ps)) (subst (λ (b : Bool). is_number_among n (numbers_placed (cond b (q ∷ filter p ps) (filter p ps))) ≡ true) kept on)) [
       | inl here ↦ in_left n (number_in q.entry.reply) (numbers_placed ps) here
       | inr behind ↦ in_right n (number_in q.entry.reply) (numbers_placed ps) (rest behind)
     ]
-    by rest (inr dropped) = in_right n (number_in q.entry.reply) (numbers_placed ps) (rest (subst (λ (b : Bool). is_in n (numbers_placed (cond b (q ∷ filter p ps) (filter p ps))) ≡ true) dropped on))
+    by rest (inr dropped) = in_right n (number_in q.entry.reply) (numbers_placed ps) (rest (subst (λ (b : Bool). is_number_among n (numbers_placed (cond b (q ∷ filter p ps) (filter p ps))) ≡ true) dropped on))
 
 once_some : (p : Placed → Bool) (ps : List Placed) → StandOnce (numbers_placed ps) → StandOnce (numbers_placed (filter p ps))
 once_some p [] all = tt
@@ -182,12 +182,12 @@ once_some p (q ∷ ps) all = by (once_some p ps (behind (number_in q.entry.reply
     behind [] ys all = all
     behind (x ∷ xs) ys all = behind xs ys all.1
 
-    common : (n : ℕ) (xs ys : List ℕ) → StandOnce (xs ++ ys) → is_in n xs ≡ true → is_in n ys ≡ true → ⊥
+    common : (n : ℕ) (xs ys : List ℕ) → StandOnce (xs ++ ys) → is_number_among n xs ≡ true → is_number_among n ys ≡ true → ⊥
     common n [] ys all left right = absurd cc
     common n (x ∷ xs) ys all left right = by (λ on. common n xs ys all.1 on right) (head_or n x xs left)
       where
-        by : (is_in n xs ≡ true → ⊥) → (x ≡ n) ⊎ (is_in n xs ≡ true) → ⊥
-        by rest (inl same) = both (subst (λ (k : ℕ). is_in k (xs ++ ys) ≡ true) (sym same) (in_right n xs ys right)) all.0
+        by : (is_number_among n xs ≡ true → ⊥) → (x ≡ n) ⊎ (is_number_among n xs ≡ true) → ⊥
+        by rest (inl same) = both (subst (λ (k : ℕ). is_number_among k (xs ++ ys) ≡ true) (sym same) (in_right n xs ys right)) all.0
         by rest (inr on) = rest on
 
     by : StandOnce (numbers_placed (filter p ps)) → (p q ≡ true) ⊎ (p q ≡ false) → StandOnce (numbers_placed (filter p (q ∷ ps)))

@@ -5,20 +5,20 @@ use Rattle.std.proofs.lemmas.List.{append_cancel_left}
 use Rattle.permit_days.specs.Days.{is_before}
 use Rattle.fleet.specs.Bases.{BaseLists}
 use Rattle.trip_applications.specs.declared.application.Application.{Application}
-use Rattle.trip_analysis.specs.Findings.{is_in}
+use Rattle.trip_analysis.specs.Findings.{is_number_among}
 use Rattle.office_words.specs.declared.entry.Call.{Call}
 use Rattle.office_words.specs.declared.entry.Entry.{Entry}
 use Rattle.office_words.specs.declared.entry.Reply.{Reply}
 use Rattle.office_words.specs.declared.entry.Reply.TheVariants as reply
 use Rattle.office_core.specs.Offices.{entry}
-use Rattle.office_core.specs.Happened.{Day, History, Routes, Stands, application_in, day_after, state_after}
+use Rattle.office_core.specs.Happened.{Day, History, Routes, Stands, application_in, day_after, state_left_by}
 use Rattle.office_core.specs.Became.{IsInForce, IssuesAt, RecallsAt, WasIssuedFor}
 use Rattle.office_core.specs.Promises.{KeepsPromises}
 use Rattle.office_core.specs.Recalled.{WasIssuedOnce}
 use Rattle.office_core.specs.Standing.{FailsOn}
 use Rattle.office_core.proofs.Issuing.{recalled_issued}
 use Rattle.office_core.proofs.Once.{stands_in}
-use Rattle.recall_list.specs.Issues.{issued_in, recalled_in, recalled_numbers}
+use Rattle.recall_list.specs.Issues.{told_of_issued, recalled_in, recalled_numbers}
 use Rattle.recall_list.proofs.Trucks.{found_told}
 
 either : (a b : Bool) → (a || b) ≡ true → (a ≡ true) ⊎ (b ≡ true)
@@ -30,22 +30,22 @@ or_right true b e = refl
 or_right false b e = e
 
 -- a number of two lists one after another is in one of them
-pub in_either : (n : ℕ) (xs ys : List ℕ) → is_in n (xs ++ ys) ≡ true → (is_in n xs ≡ true) ⊎ (is_in n ys ≡ true)
+pub in_either : (n : ℕ) (xs ys : List ℕ) → is_number_among n (xs ++ ys) ≡ true → (is_number_among n xs ≡ true) ⊎ (is_number_among n ys ≡ true)
 in_either n [] ys on = inr on
-in_either n (x ∷ xs) ys on = by (λ behind. in_either n xs ys behind) (either (x == n) (is_in n (xs ++ ys)) on)
+in_either n (x ∷ xs) ys on = by (λ behind. in_either n xs ys behind) (either (x == n) (is_number_among n (xs ++ ys)) on)
   where
-    further : (is_in n xs ≡ true) ⊎ (is_in n ys ≡ true) → (is_in n (x ∷ xs) ≡ true) ⊎ (is_in n ys ≡ true)
-    further (inl left) = inl (or_right (x == n) (is_in n xs) left)
+    further : (is_number_among n xs ≡ true) ⊎ (is_number_among n ys ≡ true) → (is_number_among n (x ∷ xs) ≡ true) ⊎ (is_number_among n ys ≡ true)
+    further (inl left) = inl (or_right (x == n) (is_number_among n xs) left)
     further (inr right) = inr right
 
-    by : (is_in n (xs ++ ys) ≡ true → (is_in n xs ≡ true) ⊎ (is_in n ys ≡ true)) → ((x == n) ≡ true) ⊎ (is_in n (xs ++ ys) ≡ true) → (is_in n (x ∷ xs) ≡ true) ⊎ (is_in n ys ≡ true)
-    by rest (inl here) = inl (ap (λ b. b || is_in n xs) here)
+    by : (is_number_among n (xs ++ ys) ≡ true → (is_number_among n xs ≡ true) ⊎ (is_number_among n ys ≡ true)) → ((x == n) ≡ true) ⊎ (is_number_among n (xs ++ ys) ≡ true) → (is_number_among n (x ∷ xs) ≡ true) ⊎ (is_number_among n ys ≡ true)
+    by rest (inl here) = inl (ap (λ b. b || is_number_among n xs) here)
     by rest (inr behind) = further (rest behind)
 
 -- a number that stands behind others is in the list
-pub in_seam : (n : ℕ) (xs ys : List ℕ) → is_in n (xs ++ n ∷ ys) ≡ true
-in_seam n [] ys = ap (λ b. b || is_in n ys) (eq-eqb n n refl)
-in_seam n (x ∷ xs) ys = or_right (x == n) (is_in n (xs ++ n ∷ ys)) (in_seam n xs ys)
+pub in_seam : (n : ℕ) (xs ys : List ℕ) → is_number_among n (xs ++ n ∷ ys) ≡ true
+in_seam n [] ys = ap (λ b. b || is_number_among n ys) (eq-eqb n n refl)
+in_seam n (x ∷ xs) ys = or_right (x == n) (is_number_among n (xs ++ n ∷ ys)) (in_seam n xs ys)
 
 -- what was issued stays issued, whatever comes behind
 pub issued_stays : (es more : History) (n : ℕ) (trip : Application) (routes : Routes) → WasIssuedFor es n trip routes → WasIssuedFor (es ++ more) n trip routes
@@ -53,7 +53,7 @@ issued_stays es more n trip routes (at, by, c, v, asked, stands) =
     (at, by, c, v, asked, stands_in (es ++ more) es more at (entry by c (reply.Issued n v routes)) refl stands)
 
 -- a number that a history recalls is recalled by one of its entries
-pub recalls_at : (es : History) (n : ℕ) → is_in n (recalled_in es) ≡ true → (front : History) × RecallsAt es n front
+pub recalls_at : (es : History) (n : ℕ) → is_number_among n (recalled_in es) ≡ true → (front : History) × RecallsAt es n front
 recalls_at [] n on = cc
 recalls_at (e ∷ es) n on = elim (in_either n (recalled_numbers e.reply) (recalled_in es) on) [
   | inl here ↦ ([], by e.reply refl here)
@@ -62,7 +62,7 @@ recalls_at (e ∷ es) n on = elim (in_either n (recalled_numbers e.reply) (recal
       (e ∷ front, (v, (caller, c, ns, at, (back, ap (λ l. e ∷ l) is))))
 ]
   where
-    by : (r : Reply) → e.reply ≡ r → is_in n (recalled_numbers r) ≡ true → RecallsAt (e ∷ es) n []
+    by : (r : Reply) → e.reply ≡ r → is_number_among n (recalled_numbers r) ≡ true → RecallsAt (e ∷ es) n []
     by (reply.Posted v ns) same at = (v, (e.caller, e.call, ns, at, (es, ap (λ r. entry e.caller e.call r ∷ es) same)))
     by _ same at = cc
 
@@ -77,7 +77,7 @@ pub record IsKnown (base : BaseLists) (day : Day) (es first : History) (n : ℕ)
   pub trip : Application
   pub routes : Routes
   pub issued : WasIssuedFor front n trip routes
-  pub on_road : (s : ℕ) × (is_in s (concat routes) ≡ true)
+  pub on_road : (s : ℕ) × (is_number_among s (concat routes) ≡ true)
   pub in_time : is_before trip.last (day_after day front) ≡ false
   pub was : WasIssuedOnce base es front n
   pub was_trip : was.trip ≡ trip
@@ -92,14 +92,14 @@ module _ (base : BaseLists) (day : Day) (es first back : History) (n : ℕ) (is 
   issues_in : (other : History) → IssuesAt first n other → IssuesAt es n other
   issues_in other (by, c, v, routes, h) = (by, c, v, routes, stands_in es first back other (entry by c (reply.Issued n v routes)) is h)
 
-  module _ (front : History) (by : ℕ) (c : Call) (v : ℕ) (ns : List ℕ) (on : is_in n ns ≡ true) (stands : Stands first front (entry by c (reply.Posted v ns))) where
+  module _ (front : History) (by : ℕ) (c : Call) (v : ℕ) (ns : List ℕ) (on : is_number_among n ns ≡ true) (stands : Stands first front (entry by c (reply.Posted v ns))) where
     whole : Stands es front (entry by c (reply.Posted v ns))
     whole = stands_in es first back front (entry by c (reply.Posted v ns)) is stands
 
     was : WasIssuedOnce base es front n
     was = recalled_issued base day es keeps front n (v, (by, c, ns, on, whole))
 
-    recalled : (p : IsInForce day front n) × FailsOn base (state_after base (front ++ entry by c (reply.Posted v ns) ∷ [])) p.trip.truck p.routes
+    recalled : (p : IsInForce day front n) × FailsOn base (state_left_by base (front ++ entry by c (reply.Posted v ns) ∷ [])) p.trip.truck p.routes
     recalled = ((keeps.posted front by c v ns whole).exact n).0 on
 
     trip_is : was.trip ≡ recalled.0.trip
@@ -144,15 +144,15 @@ module _ (base : BaseLists) (day : Day) (es first back : History) (n : ℕ) (is 
       first_parts = stands.1;
     }
 
-  pub known : is_in n (recalled_in first) ≡ true → IsKnown base day es first n
+  pub known : is_number_among n (recalled_in first) ≡ true → IsKnown base day es first n
   known on = let (front, (v, (by, c, ns, at, stands))) = recalls_at first n on in known_by front by c v ns at stands
 
 module _ {base : BaseLists} {day : Day} {es first : History} {n : ℕ} (k : IsKnown base day es first n) where
   -- what is told of its application
-  pub told_whole : {A : Type 0} (told : Application → A) → issued_in told es n ≡ Some (told k.trip)
+  pub told_whole : {A : Type 0} (told : Application → A) → told_of_issued told es n ≡ Some (told k.trip)
   told_whole told = found_told base es k.front n k.was k.more k.parts told ∙ ap (λ a. Some (told a)) k.was_trip
 
-  pub told_first : {A : Type 0} (told : Application → A) → issued_in told first n ≡ Some (told k.trip)
+  pub told_first : {A : Type 0} (told : Application → A) → told_of_issued told first n ≡ Some (told k.trip)
   told_first told = found_told base first k.front n k.was_first k.first_more k.first_parts told ∙ ap (λ a. Some (told a)) k.first_trip
 
   -- it was issued for it

@@ -10,13 +10,13 @@ use Rattle.permit_days.specs.Days.{is_before}
 use Rattle.clearance_rules.specs.Loads as loads
 use Rattle.fleet.specs.Bases.{AreTrains, BaseLists, truck_of}
 use Rattle.trip_applications.specs.Applications.{Sound}
-use Rattle.trip_analysis.specs.Findings.{is_in}
+use Rattle.trip_analysis.specs.Findings.{is_number_among}
 use Rattle.trip_applications.specs.declared.application.Application.{Application}
 use Rattle.office_words.specs.declared.entry.Call.TheVariants as call
 use Rattle.office_words.specs.declared.entry.Reply.{Reply}
 use Rattle.office_words.specs.declared.entry.Reply.TheVariants as reply
 use Rattle.office_core.specs.Became.{WasIssuedFor}
-use Rattle.office_core.specs.Happened.{Day, History, Route, Routes, Stands, day_after, state_after}
+use Rattle.office_core.specs.Happened.{Day, History, Route, Routes, Stands, day_after, state_left_by}
 use Rattle.office_core.specs.Machine.{IsAnswer, IsLegal, Machine, machine_of, state_in, version_of}
 use Rattle.office_core.specs.Offices.{entry}
 use Rattle.office_core.specs.Passages.{ArePassableWalks, IsRoadWalk}
@@ -37,11 +37,11 @@ pub record IsWanted (base : BaseLists) (trip : Application) : Type 0 where
   pub road : (route : Route) × IsRoadWalk base trip.from trip.to route
 
 -- routes with a segment are at least one
-first_road : (base : BaseLists) (es : History) (trip : Application) (routes : Routes) (s : ℕ) → is_in s (concat routes) ≡ true → ArePassableWalks base (state_after base es) trip.truck trip.from trip.to routes → (route : Route) × IsRoadWalk base trip.from trip.to route
+first_road : (base : BaseLists) (es : History) (trip : Application) (routes : Routes) (s : ℕ) → is_number_among s (concat routes) ≡ true → ArePassableWalks base (state_left_by base es) trip.truck trip.from trip.to routes → (route : Route) × IsRoadWalk base trip.from trip.to route
 first_road base es trip [] s on walks = absurd cc
 first_road base es trip (route ∷ routes) s on walks = (route, (walks 0 [] (omega arith)).walk)
 
-pub wanted : (base : BaseLists) (day : Day) (es : History) (n : ℕ) (trip : Application) (routes : Routes) (s : ℕ) → KeepsPromises base day es → WasIssuedFor es n trip routes → is_in s (concat routes) ≡ true → IsWanted base trip
+pub wanted : (base : BaseLists) (day : Day) (es : History) (n : ℕ) (trip : Application) (routes : Routes) (s : ℕ) → KeepsPromises base day es → WasIssuedFor es n trip routes → is_number_among s (concat routes) ≡ true → IsWanted base trip
 wanted base day es n trip routes s keeps (at, by, c, v, asked, stands) on =
     let permit = keeps.issued at by c n v routes stands in
     let same : permit.trip ≡ trip = same_trip permit.asked.is asked in

@@ -90,8 +90,8 @@ abbrev pub AreFirst : List Handled → History → Numbers → Type 0
 AreFirst items es left = recalled_in es ≡ olds_of items ++ left
 
 -- the day that it is at the office
-abbrev pub day_in : Opened → Day
-day_in o = day_after o.opening o.history
+abbrev pub office_day : Opened → Day
+office_day o = day_after o.opening o.history
 
 -- What a desk and the office have in common whenever it is asked to catch up.
 pub record KeepsUp (desk : Desk) (o : Opened) : Type 0 where
@@ -129,12 +129,12 @@ pub record HasGoneOn (desk : Desk) (o : Opened) (r : Result (Unit {0}) RerouteRe
   pub grown : now ≡ record o { history = o.history ++ own }
   pub by_caller : All (λ e. e.caller ≡ desk.caller) own
   pub recalls_none : recalled_in now.history ≡ recalled_in o.history
-  pub sets_no_day : day_in now ≡ day_in o
+  pub sets_no_day : office_day now ≡ office_day o
   pub memory : is_wanting r ≡ false → All (λ e. e.reply ≢ reply.NoMemory) own
   pub caller : next.caller ≡ desk.caller
   pub items : List Handled
   pub handled : next.handled ≡ desk.handled ++ items
-  pub timely : All (IsTimely now.history (day_in o)) items
+  pub timely : All (IsTimely now.history (office_day o)) items
   pub kept : KeepsUp next now
 
 -- there is exactly one item for each recall of the history, in order
@@ -151,7 +151,7 @@ pub record IsLeft (desk : Desk) (o : Opened) (old : ℕ) : Type 0 where
   pub trip : Application
   pub routes : Routes
   pub issued : WasIssuedFor o.history old trip routes
-  pub in_time : is_before trip.last (day_in o) ≡ false
+  pub in_time : is_before trip.last (office_day o) ≡ false
 
 -- The cause of a refusal: the history holds the most entries that it may, and a permit is left that has not expired. Want of
 -- memory may come wherever memory is taken.

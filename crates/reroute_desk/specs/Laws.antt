@@ -1,7 +1,7 @@
 -- How the calls of others and those of a desk go together, and what is so of all that a desk has handled.
 use Rattle.std.specs.Prelude.{◌≡◌, ◌≢◌, ◌<◌, ℕ, List, [], ◌∷◌, false}
 use Rattle.std.specs.List.{flat_map}
-use Rattle.trip_analysis.specs.Findings.{is_in}
+use Rattle.trip_analysis.specs.Findings.{is_number_among}
 use Rattle.office_words.specs.declared.entry.Entry.{Entry}
 use Rattle.office_core.specs.Happened.{Numbers}
 use Rattle.office_core.specs.Machine.{entries_by}
@@ -23,7 +23,7 @@ CallsOfOthersKeepUp = (desk : Desk) (o : Opened) (e : Entry) → e.caller ≢ de
 -- each number stands in the list once
 abbrev pub StandOnce : Numbers → Type 0
 StandOnce [] = Unit {0}
-StandOnce (n ∷ ns) = (is_in n ns ≡ false) × StandOnce ns
+StandOnce (n ∷ ns) = (is_number_among n ns ≡ false) × StandOnce ns
 
 -- the number of the permit that replaces one, if it was replaced
 abbrev pub new_of : HandledAs → Numbers

@@ -5,7 +5,7 @@ use Rattle.std.specs.Map.{lookup}
 use Rattle.std.specs.Ordering.{nat_cmp}
 use Rattle.trip_applications.specs.declared.application.Application.{Application}
 use Rattle.office_core.specs.Happened.{History, Numbers}
-use Rattle.recall_list.specs.Issues.{issued_in, recalled_in}
+use Rattle.recall_list.specs.Issues.{told_of_issued, recalled_in}
 use Rattle.reroute_desk.specs.declared.notes.Notes.TheInside.{Inside}
 use Rattle.reroute_desk.specs.Replacements.{unasked}
 
@@ -23,11 +23,11 @@ abbrev pub no_notes : Noted
 no_notes = record { read = 0; recalled = []; trips = [] }
 
 -- the trip that is noted of a permit
-abbrev pub trip_of : Noted → ℕ → Option Application
-trip_of notes n = lookup (is_at (nat_cmp n)) notes.trips
+abbrev pub noted_trip_of : Noted → ℕ → Option Application
+noted_trip_of notes n = lookup (is_at (nat_cmp n)) notes.trips
 
 -- the notes are of the first entries of a history
 pub record AreNotes (notes : Noted) (es : History) : Type 0 where
   pub within : notes.read ≤ length es
   pub recalled : notes.recalled ≡ recalled_in (take notes.read es)
-  pub trips : (n : ℕ) → trip_of notes n ≡ issued_in unasked (take notes.read es) n
+  pub trips : (n : ℕ) → noted_trip_of notes n ≡ told_of_issued unasked (take notes.read es) n

@@ -3,7 +3,7 @@ use Rattle.std.specs.Prelude.{ℕ, Option, None, if◌then◌else◌}
 use Rattle.permit_days.specs.Days.{is_before}
 use Rattle.trip_applications.specs.declared.application.Application.{Application}
 use Rattle.office_core.specs.Happened.{Day, History, day_after}
-use Rattle.recall_list.specs.Issues.{issued_in}
+use Rattle.recall_list.specs.Issues.{told_of_issued}
 
 -- an application that asks for no route
 abbrev pub unasked : Application → Application
@@ -19,7 +19,7 @@ renewed today a = record a { asked = None; first = first_from today a.first }
 
 -- the application for a permit once more on a day, behind these entries, where one of them issued it
 abbrev pub again : History → Day → ℕ → Option Application
-again es today old = issued_in (renewed today) es old
+again es today old = told_of_issued (renewed today) es old
 
 -- the day that it is behind the entries of an office that opened on a day
 abbrev pub again_behind : Day → History → ℕ → Option Application

@@ -5,7 +5,7 @@ ghost use Rattle.std.specs.Option.{option_or};
 ghost use Rattle.office_core.specs.Happened.{application_in};
 ghost use Rattle.recall_list.specs.Issues.{issued_by, recalled_numbers};
 ghost use Rattle.reroute_desk.specs.Replacements.{unasked};
-ghost use Rattle.reroute_desk.specs.Notes.{AreNotes, no_notes, trip_of};
+ghost use Rattle.reroute_desk.specs.Notes.{AreNotes, no_notes, noted_trip_of};
 
 use names::NoMemory;
 use office_words::{Call, Entry, Reply};
@@ -55,7 +55,7 @@ impl Notes {
 
     /// The trip of a permit, if one was issued with that number. Takes no memory.
     pub(crate) fn trip(&self, number: u32) -> Option<&Application>
-        ensures { option_map (λ a. a.now) result ≡ trip_of self.now number }
+        ensures { option_map (λ a. a.now) result ≡ noted_trip_of self.now number }
     {
         self.trips.get(&number)
     }
@@ -92,8 +92,8 @@ impl Notes {
         ensures read { self.new.read ≡ self.old.read }
         ensures recalled { OnOk result
             (self.new.recalled ≡ self.old.recalled ++ recalled_numbers entry.now.reply) }
-        ensures trips { OnOk result ((n : ℕ) → trip_of self.new n
-            ≡ option_or (issued_by unasked n entry.now.call entry.now.reply) (trip_of self.old n)) }
+        ensures trips { OnOk result ((n : ℕ) → noted_trip_of self.new n
+            ≡ option_or (issued_by unasked n entry.now.call entry.now.reply) (noted_trip_of self.old n)) }
     {
         match &entry.reply {
             Reply::Issued { number, .. } => self.note_trip(*number, &entry.call),
@@ -109,8 +109,8 @@ impl Notes {
     fn note_trip(&mut self, number: u32, call: &Call) -> Result<(), NoMemory>
         ensures read { self.new.read ≡ self.old.read }
         ensures recalled { self.new.recalled ≡ self.old.recalled }
-        ensures trips { OnOk result ((n : ℕ) → trip_of self.new n
-            ≡ option_or (if number == n then option_map unasked (application_in call.now) else None) (trip_of self.old n)) }
+        ensures trips { OnOk result ((n : ℕ) → noted_trip_of self.new n
+            ≡ option_or (if number == n then option_map unasked (application_in call.now) else None) (noted_trip_of self.old n)) }
     {
         let Some(application) = application_of(call) else {
             return Ok(());

@@ -4,7 +4,7 @@ ghost use Rattle.std.specs.Prelude.{◌≡◌, ◌<◌, ◌+◌, ◌∷◌, [], 
 ghost use Rattle.permit_days.specs.Days.{is_before};
 ghost use Rattle.recall_list.specs.Issues.{recalled_in};
 ghost use Rattle.reroute_desk.specs.Replacements.{again_behind, renewed};
-ghost use Rattle.reroute_desk.specs.Desks.{AnswersRenewal, HasGoneOn, HasHandledAll, IsNext, IsRerouteCause, KeepsUp, day_in, is_ended, kept_reply, new_desk, refusal_reply};
+ghost use Rattle.reroute_desk.specs.Desks.{AnswersRenewal, HasGoneOn, HasHandledAll, IsNext, IsRerouteCause, KeepsUp, office_day, is_ended, kept_reply, new_desk, refusal_reply};
 
 use crate::handled::{Handled, HandledAs};
 use crate::notes::Notes;
@@ -116,7 +116,7 @@ impl Rerouter {
         requires kept { KeepsUp self.old office.old.office }
         requires next { IsNext self.old office.old.office old }
         requires trip { again_behind office.old.office.opening office.old.office.history old ≡ Some trip }
-        requires in_time { is_before trip.last (day_in office.old.office) ≡ false }
+        requires in_time { is_before trip.last (office_day office.old.office) ≡ false }
         ensures gone { HasGoneOn self.old office.old.office result self.new office.new.office }
         ensures one { OnOk result (length self.new.handled ≡ length self.old.handled + 1) }
         ensures notes { self.new.notes ≡ self.old.notes }

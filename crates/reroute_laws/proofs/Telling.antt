@@ -5,7 +5,7 @@ use Rattle.std.proofs.lemmas.List.{append-nil, map-append}
 use Rattle.std.proofs.lemmas.List.Elements.{All-head, All-tail, filter-append}
 use Rattle.road_graph.specs.Roads.{IsRoads}
 use Rattle.fleet.specs.Bases.{AreTrains, BaseLists}
-use Rattle.trip_analysis.specs.Findings.{is_in}
+use Rattle.trip_analysis.specs.Findings.{is_number_among}
 use Rattle.trip_applications.specs.declared.application.Application.{Application}
 use Rattle.day_text.specs.declared.orders.Order.{Order}
 use Rattle.office_words.specs.declared.entry.Call.TheVariants as call
@@ -45,13 +45,13 @@ either : (b c d : Bool) → (b || c) ≡ true → (c ≡ true → d ≡ true) �
 either true c d on more = refl
 either false c d on more = more on
 
-in_front : (n : ℕ) (xs ys : Numbers) → is_in n xs ≡ true → is_in n (xs ++ ys) ≡ true
+in_front : (n : ℕ) (xs ys : Numbers) → is_number_among n xs ≡ true → is_number_among n (xs ++ ys) ≡ true
 in_front n [] ys on = absurd cc
-in_front n (x ∷ xs) ys on = either (x == n) (is_in n xs) (is_in n (xs ++ ys)) on (λ further. in_front n xs ys further)
+in_front n (x ∷ xs) ys on = either (x == n) (is_number_among n xs) (is_number_among n (xs ++ ys)) on (λ further. in_front n xs ys further)
 
-in_back : (n : ℕ) (xs ys : Numbers) → is_in n ys ≡ true → is_in n (xs ++ ys) ≡ true
+in_back : (n : ℕ) (xs ys : Numbers) → is_number_among n ys ≡ true → is_number_among n (xs ++ ys) ≡ true
 in_back n [] ys on = on
-in_back n (x ∷ xs) ys on = or_right (x == n) (is_in n (xs ++ ys)) (in_back n xs ys on)
+in_back n (x ∷ xs) ys on = or_right (x == n) (is_number_among n (xs ++ ys)) (in_back n xs ys on)
 
 -- what is so of all entries is so of the one at a place
 at_place : (P : Entry → Type 0) (front : History) (e : Entry) (back : History) → All P (front ++ e ∷ back) → P e
@@ -110,7 +110,7 @@ replies_behind caller es fs =
 
 module _ (base : BaseLists) (day : Day) (caller : ℕ) (all : History) (roads : IsRoads base.roads) (trains : AreTrains base) (legal : IsLegal base day all) (keeps : KeepsPromises base day all) (memory : FoundMemory all) where
   -- an application once more for a permit that was recalled before is told
-  renewal_told : (front : History) (e : Entry) (back : History) (n : ℕ) → all ≡ front ++ e ∷ back → is_in n (recalled_in front) ≡ true → IsRenewed day caller front n e → IsTold e.reply
+  renewal_told : (front : History) (e : Entry) (back : History) (n : ℕ) → all ≡ front ++ e ∷ back → is_number_among n (recalled_in front) ≡ true → IsRenewed day caller front n e → IsTold e.reply
   renewal_told front e back n is on again =
       told_of e.reply (answers_renewal base day front caller k.trip (wanted base day all n k.trip k.routes k.on_road.0 keeps (was_issued k) k.on_road.1) roads trains e.reply step)
       (held_roomy base (machine_of base day front) caller a e.reply (last_step base day front (entry caller (call.Held a) e.reply) step).answer)
@@ -139,13 +139,13 @@ module _ (base : BaseLists) (day : Day) (caller : ℕ) (all : History) (roads : 
     recalls_none : recalled_in es ≡ []
     own : replies_to caller es ≡ map (λ (e : Entry). e.reply) es
 
-  renewals_told : (front : History) (ns : Numbers) (es back : History) → all ≡ front ++ (es ++ back) → ((n : ℕ) → is_in n ns ≡ true → is_in n (recalled_in front) ≡ true) → AreRenewed day caller front ns es → AreAllTold ns es
+  renewals_told : (front : History) (ns : Numbers) (es back : History) → all ≡ front ++ (es ++ back) → ((n : ℕ) → is_number_among n ns ≡ true → is_number_among n (recalled_in front) ≡ true) → AreRenewed day caller front ns es → AreAllTold ns es
   renewals_told front [] es back is on none = subst (AreAllTold []) (sym none) (record { told = tt; recalls_none = refl; own = refl })
   renewals_told front (n ∷ ns) [] back is on none = absurd none
   renewals_told front (n ∷ ns) (e ∷ es) back is on (one, rest) =
-      let here : IsTold e.reply = renewal_told front e (es ++ back) n is (on n (ap (λ (b : Bool). b || is_in n ns) (eq-eqb n n refl))) one in
+      let here : IsTold e.reply = renewal_told front e (es ++ back) n is (on n (ap (λ (b : Bool). b || is_number_among n ns) (eq-eqb n n refl))) one in
       let behind : AreAllTold ns es = renewals_told (front ++ e ∷ []) ns es back (is ∙ sym (append_assoc front (e ∷ []) (es ++ back)))
-      (λ m in_rest. subst (λ (l : Numbers). is_in m l ≡ true) (sym (recalled_more front (e ∷ []))) (in_front m (recalled_in front) (recalled_in (e ∷ [])) (on m (or_right (n == m) (is_in m ns) in_rest)))) rest in
+      (λ m in_rest. subst (λ (l : Numbers). is_number_among m l ≡ true) (sym (recalled_more front (e ∷ []))) (in_front m (recalled_in front) (recalled_in (e ∷ [])) (on m (or_right (n == m) (is_number_among m ns) in_rest)))) rest in
       record {
         told = (here, behind.told);
         recalls_none = ap (λ (l : Numbers). l ++ recalled_in es) (quiet e.reply here) ∙ behind.recalls_none;
@@ -162,7 +162,7 @@ module _ (base : BaseLists) (day : Day) (caller : ℕ) (all : History) (roads : 
       let once : IsAtOnce o.actor own = at_once first base m o.actor o.command own roads finished own_legal in
       let these : AreAllTold (recalled_in own) again = renewals_told (front ++ own) (recalled_in own) again back
       (parts ∙ (ap (λ (l : History). front ++ l) (append_assoc own again back) ∙ sym (append_assoc front own (again ++ back))))
-      (λ n on. subst (λ (l : Numbers). is_in n l ≡ true) (sym (recalled_more front own)) (in_back n (recalled_in front) (recalled_in own) on)) are in
+      (λ n on. subst (λ (l : Numbers). is_number_among n l ≡ true) (sym (recalled_more front own)) (in_back n (recalled_in front) (recalled_in own) on)) are in
       let numbers : recalled_in es ≡ recalled_in own ++ recalled_in back =
       ap recalled_in whole
       ∙ (recalled_more (own ++ again) back

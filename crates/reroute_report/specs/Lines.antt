@@ -28,10 +28,10 @@ line_for permit (reply.Refused version failing) = refused_line permit version fa
 line_for permit other = []
 
 -- a line for each permit, by the answer at its place
-abbrev pub lines_for : Numbers → List Reply → List ℕ
-lines_for [] replies = []
-lines_for (permit ∷ permits) [] = []
-lines_for (permit ∷ permits) (r ∷ replies) = line_for permit r ++ lines_for permits replies
+abbrev pub permit_lines : Numbers → List Reply → List ℕ
+permit_lines [] replies = []
+permit_lines (permit ∷ permits) [] = []
+permit_lines (permit ∷ permits) (r ∷ replies) = line_for permit r ++ permit_lines permits replies
 
 -- the answers to a caller, in order
 abbrev pub replies_to : ℕ → History → List Reply
@@ -39,4 +39,4 @@ replies_to caller es = map (λ e. e.reply) (entries_by caller es)
 
 -- the text for a history in which this caller applied again for each recalled permit, in order
 abbrev pub reroute_text : ℕ → History → List ℕ
-reroute_text caller es = lines_for (recalled_in es) (replies_to caller es)
+reroute_text caller es = permit_lines (recalled_in es) (replies_to caller es)

@@ -4,7 +4,7 @@ ghost use Rattle.std.specs.Prelude.{◌≡◌, ◌++◌, ◌∷◌, List, IfOk, 
 ghost use Rattle.std.specs.Fmt.{decimal};
 ghost use Rattle.office_words.specs.declared.entry.Reply.{Reply};
 ghost use Rattle.recall_list.specs.Issues.{recalled_in, recalled_numbers};
-ghost use Rattle.reroute_report.specs.Lines.{line_for, lines_for, refused_line, replaced_line, replies_to, reroute_text};
+ghost use Rattle.reroute_report.specs.Lines.{line_for, permit_lines, refused_line, replaced_line, replies_to, reroute_text};
 
 use clearance_rules::Limit;
 use journal_text::{limit_text, routes_text};
@@ -55,7 +55,7 @@ fn add_lines(
     history: &[Entry],
 ) -> Result<(), NoMemory>
     ensures { OnOk result
-        (text.new.items ≡ text.old.items ++ lines_for permits.now (replies_to caller history.now)) }
+        (text.new.items ≡ text.old.items ++ permit_lines permits.now (replies_to caller history.now)) }
 {
     let mut left = permits;
     'entries: for entry in history {
@@ -73,8 +73,8 @@ fn add_first<'a>(
     permits: &'a [u32],
     reply: &Reply,
 ) -> Result<&'a [u32], NoMemory>
-    ensures { IfOk result (λ left. (replies : List Reply) → text.new.items ++ lines_for left.now replies
-        ≡ text.old.items ++ lines_for permits.now (reply.now ∷ replies)) }
+    ensures { IfOk result (λ left. (replies : List Reply) → text.new.items ++ permit_lines left.now replies
+        ≡ text.old.items ++ permit_lines permits.now (reply.now ∷ replies)) }
 {
     let Some((permit, left)) = permits.split_first() else {
         return Ok(permits);

@@ -2,7 +2,7 @@
 
 ghost use Rattle.std.specs.Prelude.{◌≡◌, ◌<◌, length, map, slice_set, IfOk};
 ghost use Rattle.std.specs.Arc.{arc_slice_items};
-ghost use Rattle.restriction_log.specs.Pages.{AreParts, as_groups, as_pages, joined};
+ghost use Rattle.restriction_log.specs.Pages.{AreParts, as_groups, as_pages, items_in_parts};
 
 use std::alloc::{AllocError, Global};
 use std::sync::ArcSlice;
@@ -24,7 +24,7 @@ pub(crate) fn pages_of<T: Copy + Drop>(
     alloc: Global,
     items: &[T],
 ) -> Result<Vec<Page<T>>, AllocError>
-    ensures items { IfOk result (λ pages. joined (as_pages pages.items) ≡ items.now) }
+    ensures items { IfOk result (λ pages. items_in_parts (as_pages pages.items) ≡ items.now) }
     ensures parts { IfOk result (λ pages. AreParts 64 (as_pages pages.items)) }
 {
     let mut pages = Vec::new(alloc);
@@ -39,7 +39,7 @@ pub(crate) fn groups_of<T: Drop>(
     alloc: Global,
     pages: &[Page<T>],
 ) -> Result<Vec<Group<T>>, AllocError>
-    ensures pages { IfOk result (λ groups. joined (as_groups groups.items) ≡ as_pages pages.now) }
+    ensures pages { IfOk result (λ groups. items_in_parts (as_groups groups.items) ≡ as_pages pages.now) }
     ensures parts { IfOk result (λ groups. AreParts 16 (as_groups groups.items)) }
 {
     let mut groups = Vec::new(alloc);

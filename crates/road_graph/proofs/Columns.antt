@@ -3,7 +3,7 @@ use Rattle.std.proofs.Common.{◌≡◌, ◌≢◌, ◌+◌, ◌<◌, ◌≤◌,
 use Rattle.std.specs.declared.alloc.Global.{Global}
 use Rattle.std.proofs.lemmas.List.{map-set, set-get_or, get_or-map}
 use Rattle.std.proofs.lemmas.Option.{slice_get-get_or}
-use Rattle.road_graph.specs.Lists.{lists_of, with_last, HasRoom, AreLists}
+use Rattle.road_graph.specs.Lists.{lists_of, with_appended, HasRoomForOne, AreLists}
 use Rattle.road_graph.proofs.Places.{get-push_cases, get-set_cases}
 
 module _ {X : Type 0} where
@@ -17,7 +17,7 @@ module _ {X : Type 0} where
 
   -- a vector is written anew with one element more
   pub lists_of-last : (vectors : List (Vec X Global)) (i : ℕ) (old new : Vec X Global) (x : X) → i < length vectors → old ≡ get_or vectors i old → new.items ≡ old.items ++ x ∷ []
-      → lists_of (set vectors i new) ≡ with_last (lists_of vectors) i x
+      → lists_of (set vectors i new) ≡ with_appended (lists_of vectors) i x
   lists_of-last vectors i old new x within at e =
       let here : old.items ≡ get_or (lists_of vectors) i [] =
       ap (λ (v : Vec X Global). v.items) at ∙ sym (get_or-map (λ (v : Vec X Global). v.items) vectors i old [] within) in
@@ -25,7 +25,7 @@ module _ {X : Type 0} where
       ∙ ap (λ (xs : List X). set (lists_of vectors) i xs) (e ∙ ap (λ (xs : List X). xs ++ x ∷ []) here)
 
   -- the vector that was written has room
-  pub room-set : (vectors : List (Vec X Global)) (i : ℕ) (new : Vec X Global) → vec_len new + 1 ≤ vec_capacity new → HasRoom (set vectors i new) i
+  pub room-set : (vectors : List (Vec X Global)) (i : ℕ) (new : Vec X Global) → vec_len new + 1 ≤ vec_capacity new → HasRoomForOne (set vectors i new) i
   room-set vectors i new room v at = elim (get-set_cases vectors i new i v at) [
     | inl same ↦ rw same.1 (omega (arith, room, new.ok.0))
     | inr other ↦ absurd (other.0 refl)
@@ -44,7 +44,7 @@ module _ {X : Type 0} where
 
   -- one list has one element more, the others are as they were
   pub lists-last : (lists : List (List X)) (many : ℕ) (wanted next : ℕ → List X) (i : ℕ) (x : X) → AreLists lists many wanted → i < many
-      → next i ≡ wanted i ++ x ∷ [] → ((j : ℕ) → j ≢ i → next j ≡ wanted j) → AreLists (with_last lists i x) many next
+      → next i ≡ wanted i ++ x ∷ [] → ((j : ℕ) → j ≢ i → next j ≡ wanted j) → AreLists (with_appended lists i x) many next
   lists-last lists many wanted next i x h within here others =
       let within2 : i < length lists = omega (arith, within, h.many_are) in
       let is : get_or lists i [] ≡ wanted i = h.each i (get_or lists i []) (slice_get-get_or lists i [] within2) in

@@ -9,20 +9,20 @@ use Rattle.road_graph.specs.declared.values.What.{What}
 use Rattle.road_graph.specs.Ranges.{is_limit}
 use Rattle.road_graph.specs.Roads.{Roads, has_name, segment_names, span_names, outgoing_of, incoming_of, spans_of, arrival_of, IsSegment, IsSpan, IsRoads}
 use Rattle.road_graph.specs.Adding.{with_node, with_segment, with_span, limited}
-use Rattle.road_graph.specs.Lists.{lists_of, with_last}
-use Rattle.road_graph.specs.Kept.{IsKept, roads_in}
+use Rattle.road_graph.specs.Lists.{lists_of, with_appended}
+use Rattle.road_graph.specs.Kept.{IsNetworkKept, roads_in}
 use Rattle.road_graph.proofs.Columns.{lists-more, lists-last, lists-same}
 use Rattle.road_graph.proofs.Filters.{outgoing-none, incoming-none, spans-none, outgoing-more, outgoing-same, incoming-more, incoming-same, spans-more, spans-same, outgoing-limit, incoming-limit}
 use Rattle.road_graph.proofs.Growth.{roads-node, roads-segment, roads-span, roads-limit, names-limit}
 
-module _ (n : Inside) (h : IsKept n) where
+module _ (n : Inside) (h : IsNetworkKept n) where
   pub kept-node : (m : Inside) (name : List ℕ) → length n.nodes.keys < 4096 → has_name name n.nodes.keys ≡ false
       → roads_in m ≡ with_node (roads_in n) name
       → m.segment_names.keys ≡ n.segment_names.keys → m.span_names.keys ≡ n.span_names.keys
       → lists_of m.outgoing.items ≡ lists_of n.outgoing.items ++ [] ∷ []
       → lists_of m.incoming.items ≡ lists_of n.incoming.items ++ [] ∷ []
       → lists_of m.carried.items ≡ lists_of n.carried.items
-      → IsKept m
+      → IsNetworkKept m
   kept-node m name few none is names spans out incoming carried =
       let roads = roads_in n in
       let nodes_are : m.nodes.keys ≡ n.nodes.keys ++ name ∷ [] = ap (λ (r : Roads). r.nodes) is in
@@ -47,10 +47,10 @@ module _ (n : Inside) (h : IsKept n) where
   pub kept-segment : (m : Inside) (s : Segment) → length n.segments.items < 16384 → IsSegment (length n.nodes.keys) s → has_name s.name n.segment_names.keys ≡ false
       → roads_in m ≡ with_segment (roads_in n) s
       → m.segment_names.keys ≡ n.segment_names.keys ++ s.name ∷ [] → m.span_names.keys ≡ n.span_names.keys
-      → lists_of m.outgoing.items ≡ with_last (lists_of n.outgoing.items) s.from (length n.segments.items)
-      → lists_of m.incoming.items ≡ with_last (lists_of n.incoming.items) s.to (arrival_of (length n.segments.items, s))
+      → lists_of m.outgoing.items ≡ with_appended (lists_of n.outgoing.items) s.from (length n.segments.items)
+      → lists_of m.incoming.items ≡ with_appended (lists_of n.incoming.items) s.to (arrival_of (length n.segments.items, s))
       → lists_of m.carried.items ≡ lists_of n.carried.items ++ [] ∷ []
-      → IsKept m
+      → IsNetworkKept m
   kept-segment m s few fits none is names spans out incoming carried =
       let roads = roads_in n in
       let segments = n.segments.items in
@@ -79,8 +79,8 @@ module _ (n : Inside) (h : IsKept n) where
       → m.segment_names.keys ≡ n.segment_names.keys → m.span_names.keys ≡ n.span_names.keys ++ t.name ∷ []
       → lists_of m.outgoing.items ≡ lists_of n.outgoing.items
       → lists_of m.incoming.items ≡ lists_of n.incoming.items
-      → lists_of m.carried.items ≡ with_last (lists_of n.carried.items) t.segment (length n.spans.items)
-      → IsKept m
+      → lists_of m.carried.items ≡ with_appended (lists_of n.carried.items) t.segment (length n.spans.items)
+      → IsNetworkKept m
   kept-span m t few few_here fits none is names names2 out incoming carried =
       let roads = roads_in n in
       let spans = n.spans.items in
@@ -106,7 +106,7 @@ module _ (n : Inside) (h : IsKept n) where
       → lists_of m.outgoing.items ≡ lists_of n.outgoing.items
       → lists_of m.incoming.items ≡ lists_of n.incoming.items
       → lists_of m.carried.items ≡ lists_of n.carried.items
-      → IsKept m
+      → IsNetworkKept m
   kept-limit m i s what value at fits nodes_are spans_are segments_are names names2 out incoming carried =
       let roads = roads_in n in
       let segments = n.segments.items in

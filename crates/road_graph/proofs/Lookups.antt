@@ -10,7 +10,7 @@ use Rattle.road_graph.specs.declared.segment.Span.{Span}
 use Rattle.road_graph.specs.declared.segment.Arrival.{Arrival}
 use Rattle.road_graph.specs.Roads.{Roads, no_roads, outgoing_of, incoming_of, spans_of, IsOutgoing, IsIncoming, AreSpansOf, IsSegment, IsSpan, IsRoads}
 use Rattle.road_graph.specs.Lists.{lists_of, AreLists}
-use Rattle.road_graph.specs.Kept.{IsKept, roads_in}
+use Rattle.road_graph.specs.Kept.{IsNetworkKept, roads_in}
 use Rattle.road_graph.proofs.Places.{get-map}
 use Rattle.road_graph.proofs.Filters.{outgoing_is, incoming_is, spans_are}
 
@@ -22,7 +22,7 @@ list-read {X} vectors many wanted h i less v e =
     let at : slice_get vectors i ≡ Some v = slice_get_read vectors (length vectors) i v refl within e in
     h.each i v.items (get-map (λ (w : Vec X Global). w.items) vectors i v at)
 
-module _ (n : Inside) (h : IsKept n) (now : Roads) (is : roads_in n ≡ now) where
+module _ (n : Inside) (h : IsNetworkKept n) (now : Roads) (is : roads_in n ≡ now) where
   pub roads-read : IsRoads now
   roads-read = subst IsRoads is h.roads
 
@@ -74,7 +74,7 @@ no-lists {X} vectors many wanted none zero_many = record {
 
 -- a network with nothing in it
 pub kept-none : (n : Inside) → n.nodes.keys ≡ [] → n.segment_names.keys ≡ [] → n.segments.items ≡ [] → n.span_names.keys ≡ [] → n.spans.items ≡ []
-    → n.outgoing.items ≡ [] → n.incoming.items ≡ [] → n.carried.items ≡ [] → IsKept n
+    → n.outgoing.items ≡ [] → n.incoming.items ≡ [] → n.carried.items ≡ [] → IsNetworkKept n
 kept-none n nodes names segments names2 spans out incoming carried =
     let is : roads_in n ≡ no_roads = cc in record {
       roads = subst IsRoads (sym is) no_roads_fit;

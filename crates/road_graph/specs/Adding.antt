@@ -37,8 +37,8 @@ abbrev pub segments_limited : List Segment → ℕ → What → ℕ → List Seg
 segments_limited segments i what value = slice_set segments i (limited (segment_at segments i) what value)
 
 -- the network with one limit of one segment replaced
-abbrev pub with_limit : Roads → ℕ → What → ℕ → Roads
-with_limit roads i what value =
+abbrev pub network_with_limit : Roads → ℕ → What → ℕ → Roads
+network_with_limit roads i what value =
     record roads { segments = segments_limited roads.segments i what value }
 
 -- the first cause, in this order, for which a node is refused: its name is taken, or there are 4,096 nodes
@@ -73,6 +73,6 @@ limit_refusal roads segment what value =
     else (if not (is_limit what value) then Some Range else None)
 
 -- the refusal is the first cause that applies; that no memory was left comes only where none applies
-abbrev pub IsCause : Option AddRefusal → AddRefusal → Type 0
-IsCause cause NoMemory = cause ≡ None
-IsCause cause refusal = cause ≡ Some refusal
+abbrev pub IsAddCause : Option AddRefusal → AddRefusal → Type 0
+IsAddCause cause NoMemory = cause ≡ None
+IsAddCause cause refusal = cause ≡ Some refusal

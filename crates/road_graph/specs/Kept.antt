@@ -9,7 +9,7 @@ abbrev pub roads_in : Inside → Roads
 roads_in n = record { nodes = n.nodes.keys; segments = n.segments.items; spans = n.spans.items }
 
 -- the names are those of the segments and spans, and the list of each node and segment is the filter that it stands for
-pub record IsKept (n : Inside) : Type 0 where
+pub record IsNetworkKept (n : Inside) : Type 0 where
   pub roads : IsRoads (roads_in n)
   pub segment_names : n.segment_names.keys ≡ segment_names n.segments.items
   pub span_names : n.span_names.keys ≡ span_names n.spans.items

@@ -7,16 +7,16 @@ abbrev pub lists_of : {X : Type 0} → List (Vec X Global) → List (List X)
 lists_of vectors = map (λ v. v.items) vectors
 
 -- one element more at the end of the list of a number
-abbrev pub with_last : {X : Type 0} → List (List X) → ℕ → X → List (List X)
-with_last lists i x = slice_set lists i (slice_index_or lists i [] ++ x ∷ [])
+abbrev pub with_appended : {X : Type 0} → List (List X) → ℕ → X → List (List X)
+with_appended lists i x = slice_set lists i (slice_index_or lists i [] ++ x ∷ [])
 
 -- the list of a number has one element more at its end, and every other is as it was
-abbrev pub IsAdded : {X : Type 0} → List (Vec X Global) → List (Vec X Global) → ℕ → X → Type 0
-IsAdded old new i x = lists_of new ≡ with_last (lists_of old) i x
+abbrev pub IsAppended : {X : Type 0} → List (Vec X Global) → List (Vec X Global) → ℕ → X → Type 0
+IsAppended old new i x = lists_of new ≡ with_appended (lists_of old) i x
 
 -- the vector of a number has room for one element more
-abbrev pub HasRoom : {X : Type 0} → List (Vec X Global) → ℕ → Type 0
-HasRoom {X} vectors i = (v : Vec X Global) → slice_get vectors i ≡ Some v → length v.items < vec_capacity v
+abbrev pub HasRoomForOne : {X : Type 0} → List (Vec X Global) → ℕ → Type 0
+HasRoomForOne {X} vectors i = (v : Vec X Global) → slice_get vectors i ≡ Some v → length v.items < vec_capacity v
 
 -- there are so many lists, and the list of each number is the one that is wanted
 pub record AreLists {X : Type 0} (lists : List (List X)) (many : ℕ) (wanted : ℕ → List X) : Type 0 where

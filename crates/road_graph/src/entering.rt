@@ -2,7 +2,7 @@
 // so that nothing has changed where no memory was left.
 
 ghost use Rattle.std.specs.Prelude.{◌≡◌, ◌<◌, ◌≤◌, ◌++◌, ◌∷◌, [], ◌^◌, length, map, nat_lt, ◌&&◌, false, OnOk, OnErr, IfSome, IfNone, slice_get, Some};
-ghost use Rattle.road_graph.specs.Lists.{lists_of, IsAdded};
+ghost use Rattle.road_graph.specs.Lists.{lists_of, IsAppended};
 ghost use Rattle.road_graph.specs.Roads.{has_name, number_of, next_arrival};
 ghost use Rattle.road_graph.specs.Adding.{segments_limited};
 
@@ -86,9 +86,9 @@ pub(crate) fn enter_segment(
     ensures name { OnOk result (names.new.keys ≡ names.old.keys ++ segment.name ∷ []) }
     ensures segment { OnOk result (segments.new.items ≡ segments.old.items ++ segment ∷ []) }
     ensures outgoing { OnOk result
-        (IsAdded outgoing.old.items outgoing.new.items segment.from (length segments.old.items)) }
+        (IsAppended outgoing.old.items outgoing.new.items segment.from (length segments.old.items)) }
     ensures incoming { OnOk result
-        (IsAdded incoming.old.items incoming.new.items segment.to (next_arrival segments.old.items segment)) }
+        (IsAppended incoming.old.items incoming.new.items segment.to (next_arrival segments.old.items segment)) }
     ensures carried { OnOk result (lists_of carried.new.items ≡ lists_of carried.old.items ++ [] ∷ []) }
     ensures name_unchanged { OnErr result (names.new.keys ≡ names.old.keys) }
     ensures segments_unchanged { OnErr result (segments.new.items ≡ segments.old.items) }
@@ -130,7 +130,7 @@ pub(crate) fn enter_span(
     ensures name { OnOk result (names.new.keys ≡ names.old.keys ++ span.name ∷ []) }
     ensures span { OnOk result (spans.new.items ≡ spans.old.items ++ span ∷ []) }
     ensures carried { OnOk result
-        (IsAdded carried.old.items carried.new.items span.segment (length spans.old.items)) }
+        (IsAppended carried.old.items carried.new.items span.segment (length spans.old.items)) }
     ensures name_unchanged { OnErr result (names.new.keys ≡ names.old.keys) }
     ensures spans_unchanged { OnErr result (spans.new.items ≡ spans.old.items) }
     ensures carried_unchanged { OnErr result (lists_of carried.new.items ≡ lists_of carried.old.items) }

@@ -1,7 +1,7 @@
 // Lists that stand side by side, one for each number.
 
 ghost use Rattle.std.specs.Prelude.{◌≡◌, ◌<◌, length, OnOk};
-ghost use Rattle.road_graph.specs.Lists.{lists_of, with_last, HasRoom};
+ghost use Rattle.road_graph.specs.Lists.{lists_of, with_appended, HasRoomForOne};
 
 use std::alloc::AllocError;
 
@@ -10,7 +10,7 @@ pub(crate) fn reserve_at<T: Drop>(lists: &mut Vec<Vec<T>>, at: usize) -> Result<
     requires { at < length lists.old.items }
     ensures many { length lists.new.items ≡ length lists.old.items }
     ensures same { lists_of lists.new.items ≡ lists_of lists.old.items }
-    ensures room { OnOk result (HasRoom lists.new.items at) }
+    ensures room { OnOk result (HasRoomForOne lists.new.items at) }
 {
     lists[at].reserve(1)
 }
@@ -18,8 +18,8 @@ pub(crate) fn reserve_at<T: Drop>(lists: &mut Vec<Vec<T>>, at: usize) -> Result<
 /// Adds an element to the list of a number, in which there is room.
 pub(crate) fn push_at<T: Drop>(lists: &mut Vec<Vec<T>>, at: usize, element: T)
     requires within { at < length lists.old.items }
-    requires room { HasRoom lists.old.items at }
-    ensures { lists_of lists.new.items ≡ with_last (lists_of lists.old.items) at element }
+    requires room { HasRoomForOne lists.old.items at }
+    ensures { lists_of lists.new.items ≡ with_appended (lists_of lists.old.items) at element }
 {
     lists[at].push_reserved(element);
 }

@@ -44,17 +44,17 @@ impl Model for Network {
 
     ghost Value = { Roads };
 
-    ghost use Rattle.road_graph.specs.Kept.{IsKept, roads_in};
+    ghost use Rattle.road_graph.specs.Kept.{IsNetworkKept, roads_in};
 
     ghost view = { roads_in };
 
-    ghost invariant = { IsKept };
+    ghost invariant = { IsNetworkKept };
 }
 
 impl Network {
     ghost use Rattle.std.specs.Prelude.{◌≡◌, ◌<◌, length, slice_get, Some, None, false, IfSome, IfNone, IfOk, IfErr, OnOk, OnErr};
     ghost use Rattle.road_graph.specs.Roads.{Roads, no_roads, has_name, number_of, segment_names, span_names, segment_at, span_at, outgoing_of, incoming_of, spans_of, IsRoads, IsSegment, IsSpan, IsOutgoing, IsIncoming, AreSpansOf};
-    ghost use Rattle.road_graph.specs.Adding.{new_span, with_node, with_segment, new_segment, with_span, with_limit, node_refusal, segment_refusal, span_refusal, limit_refusal, IsCause};
+    ghost use Rattle.road_graph.specs.Adding.{new_span, with_node, with_segment, new_segment, with_span, network_with_limit, node_refusal, segment_refusal, span_refusal, limit_refusal, IsAddCause};
 
     /// A network with nothing in it. It keeps the allocator for what is added. Takes no memory.
     pub fn new(alloc: Global) -> Network
@@ -80,7 +80,7 @@ impl Network {
         ensures number { IfOk result (λ number. number ≡ length self.old.nodes) }
         ensures added { OnOk result (self.new ≡ with_node self.old name) }
         ensures taken { OnOk result (node_refusal self.old name ≡ None) }
-        ensures refused { IfErr result (λ refusal. IsCause (node_refusal self.old name) refusal) }
+        ensures refused { IfErr result (λ refusal. IsAddCause (node_refusal self.old name) refusal) }
         ensures unchanged { OnErr result (self.new ≡ self.old) }
     {
         if self.nodes.contains(&name) {
@@ -114,7 +114,7 @@ impl Network {
         ensures number { IfOk result (λ number. number ≡ length self.old.segments) }
         ensures added { OnOk result (self.new ≡ with_segment self.old (new_segment name from to feet)) }
         ensures taken { OnOk result (segment_refusal self.old name from to feet ≡ None) }
-        ensures refused { IfErr result (IsCause (segment_refusal self.old name from to feet)) }
+        ensures refused { IfErr result (IsAddCause (segment_refusal self.old name from to feet)) }
         ensures unchanged { OnErr result (self.new ≡ self.old) }
     {
         if self.segment_names.contains(&name) {
@@ -164,7 +164,7 @@ impl Network {
         ensures number { IfOk result (λ number. number ≡ length self.old.spans) }
         ensures added { OnOk result (self.new ≡ with_span self.old (new_span name segment inches rating)) }
         ensures taken { OnOk result (span_refusal self.old name segment inches rating ≡ None) }
-        ensures refused { IfErr result (IsCause (span_refusal self.old name segment inches rating)) }
+        ensures refused { IfErr result (IsAddCause (span_refusal self.old name segment inches rating)) }
         ensures unchanged { OnErr result (self.new ≡ self.old) }
     {
         if self.span_names.contains(&name) {
@@ -202,7 +202,7 @@ impl Network {
     ///
     /// Refusals, in this order: `UnknownSegment`, `Range`.
     pub fn set_limit(&mut self, segment: u32, what: What, value: u32) -> Result<(), AddRefusal>
-        ensures set { OnOk result (self.new ≡ with_limit self.old segment what value) }
+        ensures set { OnOk result (self.new ≡ network_with_limit self.old segment what value) }
         ensures taken { OnOk result (limit_refusal self.old segment what value ≡ None) }
         ensures refused { IfErr result (λ refusal. limit_refusal self.old segment what value ≡ Some refusal) }
         ensures unchanged { OnErr result (self.new ≡ self.old) }

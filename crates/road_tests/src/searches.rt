@@ -1,5 +1,5 @@
 ghost use Rattle.std.specs.Prelude.{◌≡◌, ◌<◌, length};
-ghost use Rattle.route_search.specs.Founds.{IsFound};
+ghost use Rattle.route_search.specs.Founds.{IsFoundBetween};
 ghost use Rattle.route_search.specs.Heights.{AreHeights};
 ghost use Rattle.route_search.specs.Regions.{IsRegion};
 
@@ -127,7 +127,7 @@ fn has_potentials(
     found: &Found,
     line: &str,
 ) -> bool
-    requires { IsFound network.now passable.now ends.0 ends.1 found.now }
+    requires { IsFoundBetween network.now passable.now ends.0 ends.1 found.now }
 {
     match found {
         Found::Route { potential, .. } => are_potentials(network, potential, part(line, '/', 5)),

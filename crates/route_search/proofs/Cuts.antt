@@ -9,7 +9,7 @@ use Rattle.route_search.specs.declared.found.Found.TheVariants.{Cut, NoRoad, Rou
 use Rattle.route_search.specs.Walks.{AreReached, IsAmong, IsWalk, every, flagged}
 use Rattle.route_search.specs.declared.shortest.Shortest.{Shortest}
 use Rattle.route_search.specs.declared.shortest.Shortest.TheVariants as shortest
-use Rattle.route_search.specs.Founds.{IsFound, IsInRange, IsShortest, IsShortestInRange}
+use Rattle.route_search.specs.Founds.{IsFoundBetween, IsFoundInRange, IsShortest, IsShortestInRange}
 use Rattle.route_search.specs.Laws.{Leaves}
 use Rattle.route_search.proofs.Reaches.{reach_more}
 
@@ -50,7 +50,7 @@ end_within : (roads : Roads) (may : ℕ → Bool) (a b : ℕ) (path : List ℕ) 
 end_within roads may a b [] ok there walk = subst (λ (n : ℕ). n < length roads.nodes) walk there
 end_within roads may a b (i ∷ path) ok there walk = let (s, at, may1, from, rest) = walk in end_within roads may s.to b path ok (ok.each i s at).to rest
 
-pub in_range : (roads : Roads) (passable : List Bool) (a b : ℕ) (found : Found) → IsRoads roads → a < length roads.nodes → IsFound roads passable a b found → IsInRange roads found
+pub in_range : (roads : Roads) (passable : List Bool) (a b : ℕ) (found : Found) → IsRoads roads → a < length roads.nodes → IsFoundBetween roads passable a b found → IsFoundInRange roads found
 in_range roads passable a b (Route segments feet potential) ok there h = λ k i at. walk_within roads.segments (flagged passable) a b segments k i h.route.walk at
 in_range roads passable a b (Cut reached) ok there h = λ k v at. let (path, walk) = h.nodes.sound k v at in end_within roads (flagged passable) a v path ok there walk
 in_range roads passable a b (NoRoad reached) ok there h = λ k v at. let (path, walk) = h.nodes.sound k v at in end_within roads every a v path ok there walk

@@ -5,7 +5,7 @@ use Rattle.std.proofs.lemmas.Bool.{cases_lt}
 use Rattle.road_graph.specs.declared.segment.Segment.{Segment}
 use Rattle.road_graph.specs.Roads.{IsRoads, Roads}
 use Rattle.route_search.specs.Walks.{AreNear, ArePotentials, IsLeastLength, IsNotAfter, IsRoute, IsWalk, feet_at, feet_of}
-use Rattle.route_search.specs.Following.{IsFirstTight, IsTight}
+use Rattle.route_search.specs.Following.{IsFirstTight, IsTightSegment}
 use Rattle.route_search.proofs.Joined.{feet_join, feet_on, walk_join, walk_on}
 use Rattle.route_search.proofs.Routes.{known_at}
 
@@ -34,7 +34,7 @@ module _ (roads : Roads) (may : ℕ → Bool) (start goal : ℕ) (ps : List (Opt
 
   -- the first segment of a walk of least length is tight
   tight_first : (v left j : ℕ) (path : List ℕ) → IsOn roads.segments may start goal ps v left → IsWalk roads.segments may v goal (j ∷ path) → feet_of roads.segments (j ∷ path) ≡ left
-      → (s : Segment) × (slice_get roads.segments j ≡ Some s) × IsWalk roads.segments may s.to goal path × (s.feet + feet_of roads.segments path ≡ left) × IsTight roads.segments may ps v left j
+      → (s : Segment) × (slice_get roads.segments j ≡ Some s) × IsWalk roads.segments may s.to goal path × (s.feet + feet_of roads.segments path ≡ left) × IsTightSegment roads.segments may ps v left j
   tight_first v left j path on walk long =
       let (s, here, may1, from, rest) = walk in
       let told : feet_at (slice_get roads.segments j) ≡ s.feet = ap feet_at here in
@@ -46,15 +46,15 @@ module _ (roads : Roads) (may : ℕ → Bool) (start goal : ℕ) (ps : List (Opt
       (s, here, rest, omega (arith, told, long), (s, here, may1, from, omega (arith, told, long), there ∙ ap (λ (n : ℕ). Some (Some n)) is))
 
   -- a node with something left has a tight segment
-  pub tight_some : (v left : ℕ) → IsOn roads.segments may start goal ps v left → 0 < left → (j : ℕ) × IsTight roads.segments may ps v left j
+  pub tight_some : (v left : ℕ) → IsOn roads.segments may start goal ps v left → 0 < left → (j : ℕ) × IsTightSegment roads.segments may ps v left j
   tight_some v left on some = let (path, walk, long) = (least_on v left on).reached in either path walk long
     where
-      either : (path : List ℕ) → IsWalk roads.segments may v goal path → feet_of roads.segments path ≡ left → (j : ℕ) × IsTight roads.segments may ps v left j
+      either : (path : List ℕ) → IsWalk roads.segments may v goal path → feet_of roads.segments path ≡ left → (j : ℕ) × IsTightSegment roads.segments may ps v left j
       either [] walk long = absurd (omega (arith, long, some))
       either (j ∷ path) walk long = let (s, here, rest, sum, tight) = tight_first v left j path on walk long in (j, tight)
 
   -- a tight segment leads on such a walk
-  pub on_more : (v left i : ℕ) (s : Segment) → IsOn roads.segments may start goal ps v left → IsTight roads.segments may ps v left i → slice_get roads.segments i ≡ Some s → IsOn roads.segments may start goal ps s.to (left - s.feet)
+  pub on_more : (v left i : ℕ) (s : Segment) → IsOn roads.segments may start goal ps v left → IsTightSegment roads.segments may ps v left i → slice_get roads.segments i ≡ Some s → IsOn roads.segments may start goal ps s.to (left - s.feet)
   on_more v left i s on tight here =
       let (t, there, may1, from, few, next) = tight in
       let same : t ≡ s = segment_is t s (sym there ∙ here) in

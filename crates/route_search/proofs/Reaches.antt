@@ -13,7 +13,7 @@ use Rattle.route_search.specs.declared.reach.Step.{Step}
 use Rattle.route_search.specs.declared.walks.Way.{Way}
 use Rattle.route_search.specs.declared.walks.Way.TheVariants.{Back, Forth}
 use Rattle.route_search.specs.Walks.{CanReach, IsAmong, IsWalk}
-use Rattle.route_search.specs.Reaching.{AreMarked, IsMarked, IsMarkedToo, IsReaching, IsSpread, IsSpreading, IsStep, Leads, begin_of, end_of, entered_at, to_do}
+use Rattle.route_search.specs.Reaching.{AreMarked, IsMarked, IsMarkedToo, IsReaching, IsSpread, IsSpreading, IsStepAmong, Leads, begin_by, end_of, entered_at, to_do}
 
 pub segment_is : (s t : Segment) → Some s ≡ Some t → s ≡ t
 segment_is s t e = cc
@@ -32,7 +32,7 @@ pub reach_more : (segments : List Segment) (may : ℕ → Bool) (a b i : ℕ) (s
 reach_more segments may a b i s (path, walk) at may1 from = (path ++ i ∷ [], walk_end segments may a b path i s walk at may1 from)
 
 -- a node more, by a segment from one that is reached
-leads_more : (way : Way) (segments : List Segment) (may : ℕ → Bool) (root b i : ℕ) (s : Segment) → Leads way segments may root b → slice_get segments i ≡ Some s → may i ≡ true → begin_of way s ≡ b → Leads way segments may root (end_of way s)
+leads_more : (way : Way) (segments : List Segment) (may : ℕ → Bool) (root b i : ℕ) (s : Segment) → Leads way segments may root b → slice_get segments i ≡ Some s → may i ≡ true → begin_by way s ≡ b → Leads way segments may root (end_of way s)
 leads_more Forth segments may root b i s h at may1 begin = reach_more segments may root b i s h at may1 begin
 leads_more Back segments may root b i s (path, walk) at may1 begin = (i ∷ path, (s, at, may1, refl, subst (λ (v : ℕ). IsWalk segments may v root path) (sym begin) walk))
 
@@ -58,7 +58,7 @@ module _ (roads : Roads) (may : ℕ → Bool) (marked : List Bool) where
 
 -- the segment at a place among those that begin at a node, and of those that end there
 pub step_forth : (segments : List Segment) (node k : ℕ) (list : List ℕ) (s : Segment) → list ≡ outgoing_of segments node → IsOutgoing segments node list → k < length (entered_at Forth segments node) → slice_get segments (get_or list k 0) ≡ Some s
-    → IsStep Forth segments node k (record { segment = get_or list k 0; to = s.to })
+    → IsStepAmong Forth segments node k (record { segment = get_or list k 0; to = s.to })
 step_forth segments node k list s value all within here =
     let i : ℕ = get_or list k 0 in
     let at = slice_get-get_or list k 0 (omega (arith, within, ap length value)) in
@@ -72,7 +72,7 @@ step_forth segments node k list s value all within here =
     }
 
 pub step_back : (segments : List Segment) (node k : ℕ) (list : List Arrival) (none : Arrival) → list ≡ incoming_of segments node → IsIncoming segments node list → k < length (entered_at Back segments node)
-    → IsStep Back segments node k (record { segment = (get_or list k none).segment; to = (get_or list k none).from })
+    → IsStepAmong Back segments node k (record { segment = (get_or list k none).segment; to = (get_or list k none).from })
 step_back segments node k list none value all within =
     let a : Arrival = get_or list k none in
     let many : length (map (λ (x : Arrival). x.segment) (incoming_of segments node)) ≡ length (incoming_of segments node) = length-map (incoming_of segments node) (λ (x : Arrival). x.segment) in
@@ -87,7 +87,7 @@ step_back segments node k list none value all within =
     }
 
 -- it is there, and with it one more is tried
-pub step_within : (way : Way) (roads : Roads) (node k : ℕ) (step : Step) → IsRoads roads → IsStep way roads.segments node k step → step.to < length roads.nodes
+pub step_within : (way : Way) (roads : Roads) (node k : ℕ) (step : Step) → IsRoads roads → IsStepAmong way roads.segments node k step → step.to < length roads.nodes
 step_within Forth roads node k step ok is = subst (λ (v : ℕ). v < length roads.nodes) is.end (ok.each step.segment is.segment is.at).to
 step_within Back roads node k step ok is = subst (λ (v : ℕ). v < length roads.nodes) is.end (ok.each step.segment is.segment is.at).from
 
@@ -147,7 +147,7 @@ module _ (way : Way) (roads : Roads) (may : ℕ → Bool) (from : ℕ) (ok : IsR
       ];
     }
 
-    pub spreading_more : (now : List Bool) (queue : List ℕ) (s : Segment) → slice_get roads.segments i ≡ Some s → may i ≡ true → begin_of way s ≡ node → IsMarkedToo marked waiting now queue (end_of way s) → IsSpreading way roads may from now queue node (tried ++ i ∷ [])
+    pub spreading_more : (now : List Bool) (queue : List ℕ) (s : Segment) → slice_get roads.segments i ≡ Some s → may i ≡ true → begin_by way s ≡ node → IsMarkedToo marked waiting now queue (end_of way s) → IsSpreading way roads may from now queue node (tried ++ i ∷ [])
     spreading_more now queue s there may1 begin w =
         let r = h.reaching in
         record {
@@ -180,7 +180,7 @@ module _ (way : Way) (roads : Roads) (may : ℕ → Bool) (from : ℕ) (ok : IsR
           ];
         }
 
-  pub spread_done : (marked : List Bool) (waiting : List ℕ) (node : ℕ) (numbers : List ℕ) → ((i : ℕ) (s : Segment) → slice_get roads.segments i ≡ Some s → begin_of way s ≡ node → IsAmong numbers i) → IsSpreading way roads may from marked waiting node numbers → IsReaching way roads may from marked waiting
+  pub spread_done : (marked : List Bool) (waiting : List ℕ) (node : ℕ) (numbers : List ℕ) → ((i : ℕ) (s : Segment) → slice_get roads.segments i ≡ Some s → begin_by way s ≡ node → IsAmong numbers i) → IsSpreading way roads may from marked waiting node numbers → IsReaching way roads may from marked waiting
   spread_done marked waiting node numbers all h = record {
     many = h.reaching.many;
     start = h.reaching.start;

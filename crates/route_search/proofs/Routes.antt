@@ -6,7 +6,7 @@ use Rattle.road_graph.specs.declared.segment.Segment.{Segment}
 use Rattle.road_graph.specs.Roads.{IsOutgoing, IsRoads, Roads}
 use Rattle.road_graph.proofs.Places.{get_some, get_within}
 use Rattle.route_search.specs.Walks.{ArePotentials, IsLeastLength, IsPotential, IsWalk, feet_at, feet_of}
-use Rattle.route_search.specs.Following.{IsFirstTight, IsTight}
+use Rattle.route_search.specs.Following.{IsFirstTight, IsTightSegment}
 
 some_is : (p q : Option ℕ) → Some p ≡ Some q → p ≡ q
 some_is p q e = cc
@@ -33,7 +33,7 @@ module _ (roads : Roads) (may : ℕ → Bool) (goal : ℕ) (ps : List (Option �
 
   -- the first segment of a walk of least length is tight
   pub tight_first : (v left j : ℕ) (path : List ℕ) → slice_get ps v ≡ Some (Some left) → IsWalk roads.segments may v goal (j ∷ path) → feet_of roads.segments (j ∷ path) ≡ left
-      → (s : Segment) × (slice_get roads.segments j ≡ Some s) × IsWalk roads.segments may s.to goal path × (s.feet + feet_of roads.segments path ≡ left) × IsTight roads.segments may ps v left j
+      → (s : Segment) × (slice_get roads.segments j ≡ Some s) × IsWalk roads.segments may s.to goal path × (s.feet + feet_of roads.segments path ≡ left) × IsTightSegment roads.segments may ps v left j
   tight_first v left j path at walk long =
       let (s, here, may1, from, rest) = walk in
       let told : feet_at (slice_get roads.segments j) ≡ s.feet = ap feet_at here in
@@ -46,7 +46,7 @@ module _ (roads : Roads) (may : ℕ → Bool) (goal : ℕ) (ps : List (Option �
 
 -- the first one that is tight in a rising list of the segments from a node
 module _ (segments : List Segment) (may : ℕ → Bool) (ps : List (Option ℕ)) (node left : ℕ) (numbers : List ℕ) (all : IsOutgoing segments node numbers) where
-  pub first_of : (k i : ℕ) → slice_get numbers k ≡ Some i → ((j m : ℕ) → j < k → slice_get numbers j ≡ Some m → IsTight segments may ps node left m → ⊥) → IsTight segments may ps node left i → IsFirstTight segments may ps node left i
+  pub first_of : (k i : ℕ) → slice_get numbers k ≡ Some i → ((j m : ℕ) → j < k → slice_get numbers j ≡ Some m → IsTightSegment segments may ps node left m → ⊥) → IsTightSegment segments may ps node left i → IsFirstTight segments may ps node left i
   first_of k i at below tight = record {
     tight = tight;
     first = λ j other.
@@ -63,7 +63,7 @@ module _ (segments : List Segment) (may : ℕ → Bool) (ps : List (Option ℕ))
         ];
   }
 
-  pub none_of : ((j m : ℕ) → j < length numbers → slice_get numbers j ≡ Some m → IsTight segments may ps node left m → ⊥) → (i : ℕ) → IsTight segments may ps node left i → ⊥
+  pub none_of : ((j m : ℕ) → j < length numbers → slice_get numbers j ≡ Some m → IsTightSegment segments may ps node left m → ⊥) → (i : ℕ) → IsTightSegment segments may ps node left i → ⊥
   none_of below i tight =
       let (s, here, may1, from, few, rest) = tight in
       let (m, place) = all.complete i s here from in

@@ -10,7 +10,7 @@ use Rattle.road_graph.proofs.Places.{get-push_cases, get-set_other, get-set_same
 use Rattle.road_graph.specs.declared.segment.Arrival.{Arrival}
 use Rattle.route_search.specs.declared.waiting.Waiting.{Waiting}
 use Rattle.route_search.specs.Walks.{AreNear, ArePotentials, IsPotential, IsWalk, every, feet_at, feet_of, flagged}
-use Rattle.route_search.specs.Settling.{AreAskedFrom, IsBelow, IsIn, IsKept, IsMet, IsOut, IsPushed, IsRelaxing, IsSearching, IsSettled, IsShortened, IsTried, all_weight, beyond, known, one_if_known, weight_of}
+use Rattle.route_search.specs.Settling.{AreAskedFrom, IsBelow, IsIn, IsKept, IsMet, IsOut, IsPushed, IsRelaxing, IsSearching, IsNodeSettled, IsShortened, IsTried, all_weight, beyond, known, one_if_known, weight_of}
 use Rattle.route_search.proofs.Joined.{feet_join, feet_on, walk_join, walk_on}
 use Rattle.route_search.proofs.Outcomes.{to_every}
 use Rattle.route_search.proofs.Weights.{all_weight-set, known-least, known-set}
@@ -44,7 +44,7 @@ module _ (ps : List (Option ℕ)) (u d : ℕ) (within : u < length ps) where
   still_met less segments start v m (inl b) = inl (still_below less v m b)
   still_met less segments start v m (inr out) = inr (still_out less segments start v m out)
 
-  pub still_settled : d < weight_of (get_or ps u None) → (segments : List Segment) (may : ℕ → Bool) (start : Option ℕ) (v e : ℕ) → IsSettled segments may start ps v e → IsSettled segments may start (set ps u (Some d)) v e
+  pub still_settled : d < weight_of (get_or ps u None) → (segments : List Segment) (may : ℕ → Bool) (start : Option ℕ) (v e : ℕ) → IsNodeSettled segments may start ps v e → IsNodeSettled segments may start (set ps u (Some d)) v e
   still_settled less segments may start v e h i s at may1 to = still_met less segments start s.from (e + s.feet) (h i s at may1 to)
 
 -- what is out at the end of a segment is out at its beginning
@@ -259,7 +259,7 @@ within_met segments (Some a) ps v m n less w (inr (b, known, far)) =
     absurd (omega (arith, k, low, less))
 
 module _ (roads : Roads) (may : ℕ → Bool) (start : Option ℕ) (goal : ℕ) (ok : IsRoads roads) (ps : List (Option ℕ)) (h : IsSearching roads may start goal ps []) where
-  settled : (v d : ℕ) → slice_get ps v ≡ Some (Some d) → IsSettled roads.segments may start ps v d
+  settled : (v d : ℕ) → slice_get ps v ≡ Some (Some d) → IsNodeSettled roads.segments may start ps v d
   settled v d at = elim (h.waits v d at) [
     | inl in_queue ↦ (let (k, low, is) = in_queue in absurd (omega (arith, low)))
     | inr done ↦ done

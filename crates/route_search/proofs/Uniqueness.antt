@@ -8,7 +8,7 @@ use Rattle.route_search.specs.declared.found.Found.TheVariants.{Cut, NoRoad, Rou
 use Rattle.route_search.specs.Walks.{ArePotentials, AreReached, IsNotAfter, IsPotential, IsRoute, IsWalk, every, feet_at, feet_of, flagged}
 use Rattle.route_search.specs.declared.shortest.Shortest.{Shortest}
 use Rattle.route_search.specs.declared.shortest.Shortest.TheVariants as shortest
-use Rattle.route_search.specs.Founds.{IsFound, IsShortest}
+use Rattle.route_search.specs.Founds.{IsFoundBetween, IsShortest}
 use Rattle.route_search.proofs.Outcomes.{to_every}
 use Rattle.route_search.proofs.Routes.{known_at}
 
@@ -109,7 +109,7 @@ potentials_unique segments may nodes goal ps qs h k =
     same_entries ps qs (h.many ∙ sym k.many) (λ i p q at to. potential_unique segments may i goal p q (h.each i p at) (k.each i q to))
 
 -- what is found follows from what is asked
-pub finding_unique : (roads : Roads) (passable : List Bool) (a b : ℕ) (f g : Found) → IsFound roads passable a b f → IsFound roads passable a b g → f ≡ g
+pub finding_unique : (roads : Roads) (passable : List Bool) (a b : ℕ) (f g : Found) → IsFoundBetween roads passable a b f → IsFoundBetween roads passable a b g → f ≡ g
 finding_unique roads passable a b (Route xs d ps) (Route ys e qs) h k =
     let route : xs ≡ ys = route_unique roads.segments (flagged passable) a b xs ys h.route k.route in
     let feet : d ≡ e = sym h.feet_is ∙ ap (feet_of roads.segments) route ∙ k.feet_is in

@@ -5,9 +5,9 @@ use Rattle.std.specs.declared.collections.VecDeque.{VecDeque}
 use Rattle.route_search.specs.declared.waiting.Waiting.{Waiting}
 
 -- the waiting nodes of all rows, row after row
-abbrev pub all_of : List (VecDeque Waiting Global) → List Waiting
-all_of [] = []
-all_of (b ∷ rest) = b.items ++ all_of rest
+abbrev pub all_waiting : List (VecDeque Waiting Global) → List Waiting
+all_waiting [] = []
+all_waiting (b ∷ rest) = b.items ++ all_waiting rest
 
 -- the row at i holds something
 abbrev pub IsFilled : List (VecDeque Waiting Global) → ℕ → Type 0

@@ -39,10 +39,10 @@ pub record IsNoRoadFound (roads : Roads) (a b : ℕ) (reached : List ℕ) : Type
   pub nodes : AreReached roads.segments every a reached
 
 -- what is found from a to b
-abbrev pub IsFound : Roads → List Bool → ℕ → ℕ → Found → Type 0
-IsFound roads passable a b (Route segments feet potential) = IsRouteFound roads passable a b segments feet potential
-IsFound roads passable a b (Cut reached) = IsCutFound roads passable a b reached
-IsFound roads passable a b (NoRoad reached) = IsNoRoadFound roads a b reached
+abbrev pub IsFoundBetween : Roads → List Bool → ℕ → ℕ → Found → Type 0
+IsFoundBetween roads passable a b (Route segments feet potential) = IsRouteFound roads passable a b segments feet potential
+IsFoundBetween roads passable a b (Cut reached) = IsCutFound roads passable a b reached
+IsFoundBetween roads passable a b (NoRoad reached) = IsNoRoadFound roads a b reached
 
 -- the same without the potentials
 abbrev pub IsShortest : Roads → List Bool → ℕ → ℕ → Shortest → Type 0
@@ -56,10 +56,10 @@ IsRouteOrNone roads passable a b None = CanReach roads.segments (flagged passabl
 IsRouteOrNone roads passable a b (Some found) = IsShortest roads passable a b found
 
 -- the segments of a route, and the nodes that are reached, are there
-abbrev pub IsInRange : Roads → Found → Type 0
-IsInRange roads (Route segments feet potential) = (k i : ℕ) → slice_get segments k ≡ Some i → i < length roads.segments
-IsInRange roads (Cut reached) = (k v : ℕ) → slice_get reached k ≡ Some v → v < length roads.nodes
-IsInRange roads (NoRoad reached) = (k v : ℕ) → slice_get reached k ≡ Some v → v < length roads.nodes
+abbrev pub IsFoundInRange : Roads → Found → Type 0
+IsFoundInRange roads (Route segments feet potential) = (k i : ℕ) → slice_get segments k ≡ Some i → i < length roads.segments
+IsFoundInRange roads (Cut reached) = (k v : ℕ) → slice_get reached k ≡ Some v → v < length roads.nodes
+IsFoundInRange roads (NoRoad reached) = (k v : ℕ) → slice_get reached k ≡ Some v → v < length roads.nodes
 
 -- the same of what is found without the potentials
 abbrev pub IsShortestInRange : Roads → Shortest → Type 0

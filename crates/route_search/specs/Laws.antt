@@ -5,7 +5,7 @@ use Rattle.road_graph.specs.Roads.{IsRoads, Roads}
 use Rattle.route_search.specs.declared.found.Found.{Found}
 use Rattle.route_search.specs.Walks.{ArePotentials, AreReached, IsAmong, IsRoute, IsWalk}
 use Rattle.route_search.specs.declared.shortest.Shortest.{Shortest}
-use Rattle.route_search.specs.Founds.{IsFound, IsInRange, IsShortest, IsShortestInRange}
+use Rattle.route_search.specs.Founds.{IsFoundBetween, IsFoundInRange, IsShortest, IsShortestInRange}
 
 -- potentials certify that no walk is shorter: where a segment may be passed and its end has a potential, its start has one,
 -- at most the segment's feet more
@@ -34,7 +34,7 @@ OneReached =
 -- what is found follows from the network, the flags and the two nodes
 abbrev pub OneFinding : Type 0
 OneFinding =
-    (roads : Roads) (passable : List Bool) (a b : ℕ) (f g : Found) → IsFound roads passable a b f → IsFound roads passable a b g → f ≡ g
+    (roads : Roads) (passable : List Bool) (a b : ℕ) (f g : Found) → IsFoundBetween roads passable a b f → IsFoundBetween roads passable a b g → f ≡ g
 
 -- the same of what is found without the potentials
 abbrev pub OneShortest : Type 0
@@ -44,8 +44,8 @@ OneShortest =
 -- what is found is in range
 abbrev pub FindingsAreInRange : Type 0
 FindingsAreInRange =
-    (roads : Roads) (passable : List Bool) (a b : ℕ) (found : Found) → IsRoads roads → a < length roads.nodes → IsFound roads passable a b found
-    → IsInRange roads found
+    (roads : Roads) (passable : List Bool) (a b : ℕ) (found : Found) → IsRoads roads → a < length roads.nodes → IsFoundBetween roads passable a b found
+    → IsFoundInRange roads found
 
 -- what is found without the potentials is in range
 abbrev pub ShortestAreInRange : Type 0

@@ -9,9 +9,9 @@ use Rattle.route_search.specs.declared.walks.Way.TheVariants.{Back, Forth}
 use Rattle.route_search.specs.Walks.{CanReach, IsAmong, flagged}
 
 -- where a segment is entered that is taken in a direction
-abbrev pub begin_of : Way → Segment → ℕ
-begin_of Forth s = s.from
-begin_of Back s = s.to
+abbrev pub begin_by : Way → Segment → ℕ
+begin_by Forth s = s.from
+begin_by Back s = s.to
 
 -- where it is left
 abbrev pub end_of : Way → Segment → ℕ
@@ -25,14 +25,14 @@ entered_at Back segments node = map (λ a. a.segment) (incoming_of segments node
 
 -- these are all of them
 abbrev pub IsWhole : Way → List Segment → ℕ → Type 0
-IsWhole way segments node = (i : ℕ) (s : Segment) → slice_get segments i ≡ Some s → begin_of way s ≡ node → IsAmong (entered_at way segments node) i
+IsWhole way segments node = (i : ℕ) (s : Segment) → slice_get segments i ≡ Some s → begin_by way s ≡ node → IsAmong (entered_at way segments node) i
 
 -- the segment at a place among them, and where it is left
-pub record IsStep (way : Way) (segments : List Segment) (node k : ℕ) (step : Step) : Type 0 where
+pub record IsStepAmong (way : Way) (segments : List Segment) (node k : ℕ) (step : Step) : Type 0 where
   pub place : slice_get (entered_at way segments node) k ≡ Some step.segment
   pub segment : Segment
   pub at : slice_get segments step.segment ≡ Some segment
-  pub begin : begin_of way segment ≡ node
+  pub begin : begin_by way segment ≡ node
   pub end : end_of way segment ≡ step.to
 
 -- some walk leads from the root to a node, or, against the direction, from the node to the root
@@ -66,7 +66,7 @@ IsMarkedToo marked waiting now queue node =
 
 -- the segments from v, or against the direction those into v, lead to marked nodes
 abbrev pub IsSpread : Way → Roads → (ℕ → Bool) → List Bool → ℕ → Type 0
-IsSpread way roads may marked v = (i : ℕ) (s : Segment) → slice_get roads.segments i ≡ Some s → may i ≡ true → begin_of way s ≡ v → IsMarked marked (end_of way s)
+IsSpread way roads may marked v = (i : ℕ) (s : Segment) → slice_get roads.segments i ≡ Some s → may i ≡ true → begin_by way s ≡ v → IsMarked marked (end_of way s)
 
 -- the marked nodes are reached, the start among them, and each of them, but those of `but`, waits or has been spread from
 pub record IsReachingBut (way : Way) (roads : Roads) (may : ℕ → Bool) (root : ℕ) (marked : List Bool) (waiting : List ℕ) (but : ℕ → Type 0) : Type 0 where

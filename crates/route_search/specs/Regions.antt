@@ -35,8 +35,8 @@ abbrev pub is_cut_off : Region → ℕ → ℕ → Bool
 is_cut_off region a b = slice_index_or region.passable.marks.items a false && (slice_index_or region.leading_in.items a false && not (slice_index_or region.passable.marks.items b false))
 
 -- what is told of a trip is what is found for it
-abbrev pub IsTold : Roads → List Bool → ℕ → ℕ → Option Shortest → Type 0
-IsTold roads passable a b told = IfSome told (IsShortest roads passable a b)
+abbrev pub IsToldOfTrip : Roads → List Bool → ℕ → ℕ → Option Shortest → Type 0
+IsToldOfTrip roads passable a b told = IfSome told (IsShortest roads passable a b)
 
 -- nothing is told only where the trip is not cut off
 abbrev pub IsToldAll : Roads → List Bool → ℕ → ℕ → ℕ → Option Shortest → Type 0

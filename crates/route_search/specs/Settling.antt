@@ -41,9 +41,9 @@ pub record IsBelow (potentials : List (Option ℕ)) (u most : ℕ) : Type 0 wher
   pub below : value ≤ most
 
 -- a length is more than a known one
-abbrev pub IsMore : ℕ → Option ℕ → Type 0
-IsMore feet None = ⊥
-IsMore feet (Some least) = least < feet
+abbrev pub IsLonger : ℕ → Option ℕ → Type 0
+IsLonger feet None = ⊥
+IsLonger feet (Some least) = least < feet
 
 -- where one start alone is asked for: each walk from it by u and on for so many feet is longer than one that is known
 abbrev pub IsOut : List Segment → Option ℕ → List (Option ℕ) → ℕ → ℕ → Type 0
@@ -56,8 +56,8 @@ abbrev pub IsMet : List Segment → Option ℕ → List (Option ℕ) → ℕ →
 IsMet segments start potentials u feet = IsBelow potentials u feet ⊎ IsOut segments start potentials u feet
 
 -- the segments into v lead to no shorter way than d by v that is asked for
-abbrev pub IsSettled : List Segment → (ℕ → Bool) → Option ℕ → List (Option ℕ) → ℕ → ℕ → Type 0
-IsSettled segments may start potentials v d =
+abbrev pub IsNodeSettled : List Segment → (ℕ → Bool) → Option ℕ → List (Option ℕ) → ℕ → ℕ → Type 0
+IsNodeSettled segments may start potentials v d =
     (i : ℕ) (s : Segment) → slice_get segments i ≡ Some s → may i ≡ true → s.to ≡ v → IsMet segments start potentials s.from (d + s.feet)
 
 -- what every try keeps: the goal has 0, each potential is the length of some walk and is bounded, and the nodes that wait are
@@ -73,14 +73,14 @@ pub record IsKept (roads : Roads) (may : ℕ → Bool) (goal : ℕ) (potentials 
 -- shorter than the potentials say
 pub record IsSearching (roads : Roads) (may : ℕ → Bool) (start : Option ℕ) (goal : ℕ) (potentials : List (Option ℕ)) (queue : List Waiting) : Type 0 where
   pub kept : IsKept roads may goal potentials queue
-  pub waits : (v d : ℕ) → slice_get potentials v ≡ Some (Some d) → IsIn (record { length = d; node = v }) queue ⊎ IsSettled roads.segments may start potentials v d
+  pub waits : (v d : ℕ) → slice_get potentials v ≡ Some (Some d) → IsIn (record { length = d; node = v }) queue ⊎ IsNodeSettled roads.segments may start potentials v d
 
 -- the same but for v, of which these arrivals are settled
 pub record IsRelaxing (roads : Roads) (may : ℕ → Bool) (start : Option ℕ) (goal : ℕ) (potentials : List (Option ℕ)) (queue : List Waiting) (v d : ℕ) (tried : List Arrival) : Type 0 where
   pub kept : IsKept roads may goal potentials queue
   pub here : slice_get potentials v ≡ Some (Some d)
   pub settled : (j : ℕ) (a : Arrival) → slice_get tried j ≡ Some a → may a.segment ≡ true → IsMet roads.segments start potentials a.from (d + a.feet)
-  pub waits : (u e : ℕ) → slice_get potentials u ≡ Some (Some e) → (u ≡ v) ⊎ (IsIn (record { length = e; node = u }) queue ⊎ IsSettled roads.segments may start potentials u e)
+  pub waits : (u e : ℕ) → slice_get potentials u ≡ Some (Some e) → (u ≡ v) ⊎ (IsIn (record { length = e; node = u }) queue ⊎ IsNodeSettled roads.segments may start potentials u e)
 
 -- the search for what is asked goes on with these potentials and this queue
 abbrev pub IsSearchingFor : Query → List (Option ℕ) → List Waiting → Type 0

@@ -3,7 +3,7 @@
 ghost use Rattle.std.specs.Prelude.{◌≡◌, ◌<◌, ℕ, Bool, List, length, IfOk};
 ghost use Rattle.road_graph.specs.Roads.{Roads};
 ghost use Rattle.route_search.specs.Founds.{IsShortest};
-ghost use Rattle.route_search.specs.Regions.{AreReachedFrom, IsCutOff, IsRegion, IsTold, IsToldAll, is_cut_off};
+ghost use Rattle.route_search.specs.Regions.{AreReachedFrom, IsCutOff, IsRegion, IsToldOfTrip, IsToldAll, is_cut_off};
 ghost use Rattle.route_search.specs.Walks.{flagged};
 
 use crate::passable::Passable;
@@ -47,7 +47,7 @@ impl Region {
         requires from { from < length self.now.leading_in.items }
         requires to { to < length self.now.leading_in.items }
         ensures told { (roads : Roads) (passable : List Bool) (root : ℕ) → IsRegion roads passable root self.now
-            → IfOk result (IsTold roads passable from to) }
+            → IfOk result (IsToldOfTrip roads passable from to) }
         ensures all { (roads : Roads) (passable : List Bool) (root : ℕ) → IsRegion roads passable root self.now
             → IfOk result (IsToldAll roads passable root from to) }
     {

@@ -2,7 +2,7 @@
 
 ghost use Rattle.std.specs.Prelude.{◌≡◌, ◌<◌, length, IfOk};
 ghost use Rattle.route_search.specs.Walks.{CanReach, flagged};
-ghost use Rattle.route_search.specs.Founds.{AreNearOver, ArePotentialsOver, IsFound, IsRouteOrNone, IsShortest};
+ghost use Rattle.route_search.specs.Founds.{AreNearOver, ArePotentialsOver, IsFoundBetween, IsRouteOrNone, IsShortest};
 ghost use Rattle.route_search.specs.Heights.{AreHeights};
 
 use crate::follow::follow;
@@ -37,7 +37,7 @@ pub fn search(
     requires flags { length passable.now ≡ length network.now.segments }
     requires from { from < length network.now.nodes }
     requires to { to < length network.now.nodes }
-    ensures { IfOk result (IsFound network.now passable.now from to) }
+    ensures { IfOk result (IsFoundBetween network.now passable.now from to) }
 {
     network.lists_are_in_order();
     let roads = Passable {
@@ -116,7 +116,7 @@ pub fn shortest_route_by(
 
 // The potentials first, and then what they show.
 fn find(alloc: Global, trip: &TripEnds) -> Result<Found, AllocError>
-    ensures { IfOk result (IsFound trip.now.roads.network.now trip.now.roads.flags.now trip.now.from trip.now.to) }
+    ensures { IfOk result (IsFoundBetween trip.now.roads.network.now trip.now.roads.flags.now trip.now.from trip.now.to) }
 {
     let list = settle_all(alloc, &trip.roads, trip.to)?;
     let route = route_shown(alloc, trip, &list)?;

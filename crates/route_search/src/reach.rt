@@ -2,7 +2,7 @@
 ghost use Rattle.std.specs.Prelude.{◌≡◌, ◌<◌, length, IfOk, OnOk};
 ghost use Rattle.route_search.specs.declared.walks.Way.TheVariants.{Forth};
 ghost use Rattle.route_search.specs.Walks.{AreReached, flagged};
-ghost use Rattle.route_search.specs.Reaching.{AreMarked, IsMarkedToo, IsNoMoreToMark, IsReachingOver, IsSpreadingOver, IsStep, IsWhole, entered_at};
+ghost use Rattle.route_search.specs.Reaching.{AreMarked, IsMarkedToo, IsNoMoreToMark, IsReachingOver, IsSpreadingOver, IsStepAmong, IsWhole, entered_at};
 
 use crate::walks::{Walks, Way};
 use road_graph::Network;
@@ -32,7 +32,7 @@ impl Way {
     fn step(self, network: &Network, node: u32, k: usize) -> Step
         requires node { node < length network.now.nodes }
         requires k { k < length (entered_at self network.now.segments node) }
-        ensures { IsStep self network.now.segments node k result }
+        ensures { IsStepAmong self network.now.segments node k result }
     {
         match self {
             Way::Forth => {

@@ -1,7 +1,7 @@
 // The least lengths to a goal.
 ghost use Rattle.std.specs.Prelude.{◌≡◌, ◌↔◌, ◌<◌, length, IfOk, IfNone, OnOk, IsTrue, true, replicate, Some, None};
 ghost use Rattle.route_search.specs.Founds.{ArePotentialsOver};
-ghost use Rattle.route_search.specs.Settling.{AreAsked, IsLeftOut, IsMore, IsNoMoreWork, IsRelaxingFor, IsSearchingFor, IsTriedFor, beyond, weight_of};
+ghost use Rattle.route_search.specs.Settling.{AreAsked, IsLeftOut, IsLonger, IsNoMoreWork, IsRelaxingFor, IsSearchingFor, IsTriedFor, beyond, weight_of};
 
 use crate::heights::Heights;
 use crate::passable::Passable;
@@ -28,7 +28,7 @@ pub(crate) fn is_known(known: Option<u64>, feet: u64) -> bool
 
 // Whether a length is more than a known one.
 fn is_longer(feet: u64, known: Option<u64>) -> bool
-    ensures { IsTrue result ↔ IsMore feet known }
+    ensures { IsTrue result ↔ IsLonger feet known }
 {
     match known {
         Some(least) => least < feet,

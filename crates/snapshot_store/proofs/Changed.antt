@@ -8,7 +8,7 @@ use Rattle.restriction_log.specs.States.{AgreeOn, state_of}
 use Rattle.restriction_log.specs.Stamps.{HasStamps}
 use Rattle.restriction_log.proofs.Elsewhere.{agree-since}
 use Rattle.restriction_log.proofs.Stamping.{stamp_above, stamp_below, stamps_more}
-use Rattle.snapshot_store.specs.Stores.{IsLater, Stored, state_now, version_of}
+use Rattle.snapshot_store.specs.Stores.{IsLater, Stored, state_now, store_version_of}
 
 pub changed_above : (s : Stored) (stamps : List ℕ) (i after : ℕ) → HasStamps s.roads s.postings stamps → i < length s.roads.segments
     → after < get_or stamps i 0 → is_touched s.roads i (drop after s.postings) ≡ true
@@ -23,10 +23,10 @@ pub stamps_posted : (s : Stored) (stamps : List ℕ) (c : Change) → touched s.
 stamps_posted s stamps c within is = stamps_more s.roads s.postings stamps c within is
 
 -- where no posting since names a segment, a store that has gone on agrees with what it was
-pub agree_kept : (before now : Stored) (i : ℕ) → IsLater before now → is_touched now.roads i (drop (version_of before) now.postings) ≡ false
+pub agree_kept : (before now : Stored) (i : ℕ) → IsLater before now → is_touched now.roads i (drop (store_version_of before) now.postings) ≡ false
     → AgreeOn now.roads i (state_now before) (state_now now)
 agree_kept before now i is none =
-    let n = version_of before in
+    let n = store_version_of before in
     let first : take n now.postings ≡ before.postings = ap (take n) is.postings ∙ take_at before.postings is.more n refl in
     let old : state_of now.roads (take n now.postings) ≡ state_now before =
     ap (state_of now.roads) first ∙ ap (λ (r : Roads). state_of r before.postings) is.roads in

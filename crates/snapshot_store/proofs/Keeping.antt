@@ -6,9 +6,9 @@ use Rattle.restriction_log.specs.Changes.{takes}
 use Rattle.restriction_log.specs.States.{AreOf, InForce, is_named, state_after}
 use Rattle.restriction_log.proofs.Standing.{named_of, state_is_of, stays_of}
 use Rattle.snapshot_store.specs.declared.store.Store.TheInside.{Inside}
-use Rattle.snapshot_store.specs.Stores.{IsKept, IsStore, Stored, stored_in}
+use Rattle.snapshot_store.specs.Stores.{IsStoreKept, IsStore, Stored, stored_in}
 
-pub kept_is_of : (s : Stored) (kept : InForce) (stamps : List ℕ) → IsKept s kept stamps → AreOf s.roads kept
+pub kept_is_of : (s : Stored) (kept : InForce) (stamps : List ℕ) → IsStoreKept s kept stamps → AreOf s.roads kept
 kept_is_of s kept stamps is = rw is.state (state_is_of s.roads s.postings is.roads is.taken)
 
 -- what is in force is of the network, and has what the network takes

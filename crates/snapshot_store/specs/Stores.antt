@@ -27,8 +27,8 @@ abbrev pub newly_stored : Roads → Stored
 newly_stored roads = record { roads = roads; postings = [] }
 
 -- the version is the number of the last posting
-abbrev pub version_of : Stored → ℕ
-version_of s = length s.postings
+abbrev pub store_version_of : Stored → ℕ
+store_version_of s = length s.postings
 
 -- what is in force
 abbrev pub state_now : Stored → InForce
@@ -41,7 +41,7 @@ with_change s change = record s { postings = s.postings ++ change ∷ [] }
 -- the network takes the change, there is a number left for it, and this is the state that it makes
 pub record IsNextOf (s : Stored) (next : NextState) : Type 0 where
   pub takes : takes s.roads next.change ≡ true
-  pub room : version_of s < 1000000
+  pub room : store_version_of s < 1000000
   pub state : next.state ≡ state_now (with_change s next.change)
 
 abbrev pub stored_in : Inside → Stored
@@ -49,15 +49,15 @@ stored_in s = record { roads = s.network.value; postings = s.log }
 
 -- the lists of the network are in order, it takes each posting, of which there are not too many, and the state and the stamps
 -- that are kept are those of the postings
-pub record IsKept (s : Stored) (kept : InForce) (stamped : List ℕ) : Type 0 where
+pub record IsStoreKept (s : Stored) (kept : InForce) (stamped : List ℕ) : Type 0 where
   pub roads : IsRoads s.roads
   pub taken : AreTaken s.roads s.postings
-  pub few : version_of s ≤ 1000000
+  pub few : store_version_of s ≤ 1000000
   pub state : kept ≡ state_now s
   pub stamps : HasStamps s.roads s.postings stamped
 
 abbrev pub IsStore : Inside → Type 0
-IsStore s = IsKept (stored_in s) (arc_value s.state) (arc_value s.stamps)
+IsStore s = IsStoreKept (stored_in s) (arc_value s.state) (arc_value s.stamps)
 
 -- the store has gone on: of the same network, with these postings and perhaps more behind them
 pub record IsLater (before now : Stored) : Type 0 where

@@ -35,11 +35,11 @@ impl Snapshot {
     ghost use Rattle.std.specs.Prelude.{◌≡◌, ◌<◌, ◌≤◌, length, drop, true, IfSome, IfNone};
     ghost use Rattle.restriction_log.specs.Changes.{is_touched};
     ghost use Rattle.restriction_log.specs.States.{AreOf};
-    ghost use Rattle.snapshot_store.specs.Stores.{AreKept, state_now, version_of};
+    ghost use Rattle.snapshot_store.specs.Stores.{AreKept, state_now, store_version_of};
 
     /// The number of the last posting before it was taken. Takes no memory.
     pub fn version(&self) -> u32
-        ensures count { result ≡ version_of self.now }
+        ensures count { result ≡ store_version_of self.now }
         ensures few { result ≤ 1000000 }
     {
         self.version

@@ -41,7 +41,7 @@ impl Store {
     ghost use Rattle.restriction_log.specs.Logs.{IsPostCause, post_refusal};
     ghost use Rattle.restriction_log.specs.Stamps.{HasStamps};
     ghost use Rattle.restriction_log.specs.States.{AreOf};
-    ghost use Rattle.snapshot_store.specs.Stores.{AreKept, IsNextOf, newly_stored, state_now, version_of, with_change};
+    ghost use Rattle.snapshot_store.specs.Stores.{AreKept, IsNextOf, newly_stored, state_now, store_version_of, with_change};
 
     /// A store of this network, on which nothing is posted yet.
     pub fn start(alloc: Global, network: &Network) -> Result<Store, NoMemory>
@@ -62,7 +62,7 @@ impl Store {
 
     /// The number of the last posting, 0 where there is none. Takes no memory.
     pub fn version(&self) -> u32
-        ensures count { result ≡ version_of self.now }
+        ensures count { result ≡ store_version_of self.now }
         ensures few { result ≤ 1000000 }
     {
         self.log.version()
@@ -166,7 +166,7 @@ impl Store {
     pub fn commit(&mut self, network: &Network, next: Next) -> Result<u32, NoMemory>
         requires network { network.now ≡ self.old.roads }
         requires next { IsNextOf self.old next }
-        ensures version { IfOk result (λ version. version ≡ version_of self.old + 1) }
+        ensures version { IfOk result (λ version. version ≡ store_version_of self.old + 1) }
         ensures posted { OnOk result (self.new ≡ with_change self.old next.change) }
         ensures unchanged { OnErr result (self.new ≡ self.old) }
     {
@@ -188,7 +188,7 @@ impl Store {
     /// `NoMemory`. After each the store is as it was.
     pub fn post(&mut self, network: &Network, change: Change) -> Result<u32, PostRefusal>
         requires { network.now ≡ self.old.roads }
-        ensures version { IfOk result (λ version. version ≡ version_of self.old + 1) }
+        ensures version { IfOk result (λ version. version ≡ store_version_of self.old + 1) }
         ensures posted { OnOk result (self.new ≡ with_change self.old change) }
         ensures allowed { OnOk result (post_refusal self.old.roads self.old.postings change ≡ None) }
         ensures refused { IfErr result (IsPostCause (post_refusal self.old.roads self.old.postings change)) }

@@ -20,7 +20,7 @@ use Rattle.fleet.specs.declared.failing.Failing.{Failing}
 use Rattle.fleet.specs.Bases.{BaseLists}
 use Rattle.trip_applications.specs.Applications.{IsAskedWalk, Sound}
 use Rattle.fleet.specs.Passing.{first_on, first_or, flags_of, is_passable, limit_for, needs_none}
-use Rattle.trip_analysis.specs.Findings.{HoldsIn, InRange, IsFinding, IsFoundBy, asked_finding, first_meeting, is_in, leaves, leaving, what_of}
+use Rattle.trip_analysis.specs.Findings.{HoldsIn, InRange, IsFinding, IsFoundBy, asked_finding, first_meeting, is_number_among, leaves, leaving, proposed_of}
 use Rattle.trip_applications.proofs.Joined.{one_joined, walks_there}
 use Rattle.fleet.proofs.Flagged.{flag_is}
 use Rattle.names.specs.declared.refusal.NoMemory.{NoMemory}
@@ -42,17 +42,17 @@ walk_meets base state truck a b (i ∷ path) walk =
     meets_first None i rest e = refl
 
 -- a number is in a list by a test where it stands at a place
-pub among_from_is_in : (v : ℕ) (numbers : List ℕ) → is_in v numbers ≡ true → IsAmong numbers v
+pub among_from_is_in : (v : ℕ) (numbers : List ℕ) → is_number_among v numbers ≡ true → IsAmong numbers v
 among_from_is_in v [] e = absurd (grind (arith, e))
 among_from_is_in v (n ∷ rest) e = more v n rest (n == v) refl e (among_from_is_in v rest)
   where
-    more : (v n : ℕ) (rest : List ℕ) (b : Bool) → (n == v) ≡ b → (b || is_in v rest) ≡ true → (is_in v rest ≡ true → IsAmong rest v) → IsAmong (n ∷ rest) v
+    more : (v n : ℕ) (rest : List ℕ) (b : Bool) → (n == v) ≡ b → (b || is_number_among v rest) ≡ true → (is_number_among v rest ≡ true → IsAmong rest v) → IsAmong (n ∷ rest) v
     more v n rest true is e h = let same : n ≡ v = eqb-true n v is in (0, ap (λ (k : ℕ). Some k) same)
     more v n rest false is e h = let (k, at) = h e in (suc k, at)
 
-pub is_in_from_among : (v : ℕ) (numbers : List ℕ) (k : ℕ) → slice_get numbers k ≡ Some v → is_in v numbers ≡ true
+pub is_in_from_among : (v : ℕ) (numbers : List ℕ) (k : ℕ) → slice_get numbers k ≡ Some v → is_number_among v numbers ≡ true
 is_in_from_among v [] k at = cc
-is_in_from_among v (n ∷ rest) zero at = let same : n ≡ v = cc in let is : (n == v) ≡ true = eq-eqb n v same in ap (λ b. b || is_in v rest) is
+is_in_from_among v (n ∷ rest) zero at = let same : n ≡ v = cc in let is : (n == v) ≡ true = eq-eqb n v same in ap (λ b. b || is_number_among v rest) is
 is_in_from_among v (n ∷ rest) (suc k) at = more (n == v) (is_in_from_among v rest k at)
   where
     more : (b : Bool) {c : Bool} → c ≡ true → (b || c) ≡ true
@@ -83,7 +83,7 @@ none_leaves base state truck from may nodes reached passes s within out =
       | inl pass ↦
           let here = segment_at base.roads.segments s in
           let at : slice_get base.roads.segments s ≡ Some here = slice_get-get_or base.roads.segments s no_segment within in
-          let (inside, outside) = both (is_in here.from nodes) (is_in here.to nodes) out in
+          let (inside, outside) = both (is_number_among here.from nodes) (is_number_among here.to nodes) out in
           let (k, place) = reached_closed base.roads.segments may from nodes reached s here at (passes s within pass) (among_from_is_in here.from nodes inside) in
           absurd (grind (arith, outside, is_in_from_among here.to nodes k place))
     ]
@@ -98,7 +98,7 @@ pub record IsUsable (base : BaseLists) (state : InForce) (truck : ℕ) (w : What
   pub range : InRange base w
   pub holds : HoldsIn base state truck w
 
-free_usable : (base : BaseLists) (state : InForce) (a : Application) (f : Shortest) → IsRoads base.roads → Sound base a → IsShortest base.roads (flags_of base state a.truck) a.from a.to f → IsUsable base state a.truck (what_of f)
+free_usable : (base : BaseLists) (state : InForce) (a : Application) (f : Shortest) → IsRoads base.roads → Sound base a → IsShortest base.roads (flags_of base state a.truck) a.from a.to f → IsUsable base state a.truck (proposed_of f)
 free_usable base state a (shortest.Route segments feet) ok sound h = record {
   range = All-same (λ s. s < length base.roads.segments) (concat (segments ∷ [])) segments (one_joined segments)
       (λ k d within. shortest_in_range base.roads (flags_of base state a.truck) a.from a.to (shortest.Route segments feet) ok sound.from h k (get_or segments k d) (slice_get-get_or segments k d within));
@@ -153,6 +153,6 @@ pub found_holds : (base : BaseLists) (state : InForce) (a : Application) (w : Wh
 found_holds base state a w ok sound h = (usable base state a w ok sound h).holds
 
 -- what a search found is found, where it is proposed
-pub found_if : (base : BaseLists) (state : InForce) (a : Application) (f : Shortest) (r : Result What NoMemory) → IsShortest base.roads (flags_of base state a.truck) a.from a.to f → IfOk r (λ w. w ≡ what_of f) → IfOk r (IsFoundBy base state a None)
+pub found_if : (base : BaseLists) (state : InForce) (a : Application) (f : Shortest) (r : Result What NoMemory) → IsShortest base.roads (flags_of base state a.truck) a.from a.to f → IfOk r (λ w. w ≡ proposed_of f) → IfOk r (IsFoundBy base state a None)
 found_if base state a f (Ok w) h is = (f, h, is)
 found_if base state a f (Err e) h is = tt

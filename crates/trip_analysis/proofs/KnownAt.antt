@@ -7,7 +7,7 @@ use Rattle.road_graph.specs.declared.values.Values.{Values}
 use Rattle.road_graph.specs.Roads.{AreSpansOf, Roads}
 use Rattle.road_graph.proofs.Places.{get_within}
 use Rattle.restriction_log.specs.States.{InForce, AgreeOn, rating_at, values_at}
-use Rattle.snapshot_store.specs.Stores.{AreKept, IsLater, Stored, state_now, version_of}
+use Rattle.snapshot_store.specs.Stores.{AreKept, IsLater, Stored, state_now, store_version_of}
 use Rattle.snapshot_store.proofs.Changed.{agree_kept}
 use Rattle.route_search.specs.Heights.{AreHeights}
 use Rattle.trip_analysis.specs.declared.analyst.Analyst.{Analyst}
@@ -92,10 +92,10 @@ are_below_kept base old new n m a up agree are = record {
 }
 
 -- some segments more, which no posting since a version names
-pub are_below_unchanged : (base : BaseLists) (last next : Stored) (after n m : ℕ) (a : Analyst) → next.roads ≡ base.roads → IsLater last next → after ≡ version_of last
+pub are_below_unchanged : (base : BaseLists) (last next : Stored) (after n m : ℕ) (a : Analyst) → next.roads ≡ base.roads → IsLater last next → after ≡ store_version_of last
     → n ≤ m → AreKept next after n m → AreKnownBelow base (state_now last) (state_now next) n a → AreKnownBelow base (state_now last) (state_now next) m a
 are_below_unchanged base last next after n m a roads later version up kept are =
-    let since : AreKept next (version_of last) n m = subst (λ v. AreKept next v n m) version kept in
+    let since : AreKept next (store_version_of last) n m = subst (λ v. AreKept next v n m) version kept in
     are_below_kept base (state_now last) (state_now next) n m a up (λ i low less. subst (λ (r : Roads). AgreeOn r i (state_now last) (state_now next)) roads (agree_kept last next i later (since i low less))) are
 
 pub are_below_same : (base : BaseLists) (old new : InForce) (n : ℕ) (a : Analyst) → AgreeOn base.roads n old new → AreKnownBelow base old new n a → AreKnownBelow base old new (n + 1) a

@@ -6,16 +6,16 @@ use Rattle.std.proofs.lemmas.List.Folds.{list_any_more}
 use Rattle.road_graph.specs.declared.segment.Segment.{Segment}
 use Rattle.road_graph.specs.Roads.{IsRoads, IsSegment, Roads, segment_at}
 use Rattle.trip_analysis.specs.NodeSets.{AreMarks}
-use Rattle.trip_analysis.specs.Findings.{is_in, leaves}
+use Rattle.trip_analysis.specs.Findings.{is_number_among, leaves}
 
 -- what the marks tell of a segment
 pub leaves_told : (roads : Roads) (nodes of : List ℕ) (marks : List Bool) (s : ℕ) (here : Segment) → nodes ≡ of → AreMarks nodes marks → IsRoads roads → here ≡ segment_at roads.segments s
     → IsSegment (length roads.nodes) here → (get_or marks here.from false && not (get_or marks here.to false)) ≡ leaves roads of s
 leaves_told roads nodes of marks s here same are is at fits =
-    let from : get_or marks here.from false ≡ is_in here.from nodes = are here.from (omega (arith, fits.from, is.few_nodes)) in
-    let to : get_or marks here.to false ≡ is_in here.to nodes = are here.to (omega (arith, fits.to, is.few_nodes)) in
-    ap (λ b. b && not (get_or marks here.to false)) from ∙ (ap (λ b. is_in here.from nodes && not b) to
-    ∙ (ap (λ (t : Segment). is_in t.from nodes && not (is_in t.to nodes)) at ∙ ap (λ l. leaves roads l s) same))
+    let from : get_or marks here.from false ≡ is_number_among here.from nodes = are here.from (omega (arith, fits.from, is.few_nodes)) in
+    let to : get_or marks here.to false ≡ is_number_among here.to nodes = are here.to (omega (arith, fits.to, is.few_nodes)) in
+    ap (λ b. b && not (get_or marks here.to false)) from ∙ (ap (λ b. is_number_among here.from nodes && not b) to
+    ∙ (ap (λ (t : Segment). is_number_among t.from nodes && not (is_number_among t.to nodes)) at ∙ ap (λ l. leaves roads l s) same))
 
 pub none_marked : AreMarks [] (replicate 4096 false)
 none_marked n low = get_or-replicate 4096 n false false low
@@ -25,18 +25,18 @@ either true = refl
 either false = refl
 
 module _ (nodes : List ℕ) (marks : List Bool) (i node : ℕ) (low : i < length nodes) (is : node ≡ get_or nodes i 0) (are : AreMarks (take i nodes) marks) where
-  more : (n : ℕ) → is_in n (take (i + 1) nodes) ≡ (is_in n (take i nodes) || nat_eq node n)
-  more n = list_any_more (λ k. nat_eq k n) nodes i 0 low ∙ ap (λ k. is_in n (take i nodes) || nat_eq k n) (sym is)
+  more : (n : ℕ) → is_number_among n (take (i + 1) nodes) ≡ (is_number_among n (take i nodes) || nat_eq node n)
+  more n = list_any_more (λ k. nat_eq k n) nodes i 0 low ∙ ap (λ k. is_number_among n (take i nodes) || nat_eq k n) (sym is)
 
-  others : (n : ℕ) → (node ≡ n → ⊥) → is_in n (take (i + 1) nodes) ≡ is_in n (take i nodes)
-  others n ne = more n ∙ (ap (λ b. is_in n (take i nodes) || b) (ne_eqb node n ne) ∙ either (is_in n (take i nodes)))
+  others : (n : ℕ) → (node ≡ n → ⊥) → is_number_among n (take (i + 1) nodes) ≡ is_number_among n (take i nodes)
+  others n ne = more n ∙ (ap (λ b. is_number_among n (take i nodes) || b) (ne_eqb node n ne) ∙ either (is_number_among n (take i nodes)))
 
   pub one_marked : node < length marks → AreMarks (take (i + 1) nodes) (set marks node true)
   one_marked within n few = by (cases_eq node n)
     where
-      by : (node ≡ n) ⊎ (node ≡ n → ⊥) → get_or (set marks node true) n false ≡ is_in n (take (i + 1) nodes)
+      by : (node ≡ n) ⊎ (node ≡ n → ⊥) → get_or (set marks node true) n false ≡ is_number_among n (take (i + 1) nodes)
       by (inl e) = ap (λ k. get_or (set marks node true) k false) (sym e)
-          ∙ (get_or-set_same marks node true false within ∙ sym (more n ∙ or_right (is_in n (take i nodes)) (nat_eq node n) (eq-eqb node n e)))
+          ∙ (get_or-set_same marks node true false within ∙ sym (more n ∙ or_right (is_number_among n (take i nodes)) (nat_eq node n) (eq-eqb node n e)))
       by (inr ne) = get_or-set_other marks node n true false (λ e. ne (sym e)) ∙ (are n few ∙ sym (others n ne))
 
   -- a number that no node has is not marked

@@ -18,7 +18,7 @@ use Rattle.trip_analysis.specs.declared.finding.What.{What}
 use Rattle.trip_analysis.specs.declared.finding.What.TheVariants as what
 use Rattle.fleet.specs.Bases.{BaseLists}
 use Rattle.fleet.specs.Passing.{first_on, first_or, flags_of, is_passable, limit_for, needs_none}
-use Rattle.trip_analysis.specs.Findings.{IsFinding, IsFoundBy, asked_finding, what_of}
+use Rattle.trip_analysis.specs.Findings.{IsFinding, IsFoundBy, asked_finding, proposed_of}
 use Rattle.trip_analysis.specs.Laws.{AskedRoutesFailFirst, AskedRoutesMeet, CutsLetNoneThrough, IsCut, IsFirstFailing, RoutesAreFirstOfShortest}
 use Rattle.fleet.proofs.Flagged.{flag_is}
 
@@ -55,7 +55,7 @@ flags_allow base state truck i within may = sym (flag_is base state truck i with
 allow_flags : (base : BaseLists) (state : InForce) (truck : ℕ) → Allows base.roads.segments (is_passable base state truck) (flagged (flags_of base state truck))
 allow_flags base state truck i within may = flag_is base state truck i within ∙ may
 
-free_route : (base : BaseLists) (state : InForce) (truck a b : ℕ) (routes : List (List ℕ)) (f : Shortest) → IsShortest base.roads (flags_of base state truck) a b f → what.Route routes ≡ what_of f
+free_route : (base : BaseLists) (state : InForce) (truck a b : ℕ) (routes : List (List ℕ)) (f : Shortest) → IsShortest base.roads (flags_of base state truck) a b f → what.Route routes ≡ proposed_of f
     → (route : List ℕ) × (routes ≡ route ∷ []) × IsRoute base.roads.segments (is_passable base state truck) a b route
 free_route base state truck a b routes (shortest.Route segments feet) h e = (
   segments,
@@ -65,7 +65,7 @@ free_route base state truck a b routes (shortest.Route segments feet) h e = (
 free_route base state truck a b routes (shortest.Cut reached) h e = absurd (cc)
 free_route base state truck a b routes (shortest.NoRoad reached) h e = absurd (cc)
 
-free_cut : (base : BaseLists) (state : InForce) (truck a b : ℕ) (nodes : List ℕ) (f : Shortest) → IsShortest base.roads (flags_of base state truck) a b f → what.Cut nodes ≡ what_of f → IsCut base state truck a b nodes
+free_cut : (base : BaseLists) (state : InForce) (truck a b : ℕ) (nodes : List ℕ) (f : Shortest) → IsShortest base.roads (flags_of base state truck) a b f → what.Cut nodes ≡ proposed_of f → IsCut base state truck a b nodes
 free_cut base state truck a b nodes (shortest.Route segments feet) h e = absurd (cc)
 free_cut base state truck a b nodes (shortest.Cut reached) h e =
     let same : reached ≡ nodes = cc in

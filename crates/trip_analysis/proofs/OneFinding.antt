@@ -7,13 +7,13 @@ use Rattle.trip_applications.specs.declared.application.Application.{Application
 use Rattle.trip_analysis.specs.declared.finding.What.{What}
 use Rattle.fleet.specs.Bases.{BaseLists}
 use Rattle.fleet.specs.Passing.{flags_of, needs_none}
-use Rattle.trip_analysis.specs.Findings.{IsFinding, IsFoundBy, what_of}
+use Rattle.trip_analysis.specs.Findings.{IsFinding, IsFoundBy, proposed_of}
 
 by_one : (base : BaseLists) (state : InForce) (a : Application) (v w : What) (asked : Option (List (List ℕ))) → IsFoundBy base state a asked v → IsFoundBy base state a asked w → v ≡ w
 by_one base state a v w (Some routes) g h = g ∙ sym h
 by_one base state a v w None g h =
     let (f, f_found, f_same) = g in let (k, k_found, k_same) = h in
-    f_same ∙ (ap what_of (shortest_unique base.roads (flags_of base state a.truck) a.from a.to f k f_found k_found) ∙ sym k_same)
+    f_same ∙ (ap proposed_of (shortest_unique base.roads (flags_of base state a.truck) a.from a.to f k f_found k_found) ∙ sym k_same)
 
 pub one_finding : (base : BaseLists) (state : InForce) (a : Application) (v w : What) → IsFinding base state a v → IsFinding base state a w → v ≡ w
 one_finding base state a v w g h =

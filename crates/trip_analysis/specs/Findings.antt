@@ -20,8 +20,8 @@ first_meeting base state truck [] = None
 first_meeting base state truck (s ∷ rest) = if is_passable base state truck s then Some s else first_meeting base state truck rest
 
 -- whether a number is among these
-abbrev pub is_in : ℕ → List ℕ → Bool
-is_in n numbers = list_any (λ k. k == n) numbers
+abbrev pub is_number_among : ℕ → List ℕ → Bool
+is_number_among n numbers = list_any (λ k. k == n) numbers
 
 -- each number is less than those behind it
 pub record AreRising (numbers : List ℕ) : Type 0 where
@@ -29,7 +29,7 @@ pub record AreRising (numbers : List ℕ) : Type 0 where
 
 -- whether a segment leaves a set of nodes: it begins in it and does not end in it
 abbrev pub leaves : Roads → List ℕ → ℕ → Bool
-leaves roads nodes s = is_in (segment_at roads.segments s).from nodes && not (is_in (segment_at roads.segments s).to nodes)
+leaves roads nodes s = is_number_among (segment_at roads.segments s).from nodes && not (is_number_among (segment_at roads.segments s).to nodes)
 
 -- the segments from a number on that leave a set of nodes, rising
 abbrev pub leaving_from : Roads → List ℕ → ℕ → List ℕ
@@ -46,10 +46,10 @@ abbrev pub leaving : Roads → List ℕ → List ℕ
 leaving roads nodes = leaving_from roads nodes 0
 
 -- what a search found, as it is proposed
-abbrev pub what_of : Shortest → What
-what_of (shortest.Route segments feet) = what.Route (segments ∷ [])
-what_of (shortest.Cut reached) = what.Cut reached
-what_of (shortest.NoRoad reached) = what.Cut reached
+abbrev pub proposed_of : Shortest → What
+proposed_of (shortest.Route segments feet) = what.Route (segments ∷ [])
+proposed_of (shortest.Cut reached) = what.Cut reached
+proposed_of (shortest.NoRoad reached) = what.Cut reached
 
 -- what is found on asked routes
 abbrev pub asked_finding : Option Failing → List (List ℕ) → What
@@ -58,7 +58,7 @@ asked_finding None routes = what.Route routes
 
 -- what a search over the flagged segments finds, as it is proposed
 abbrev pub IsSearched : Roads → List Bool → ℕ → ℕ → What → Type 0
-IsSearched roads flags from to w = (f : Shortest) × IsShortest roads flags from to f × (w ≡ what_of f)
+IsSearched roads flags from to w = (f : Shortest) × IsShortest roads flags from to f × (w ≡ proposed_of f)
 
 -- what is found with asked routes or, without any, by a search over the segments that the truck may pass. The segments of
 -- asked routes are tested in the order of the routes, and on each in its order

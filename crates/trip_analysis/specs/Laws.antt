@@ -17,8 +17,8 @@ abbrev pub FindingIsOne : Type 0
 FindingIsOne = (base : BaseLists) (state : InForce) (a : Application) (v w : What) → IsFinding base state a v → IsFinding base state a w → v ≡ w
 
 -- the segments that are found are there, and the nodes of a cut rise
-abbrev pub FindingsAreInRange : Type 0
-FindingsAreInRange =
+abbrev pub TripFindingsAreInRange : Type 0
+TripFindingsAreInRange =
     (base : BaseLists) (state : InForce) (a : Application) (w : What) → IsRoads base.roads → Sound base a → IsFinding base state a w → InRange base w
 
 -- what is found holds in the state in which it was found

@@ -3,10 +3,10 @@
 ghost use Rattle.std.specs.Prelude.{◌≡◌, ◌<◌, length, None, true, All, IfOk};
 ghost use Rattle.std.specs.List.{concat};
 ghost use Rattle.restriction_log.specs.States.{AreOf};
-ghost use Rattle.snapshot_store.specs.Stores.{version_of};
+ghost use Rattle.snapshot_store.specs.Stores.{store_version_of};
 ghost use Rattle.trip_applications.specs.Applications.{Sound};
 ghost use Rattle.fleet.specs.Passing.{TestsAtMost, first_on as first_in, needs_none};
-ghost use Rattle.trip_analysis.specs.Findings.{IsFinding, IsFoundAt, IsFoundBy, IsSearched, asked_finding, what_of};
+ghost use Rattle.trip_analysis.specs.Findings.{IsFinding, IsFoundAt, IsFoundBy, IsSearched, asked_finding, proposed_of};
 ghost use Rattle.trip_analysis.specs.Tests.{tests_for};
 
 use crate::finding::{Proposal, What};
@@ -64,7 +64,7 @@ pub fn analyse<L: Ledger>(
 ) -> Result<Proposal, NoMemory>
     requires roads { snapshot.now.roads ≡ base.now.roads }
     requires sound { Sound base.now application.now }
-    ensures seen { IfOk result (λ proposal. proposal.seen ≡ version_of snapshot.now) }
+    ensures seen { IfOk result (λ proposal. proposal.seen ≡ store_version_of snapshot.now) }
     ensures found { IfOk result (λ proposal. IsFoundAt base.now snapshot.now application.now proposal.what) }
     ensures steps { TestsAtMost (tests_for base.now application.now.asked) steps.old steps.new }
 {
@@ -134,7 +134,7 @@ fn search_along(alloc: Global, trip: &TripEnds) -> Result<What, NoMemory>
 
 // What a search finds, as it is proposed.
 pub(crate) fn proposed(alloc: Global, found: Shortest) -> Result<What, NoMemory>
-    ensures { IfOk result (λ w. w ≡ what_of found) }
+    ensures { IfOk result (λ w. w ≡ proposed_of found) }
 {
     match found {
         Shortest::Route { segments, .. } => {

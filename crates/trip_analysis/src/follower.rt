@@ -44,7 +44,7 @@ impl Model for Follower {
 
 impl Follower {
     ghost use Rattle.std.specs.Prelude.{◌≡◌, ◌+◌, IfOk};
-    ghost use Rattle.snapshot_store.specs.Stores.{version_of};
+    ghost use Rattle.snapshot_store.specs.Stores.{store_version_of};
     ghost use Rattle.trip_applications.specs.Applications.{Sound};
     ghost use Rattle.trip_analysis.specs.Findings.{IsFoundAt};
     ghost use Rattle.trip_analysis.specs.Followers.{GoesOn, followed, newly_followed};
@@ -78,7 +78,7 @@ impl Follower {
         requires roads { snapshot.roads ≡ base.now.roads }
         requires later { GoesOn self.old.last snapshot }
         requires sound { Sound base.now application.now }
-        ensures seen { IfOk result (λ proposal. proposal.seen ≡ version_of snapshot) }
+        ensures seen { IfOk result (λ proposal. proposal.seen ≡ store_version_of snapshot) }
         ensures found { IfOk result (λ proposal. IsFoundAt base.now snapshot application.now proposal.what) }
         ensures known { self.new ≡ followed base.now snapshot }
         ensures steps { TestsAtMost (tests_to_go_on base.now + tests_for base.now application.now.asked) steps.old steps.new }

@@ -1,11 +1,11 @@
 // Laws of the definitions, each on a function without code.
 
-ghost use Rattle.trip_analysis.specs.Laws.{AskedRoutesFailFirst, AskedRoutesMeet, CutsLetNoneThrough, FindingIsOne, FindingsAreInRange, FindingsHold, RoutesAreFirstOfShortest};
+ghost use Rattle.trip_analysis.specs.Laws.{AskedRoutesFailFirst, AskedRoutesMeet, CutsLetNoneThrough, FindingIsOne, TripFindingsAreInRange, FindingsHold, RoutesAreFirstOfShortest};
 
 /// A law, and no code: one thing is found for an application in a state; what it names is there, and it holds in that state.
 pub fn findings_hold()
     ensures one { FindingIsOne }
-    ensures range { FindingsAreInRange }
+    ensures range { TripFindingsAreInRange }
     ensures holds { FindingsHold }
 {}
 

@@ -87,8 +87,8 @@ abbrev pub IsSoundOn : Roads → ℕ → Application → Type 0
 IsSoundOn roads truck a = (base : BaseLists) → base.roads ≡ roads → truck < length base.fleet → Sound base a
 
 -- the refusal is the first cause that applies
-abbrev pub IsCause : Option ApplicationRefusal → ApplicationRefusal → Type 0
-IsCause cause refusal = cause ≡ Some refusal
+abbrev pub IsApplicationCause : Option ApplicationRefusal → ApplicationRefusal → Type 0
+IsApplicationCause cause refusal = cause ≡ Some refusal
 
 -- the first cause, in this order, for which an application is refused
 abbrev pub application_refusal : Roads → ℕ → ℕ → Option (List (List ℕ)) → List ℕ → List ℕ → Option ApplicationRefusal

@@ -2,7 +2,7 @@
 
 ghost use Rattle.std.specs.Prelude.{◌≡◌, ◌<◌, ◌↔◌, length, true, None, Some, All, IfOk, IfErr, OnOk, OnErr, option_map};
 ghost use Rattle.std.specs.List.{concat};
-ghost use Rattle.trip_applications.specs.Applications.{AreThere, AreAskedThere, IsCause, IsSoundOn, Sound, application_of, application_refusal, asked_refusal, break_from, days_refusal, first_break, is_annual};
+ghost use Rattle.trip_applications.specs.Applications.{AreThere, AreAskedThere, IsApplicationCause, IsSoundOn, Sound, application_of, application_refusal, asked_refusal, break_from, days_refusal, first_break, is_annual};
 
 use crate::refusal::ApplicationRefusal;
 use fleet::Base;
@@ -45,7 +45,7 @@ impl Application {
         ensures sound { IfOk result (λ a. Sound base.now a) }
         ensures taken { OnOk result (application_refusal base.now.roads from to asked first last ≡ None) }
         ensures refused { IfErr result
-            (IsCause (application_refusal base.now.roads from to asked first last)) }
+            (IsApplicationCause (application_refusal base.now.roads from to asked first last)) }
     {
         let application = Application::of_fields(truck, from, to, asked, first, last);
         application.checked_on(base.network())
@@ -60,7 +60,7 @@ impl Application {
         ensures taken { OnOk result
             (application_refusal network.now self.from self.to self.asked self.first self.last ≡ None) }
         ensures refused { IfErr result
-            (IsCause (application_refusal network.now self.from self.to self.asked self.first self.last)) }
+            (IsApplicationCause (application_refusal network.now self.from self.to self.asked self.first self.last)) }
     {
         self.try_on(network)?;
         Ok(self)
@@ -170,7 +170,7 @@ impl Application {
         ensures taken { OnOk result
             (application_refusal network.now self.now.from self.now.to self.now.asked self.now.first self.now.last ≡ None) }
         ensures refused { IfErr result
-            (IsCause (application_refusal network.now self.now.from self.now.to self.now.asked self.now.first self.now.last)) }
+            (IsApplicationCause (application_refusal network.now self.now.from self.now.to self.now.asked self.now.first self.now.last)) }
     {
         if self.from == self.to {
             return Err(ApplicationRefusal::SamePlace);
@@ -221,7 +221,7 @@ fn asks_for_more(asked: &Option<SharedRoutes>) -> bool
 // Refuses days of which the last is before the first, or too long after it for an annual permit.
 fn try_days(annual: bool, first: Day, last: Day) -> Result<(), ApplicationRefusal>
     ensures taken { OnOk result (days_refusal annual first last ≡ None) }
-    ensures refused { IfErr result (IsCause (days_refusal annual first last)) }
+    ensures refused { IfErr result (IsApplicationCause (days_refusal annual first last)) }
 {
     if last < first {
         return Err(ApplicationRefusal::DayOrder);
@@ -242,7 +242,7 @@ fn try_asked(
 ) -> Result<(), ApplicationRefusal>
     requires { AreAskedThere network.now asked.now }
     ensures taken { OnOk result (asked_refusal network.now.segments from to asked.now ≡ None) }
-    ensures refused { IfErr result (IsCause (asked_refusal network.now.segments from to asked.now)) }
+    ensures refused { IfErr result (IsApplicationCause (asked_refusal network.now.segments from to asked.now)) }
 {
     match asked {
         Some(routes) => try_routes(network, from, to, routes),
@@ -259,7 +259,7 @@ fn try_routes(
 ) -> Result<(), ApplicationRefusal>
     requires { All (λ s. s < length network.now.segments) (concat routes.now) }
     ensures taken { OnOk result (first_break network.now.segments 0 from to routes.now ≡ None) }
-    ensures refused { IfErr result (IsCause (first_break network.now.segments 0 from to routes.now)) }
+    ensures refused { IfErr result (IsApplicationCause (first_break network.now.segments 0 from to routes.now)) }
 {
     for route in 0..routes.len() {
         if let Some(at) = find_break(network, from, to, routes.route(route)) {

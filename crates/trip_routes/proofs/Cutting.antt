@@ -4,7 +4,7 @@ use Rattle.std.proofs.Common.{◌≡◌, ◌≤◌, ◌<◌, ◌+◌, ◌-◌, �
 use Rattle.std.specs.List.{concat, slice_range}
 use Rattle.std.proofs.lemmas.List.{take_all, take-append-le, drop_all, drop-append-le}
 use Rattle.std.proofs.lemmas.List.Folds.{drop_split}
-use Rattle.trip_routes.specs.Routes.{IsCut, Rise, begin_of, parted}
+use Rattle.trip_routes.specs.Routes.{AreRouteEnds, Rise, begin_of, parted}
 
 parted_length : (start : ℕ) (ends segments : List ℕ) → length (parted start ends segments) ≡ length ends
 parted_length start [] segments = refl
@@ -21,7 +21,7 @@ parted_joined start [] segments same = sym (drop_all start segments (omega (arit
 parted_joined start (end ∷ ends) segments h =
     ap (λ l. slice_range segments start end ++ l) (parted_joined end ends segments h.1) ∙ sym (drop_split segments start end h.0)
 
-pub cut_joined : (ends segments : List ℕ) → IsCut ends segments → concat (parted 0 ends segments) ≡ segments
+pub cut_joined : (ends segments : List ℕ) → AreRouteEnds ends segments → concat (parted 0 ends segments) ≡ segments
 cut_joined ends segments h = parted_joined 0 ends segments h.rise
 
 -- a part of a list is a part of a longer one
@@ -53,13 +53,13 @@ rise_more start [] last next same behind = (omega (arith, same, behind), refl)
 rise_more start (end ∷ ends) last next h behind = (h.0, rise_more end ends last next h.1 behind)
 
 -- the routes with one more behind them
-pub cut_more : (ends segments more : List ℕ) (next : ℕ) → IsCut ends segments → next ≡ length segments + length more
+pub cut_more : (ends segments more : List ℕ) (next : ℕ) → AreRouteEnds ends segments → next ≡ length segments + length more
     → parted 0 (ends ++ next ∷ []) (segments ++ more) ≡ parted 0 ends segments ++ more ∷ []
 cut_more ends segments more next h is =
     ap (λ n. parted 0 (ends ++ n ∷ []) (segments ++ more)) is ∙ parted_more 0 ends segments more h.rise
 
-pub is_cut_more : (ends segments more : List ℕ) (next : ℕ) → IsCut ends segments → length ends < 8 → next ≡ length segments + length more
-    → IsCut (ends ++ next ∷ []) (segments ++ more)
+pub is_cut_more : (ends segments more : List ℕ) (next : ℕ) → AreRouteEnds ends segments → length ends < 8 → next ≡ length segments + length more
+    → AreRouteEnds (ends ++ next ∷ []) (segments ++ more)
 is_cut_more ends segments more next h room is =
     let long = length-append ends (next ∷ []) in
     let behind : next ≡ length (segments ++ more) = omega (arith, is, length-append segments more) in
@@ -93,7 +93,7 @@ part_within start (end ∷ ends) last zero h within = (h.0, rise_below end ends 
 part_within start (end ∷ ends) last (suc zero) h within = part_within end ends last 0 h.1 (omega (arith, within))
 part_within start (end ∷ ends) last (suc (suc i)) h within = part_within end ends last (suc i) h.1 (omega (arith, within))
 
-pub cut_within : (ends segments : List ℕ) (i : ℕ) → IsCut ends segments → i < length ends
+pub cut_within : (ends segments : List ℕ) (i : ℕ) → AreRouteEnds ends segments → i < length ends
     → (begin_of 0 ends i ≤ get_or ends i 0) × (get_or ends i 0 ≤ length segments)
 cut_within ends segments i h within = part_within 0 ends (length segments) i h.rise within
 

@@ -34,7 +34,7 @@ Rise start [] last = start ≡ last
 Rise start (end ∷ ends) last = (start ≤ end) × Rise end ends last
 
 -- one to eight places, rising, of which the last is behind the last segment
-pub record IsCut (ends segments : List ℕ) : Type 0 where
+pub record AreRouteEnds (ends segments : List ℕ) : Type 0 where
   pub some : 1 ≤ length ends
   pub few : length ends ≤ 8
   pub rise : Rise 0 ends (length segments)

@@ -2,7 +2,7 @@
 
 ghost use Rattle.std.specs.Prelude.{◌≡◌, ◌<◌, ◌≤◌, ◌++◌, ◌∷◌, [], length, get_or, IfErr, OnOk, OnErr, None};
 ghost use Rattle.std.specs.List.{concat};
-ghost use Rattle.trip_routes.specs.Routes.{AreRoutes, IsCut, IsPushCause, begin_of, parted, push_refusal};
+ghost use Rattle.trip_routes.specs.Routes.{AreRoutes, AreRouteEnds, IsPushCause, begin_of, parted, push_refusal};
 
 use crate::refusal::RoutesRefusal;
 use arrayvec::ArrayVec;
@@ -25,13 +25,13 @@ pub struct Routes {
 
 impl Model for Routes {
     ghost use Rattle.std.specs.Prelude.{List, ℕ};
-    ghost use Rattle.trip_routes.specs.Routes.{IsCut, parted};
+    ghost use Rattle.trip_routes.specs.Routes.{AreRouteEnds, parted};
 
     ghost Value = { List (List ℕ) };
 
     ghost view = { λ r. parted 0 r.ends.items r.segments.items };
 
-    ghost invariant = { λ r. IsCut r.ends.items r.segments.items };
+    ghost invariant = { λ r. AreRouteEnds r.ends.items r.segments.items };
 }
 
 impl Routes {
@@ -89,7 +89,7 @@ impl Routes {
 // The segments of the route at a place, where a list of segments is cut behind these.
 #[tactic(auto, using(crate::proofs::Cutting::cut_within))]
 fn part<'a>(segments: &'a [u32], ends: &[usize], i: usize) -> &'a [u32]
-    requires cut { IsCut ends.now segments.now }
+    requires cut { AreRouteEnds ends.now segments.now }
     requires within { i < length ends.now }
     ensures { result.now ≡ get_or (parted 0 ends.now segments.now) i [] }
 {

@@ -1,16 +1,16 @@
 use Rattle.std.proofs.Common.{arith, ◌+◌}
 use Rattle.day_maker.specs.Making.{each}
-use Rattle.day_maker.specs.Made.{joined}
+use Rattle.day_maker.specs.Made.{joining_segments}
 use Rattle.day_maker.proofs.Pages.{each_end, each_more}
 use Rattle.day_maker.proofs.roads.put_segments.Goals as goal
 
 pub columns-preserved : goal.columns-preserved
-columns-preserved c = each_more (λ k. joined c.args.size c.rows.r k) c.columns.page c.put_joined.new.page _ c.columns.c (c.args.size + 1) (omega arith) c.columns.invariant c.in_ok-put_joined.ensures
+columns-preserved c = each_more (λ k. joining_segments c.args.size c.rows.r k) c.columns.page c.put_joined.new.page _ c.columns.c (c.args.size + 1) (omega arith) c.columns.invariant c.in_ok-put_joined.ensures
 
 pub rows-preserved : goal.rows-preserved
 rows-preserved c =
-    let row = each_end (λ k. joined c.args.size c.rows.r k) c.columns.page _ c.columns.c (c.args.size + 1) (omega arith) c.columns.invariant in
-    each_more (λ r. each 0 (c.args.size + 1) (λ k. joined c.args.size r k)) c.rows.page c.columns.page _ c.rows.r (c.args.size + 1) (omega arith) c.rows.invariant row
+    let row = each_end (λ k. joining_segments c.args.size c.rows.r k) c.columns.page _ c.columns.c (c.args.size + 1) (omega arith) c.columns.invariant in
+    each_more (λ r. each 0 (c.args.size + 1) (λ k. joining_segments c.args.size r k)) c.rows.page c.columns.page _ c.rows.r (c.args.size + 1) (omega arith) c.rows.invariant row
 
 pub returns : goal.returns
-returns c = each_end (λ r. each 0 (c.args.size + 1) (λ k. joined c.args.size r k)) c.rows.page _ c.rows.r (c.args.size + 1) (omega arith) c.rows.invariant
+returns c = each_end (λ r. each 0 (c.args.size + 1) (λ k. joining_segments c.args.size r k)) c.rows.page _ c.rows.r (c.args.size + 1) (omega arith) c.rows.invariant

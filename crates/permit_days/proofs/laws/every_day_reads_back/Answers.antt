@@ -1,7 +1,7 @@
 use Rattle.std.proofs.Common.{◌≡◌, Bool, true, false, refl}
 use Rattle.std.specs.Prelude.{ℕ, List, Ok, Err, not, ◌&&◌, if◌then◌else◌}
 use Rattle.permit_days.specs.declared.refusal.DayRefusal.TheVariants.{NoSuchDay, Shape}
-use Rattle.permit_days.specs.Days.{day_of, has_shape, is_day, month_of, year_of}
+use Rattle.permit_days.specs.Days.{day_of_month, has_shape, is_day, month_of, year_of}
 use Rattle.permit_days.proofs.laws.every_day_reads_back.Goals as goal
 
 -- a text that passes both tests
@@ -11,4 +11,4 @@ passes true false text h = cc
 passes false b text h = cc
 
 pub returns : goal.returns
-returns c = λ text h. passes (has_shape text) (is_day (year_of text) (month_of text) (day_of text)) text h
+returns c = λ text h. passes (has_shape text) (is_day (year_of text) (month_of text) (day_of_month text)) text h

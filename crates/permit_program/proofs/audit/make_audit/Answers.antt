@@ -2,7 +2,7 @@ use Rattle.std.proofs.Common.{◌≡◌, List, length, ℕ, Vec, ◌∙◌, ap, 
 use Rattle.std.specs.Global.{Global}
 use Rattle.office_words.specs.declared.entry.Entry.{Entry}
 use Rattle.journal_audit.specs.Verdicts.{IsVerdict}
-use Rattle.permit_program.specs.Audit.{legal_line}
+use Rattle.permit_program.specs.Audit.{legal_history_line}
 use Rattle.permit_program.proofs.Audits.{audit_made, refused_day, refused_entry}
 use Rattle.permit_program.proofs.audit.make_audit.Goals as goal
 
@@ -21,7 +21,7 @@ returns-in-Legal-clause-made c =
     let many : c.len.result ≡ length history = omega (arith, c.len.ensures, c.in-Ok.history.ok.0) in
     audit_made c.args.bytes.now cut.front.now cut.rest.now c.cut_behind_end-cut.ensures history c.in-Ok.ensures.journal file c.in-Ok-read_day.ensures.ok
     (subst (IsVerdict file.base file.day history) c.in-Legal.is legal)
-    c.into_bytes.result.items (ap (λ (v : Vec ℕ Global). v.items) c.into_bytes.ensures.value ∙ (c.in_ok-legal_line-in-Legal.ensures ∙ ap legal_line many))
+    c.into_bytes.result.items (ap (λ (v : Vec ℕ Global). v.items) c.into_bytes.ensures.value ∙ (c.in_ok-legal_line-in-Legal.ensures ∙ ap legal_history_line many))
 
 pub returns-clause-refused : goal.returns-clause-refused
 returns-clause-refused c =

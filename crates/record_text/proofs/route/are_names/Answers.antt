@@ -2,10 +2,10 @@ use Rattle.std.proofs.Common.{lit<, rules, tests}
 use Rattle.std.specs.Prelude.{is_some}
 use Rattle.std.proofs.lemmas.Iterator.Search.{all_from_yields_List}
 use Rattle.std.proofs.lemmas.Iterator.Splits.{YieldsList-from_str_split}
-use Rattle.record_text.specs.Fields.{name_of}
+use Rattle.record_text.specs.Fields.{name_field}
 use Rattle.record_text.proofs.route.are_names.Goals as goal
 
 pub returns : goal.returns
 returns c =
-    all_from_yields_List (λ part. is_some (name_of part)) _ _ _ c.all.ensures.ran
+    all_from_yields_List (λ part. is_some (name_field part)) _ _ _ c.all.ensures.ran
     (YieldsList-from_str_split 32 c.args.text.now (lit< tt) c.split.ensures.text c.split.ensures.has_more c.split.ensures.pattern) (λ x r q k. search (rules, tests))

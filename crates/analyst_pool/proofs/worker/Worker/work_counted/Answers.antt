@@ -1,5 +1,5 @@
 use Rattle.std.proofs.Common.{refl, subst, sym}
-use Rattle.analyst_pool.specs.Ran.{Adds}
+use Rattle.analyst_pool.specs.Ran.{AddsEntries}
 use Rattle.analyst_pool.proofs.worker.Worker.work_counted.Goals as goal
 
 pub returns : goal.returns
@@ -10,7 +10,7 @@ returns g c = let carried = c.carry_out_all-self.ensures in
       ended = carried.ended;
       entries = carried.entries;
       grew = carried.grew;
-      adds = subst (λ commands. Adds (g.C.OfficeCalls.view c.args.self.now.calls).who.caller commands c.carry_out_all-self.result carried.entries (g.C.OfficeCalls.view c.carry_out_all-self.new.calls).full)
+      adds = subst (λ commands. AddsEntries (g.C.OfficeCalls.view c.args.self.now.calls).who.caller commands c.carry_out_all-self.result carried.entries (g.C.OfficeCalls.view c.carry_out_all-self.new.calls).full)
           c.deref.ensures.value carried.adds;
     }
 

@@ -4,7 +4,7 @@ use Rattle.axle_train.specs.declared.axle.Axle.{Axle}
 use Rattle.axle_limits.specs.declared.tridem.Heaviest.{Heaviest}
 use Rattle.axle_limits.specs.declared.worst_group.WorstGroup.{WorstGroup}
 use Rattle.axle_limits.specs.Findings.{is_legal_by_weight}
-use Rattle.clearance_rules.specs.Loads.{IsKept, is_legal_size, parts_of}
+use Rattle.clearance_rules.specs.Loads.{IsLoadKept, is_legal_size, parts_of}
 use Rattle.clearance_rules.proofs.load.Load.new.Goals as goal
 use Rattle.clearance_rules.proofs.load.Load.new.Goals.{then-by_weight, else-by_weight}
 
@@ -16,8 +16,8 @@ no_turn result a x y ea h is = is ∙ h ∙ ap (λ (t : Bool). t && y) (sym h �
 
 -- the study is seen as the axles of its train
 of_study : (height width length : ℕ) (train study : List Axle) (worst : WorstGroup) (tridem : Option Heaviest) (legal : Bool) → study ≡ train
-    → IsKept (parts_of height width length train) worst tridem legal → IsKept (parts_of height width length study) worst tridem legal
-of_study height width length train study worst tridem legal same is = subst (λ (t : List Axle). IsKept (parts_of height width length t) worst tridem legal) (sym same) is
+    → IsLoadKept (parts_of height width length train) worst tridem legal → IsLoadKept (parts_of height width length study) worst tridem legal
+of_study height width length train study worst tridem legal same is = subst (λ (t : List Axle). IsLoadKept (parts_of height width length t) worst tridem legal) (sym same) is
 
 pub invariant_of-result : goal.invariant_of-result
 invariant_of-result c = of_study c.args.height c.args.width c.args.length c.args.train c.new.result c.worst-worst.result c.heaviest_tridem-tridem.result c.if-by_weight.result c.new.ensures (record {

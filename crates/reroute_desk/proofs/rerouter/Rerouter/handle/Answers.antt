@@ -9,7 +9,7 @@ use Rattle.office_core.specs.Offices.{Opened, machine_in}
 use Rattle.office_core.specs.Promises.{KeepsPromises}
 use Rattle.reroute_desk.specs.declared.handled.Handled.{Handled}
 use Rattle.reroute_desk.specs.declared.handled.HandledAs.TheVariants.{Ended}
-use Rattle.reroute_desk.specs.Desks.{Desk, HasGoneOn, day_in}
+use Rattle.reroute_desk.specs.Desks.{Desk, HasGoneOn, office_day}
 use Rattle.reroute_desk.proofs.Going.{gone_ended, gone_nowhere}
 use Rattle.reroute_desk.proofs.Handling.{again_is, k, last_is, none_left, noted_as, pushed, unpushed}
 use Rattle.reroute_desk.proofs.Recalls.{was_issued}
@@ -68,6 +68,6 @@ apply_again-requires-clause-in_time g c =
     let trip = c.in-Some.trip.now in
     let day : today ≡ (machine_in o).day = c.today-today.ensures ∙ ap (λ (x : Opened). (machine_in x).day) c.office-2.ensures in
     let before : is_before trip.last today ≡ false = ap (λ (l : Day). is_before l today) (sym c.last.ensures) ∙ (sym c.lt.ensures ∙ c.if-lt.false) in
-    ap (λ (a : Application). is_before a.last (day_in o)) c.renewed-trip.ensures
-    ∙ (ap (λ (a : Application). is_before a.last (day_in o)) (noted_as i d is o promises legal c.requires.kept c.requires.read c.args.old c.requires.left trip c.in-Some.ensures)
+    ap (λ (a : Application). is_before a.last (office_day o)) c.renewed-trip.ensures
+    ∙ (ap (λ (a : Application). is_before a.last (office_day o)) (noted_as i d is o promises legal c.requires.kept c.requires.read c.args.old c.requires.left trip c.in-Some.ensures)
     ∙ last_is i d is o promises legal c.requires.kept c.requires.read c.args.old c.requires.left today trip false day c.in-Some.ensures before)
