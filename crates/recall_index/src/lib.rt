@@ -11,6 +11,7 @@
 
 mod index;
 mod laws;
+mod removal;
 mod users;
 
 pub use index::Index;

@@ -1,7 +1,7 @@
 use Rattle.std.proofs.Common.{length, sym, ◌∙◌}
 use Rattle.std.proofs.lemmas.Bool.{le-ltb}
 use Rattle.recall_index.proofs.Rising.{all_below, is_first}
-use Rattle.recall_index.proofs.users.is_at.Goals as goal
+use Rattle.recall_index.proofs.removal.is_at.Goals as goal
 
 pub returns-then-place-these : goal.returns-then-place-these
 returns-then-place-these c = is_first c.args.number c.args.these.now c.args.place c.requires.these c.requires.below c.if-place-these.true (c.requires.next c.if-place-these.true)

@@ -1,7 +1,7 @@
 use Rattle.std.proofs.Common.{◌<◌, length, not, ap, ◌∙◌, arith}
 use Rattle.std.proofs.lemmas.List.{get_or_default}
 use Rattle.recall_index.proofs.Sifting.{sifts_more, sifts_none}
-use Rattle.recall_index.proofs.users.sift.Goals as goal
+use Rattle.recall_index.proofs.removal.sift.Goals as goal
 
 pub loop-i-init : goal.loop-i-init
 loop-i-init c = sifts_none c.args.these.now c.args.all.now.items c.args.from c.requires.these c.requires.within c.requires.below

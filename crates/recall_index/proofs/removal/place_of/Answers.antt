@@ -1,6 +1,6 @@
 use Rattle.std.proofs.Common.{◌-◌, length, slice_index, arith}
 use Rattle.recall_index.proofs.Rising.{below_found, below_missed, below_place}
-use Rattle.recall_index.proofs.users.place_of.Goals as goal
+use Rattle.recall_index.proofs.removal.place_of.Goals as goal
 
 pub returns-then-all-end-clause-below : goal.returns-then-all-end-clause-below
 returns-then-all-end-clause-below c = below_place c.args.all.now (length c.args.all.now - length c.args.these.now) (slice_index c.args.these.now 0) c.requires.rising

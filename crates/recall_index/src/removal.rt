@@ -1,0 +1,128 @@
+// Taking rising numbers out of rising ones.
+
+ghost use Rattle.std.specs.Prelude.{◌≡◌, ◌≤◌, ◌<◌, ◌+◌, ◌++◌, length, take, drop, All, slice_index, slice_set, true, if◌then◌else◌};
+ghost use Rattle.std.specs.List.Sorted.{IsStrictlyIncreasing};
+ghost use Rattle.recall_index.specs.Uses.{AreAllOrNone, IsBlock, is_in, without_each};
+
+/// Takes out rising numbers, all of which are there or none. Those that stand as one block leave without a look at each, and
+/// at the end without a move.
+pub(crate) fn take_out(all: &mut Vec<u32>, these: &[u32])
+    requires rising { IsStrictlyIncreasing all.old.items }
+    requires these { IsStrictlyIncreasing these.now }
+    requires among { AreAllOrNone these.now all.old.items }
+    ensures { all.new.items ≡ without_each these.now all.old.items }
+{
+    if these.is_empty() {
+        return;
+    }
+    let at = place_of(all.as_slice(), these);
+    if is_block(all.as_slice(), at, these) {
+        take_block(all, at, these);
+    } else {
+        sift(all, at, these);
+    }
+}
+
+// The place in rising numbers up to which all are below the first of these. Looks first where these would be the last ones.
+fn place_of(all: &[u32], these: &[u32]) -> usize
+    requires rising { IsStrictlyIncreasing all.now }
+    requires some { 0 < length these.now }
+    ensures within { result ≤ length all.now }
+    ensures below { All (λ n. n < slice_index these.now 0) (take result all.now) }
+{
+    if these.len() <= all.len() {
+        let end = all.len() - these.len();
+        if all[end] == these[0] {
+            return end;
+        }
+    }
+    match all.binary_search(&these[0]) {
+        Ok(at) => at,
+        Err(at) => at,
+    }
+}
+
+// Whether rising numbers, of which all are among rising ones or none is, stand there as one block from a place on. They do
+// where as many lie from the first of them to the last.
+fn is_block(all: &[u32], at: usize, these: &[u32]) -> bool
+    requires rising { IsStrictlyIncreasing all.now }
+    requires these { IsStrictlyIncreasing these.now }
+    requires some { 0 < length these.now }
+    requires among { AreAllOrNone these.now all.now }
+    requires within { at ≤ length all.now }
+    ensures { result ≡ true → IsBlock these.now all.now at }
+{
+    if all.len() - at < these.len() {
+        return false;
+    }
+    let last = these.len() - 1;
+    all[at] == these[0] && all[at + last] == these[last]
+}
+
+// Takes out the block of these numbers, which begins at a place.
+fn take_block(all: &mut Vec<u32>, at: usize, these: &[u32])
+    requires { IsBlock these.now all.old.items at }
+    ensures { all.new.items ≡ take at all.old.items ++ drop (at + length these.now) all.old.items }
+{
+    let rest = all.len() - these.len();
+    all.copy_within(at + these.len().., at);
+    all.truncate(rest);
+}
+
+// Takes rising numbers out of rising ones, of which those before a place are below the first of them.
+fn sift(all: &mut Vec<u32>, from: usize, these: &[u32])
+    requires rising { IsStrictlyIncreasing all.old.items }
+    requires these { IsStrictlyIncreasing these.now }
+    requires within { from ≤ length all.old.items }
+    requires below { All (λ n. n < slice_index these.now 0) (take from all.old.items) }
+    ensures { all.new.items ≡ without_each these.now all.old.items }
+{
+    let mut kept = from;
+    let mut next = 0;
+    for i in from..all.len() {
+        let number = all[i];
+        next = place_from(these, next, number);
+        let stays = !is_at(these, next, number);
+        kept = keep_if(all, kept, number, stays);
+    }
+    all.truncate(kept);
+}
+
+// The place of the first of rising numbers that is not below a number, where those before a place are below it.
+fn place_from(these: &[u32], from: usize, number: u32) -> usize
+    requires within { from ≤ length these.now }
+    requires below { All (λ n. n < number) (take from these.now) }
+    ensures within { result ≤ length these.now }
+    ensures below { All (λ n. n < number) (take result these.now) }
+    ensures next { result < length these.now → number ≤ slice_index these.now result }
+{
+    for place in from..these.len() {
+        if number <= these[place] {
+            return place;
+        }
+    }
+    these.len()
+}
+
+// Whether a number is among rising ones, where the first that is not below it is known.
+fn is_at(these: &[u32], place: usize, number: u32) -> bool
+    requires these { IsStrictlyIncreasing these.now }
+    requires below { All (λ n. n < number) (take place these.now) }
+    requires next { place < length these.now → number ≤ slice_index these.now place }
+    ensures { result ≡ is_in number these.now }
+{
+    place < these.len() && these[place] == number
+}
+
+// Puts a number behind the first so many, where it stays, and answers how many they are then.
+fn keep_if(all: &mut Vec<u32>, kept: usize, number: u32, stays: bool) -> usize
+    requires { kept < length all.old.items }
+    ensures kept { result ≡ (if stays then kept + 1 else kept) }
+    ensures items { all.new.items ≡ (if stays then slice_set all.old.items kept number else all.old.items) }
+{
+    if !stays {
+        return kept;
+    }
+    all[kept] = number;
+    kept + 1
+}
