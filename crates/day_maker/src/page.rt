@@ -100,14 +100,17 @@ fn let_go(writer: &mut Option<Writer<Vec<u8>>>)
     *writer = None;
 }
 
+// How many bytes there is room for in a record at first: most have fewer.
+const BYTES: usize = 64;
+
 // The record of these fields, with empty ones behind them to make eight.
 fn record_of(alloc: Global, kind: &str, fields: &[Field]) -> Result<ByteRecord, AllocError>
     requires { length fields.now ≤ 7 }
     ensures { IfOk result (λ made. fields_of made ≡ row (kind.now ∷ map field_text fields.now)) }
 {
-    let mut made = ByteRecord::new(alloc);
+    let mut made = ByteRecord::with_capacity(alloc, BYTES, 8)?;
     made.push_field(kind.as_bytes())?;
-    let mut text = Vec::new(alloc);
+    let mut text = Vec::with_capacity(alloc, BYTES)?;
     'fields: for field in fields {
         text.clear();
         write_field(&mut text, field)?;
