@@ -159,7 +159,13 @@ class Words:
         }.get(reply, stands)
 
 
-LIMIT_NAMES = {"height": "height", "width": "width", "length": "length", "gross": "gross weight", "tridem": "tridem group"}
+LIMIT_NAMES = {
+    "height": "height",
+    "width": "width",
+    "length": "length",
+    "gross": "gross weight",
+    "tridem": "tridem group",
+}
 
 
 def axles_text(first: int, last: int) -> str:
