@@ -177,10 +177,6 @@ pub indices_found : {E : Type 0} (word : List ℕ) (found : Result (Option (List
 indices_found word (Ok found) e = found_so _ found _ (indices_only word) e
 indices_found word (Err why) e = tt
 
-pub routes_found : {E : Type 0} (word : List ℕ) (found : Result (Option (List (List ℕ))) E) → IfOk found (λ routes. routes ≡ routes_spelled word) → IfOk found (IsTextOf routes_text FitsRoutes word)
-routes_found word (Ok found) e = found_so _ found _ (routes_only word) e
-routes_found word (Err why) e = tt
-
 pub fraction_found : (word : List ℕ) (found : Option Ratio) → found ≡ fraction_of word → IfSome found (λ f. (word ≡ ratio_text f) × FitsRatio f)
 fraction_found word found e = found_so _ found _ (fraction_only word) e
 

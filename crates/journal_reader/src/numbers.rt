@@ -107,32 +107,19 @@ pub fn place_in(word: &[u8]) -> Option<u32>
 }
 
 /// The day that a word spells.
+#[tactic(auto, unfolding(crate::specs::Words::day_spelled))]
 pub fn day_in(word: &[u8]) -> Option<Day>
     ensures exact { result ≡ day_spelled word.now }
     ensures sound { IsTextOf (λ day. day) FitsDay word.now result }
-{
-    day_in_exact(word)
-}
-
-#[tactic(auto, unfolding(crate::specs::Words::day_spelled))]
-fn day_in_exact(word: &[u8]) -> Option<Day>
-    ensures { result ≡ day_spelled word.now }
 {
     Day::read(word).ok()
 }
 
 /// The fraction in lowest terms that a word spells.
-#[tactic(auto, using(crate::proofs::Only::fraction_found))]
+#[tactic(auto, unfolding(crate::specs::Words::fraction_of))]
 pub fn fraction_in(word: &[u8]) -> Option<Frac>
     ensures exact { result ≡ fraction_of word.now }
     ensures sound { IsTextOf ratio_text FitsRatio word.now result }
-{
-    fraction_in_exact(word)
-}
-
-#[tactic(auto, unfolding(crate::specs::Words::fraction_of))]
-fn fraction_in_exact(word: &[u8]) -> Option<Frac>
-    ensures { result ≡ fraction_of word.now }
 {
     let Some((num, den)) = pair_in(word) else {
         return None;
@@ -158,16 +145,10 @@ fn pair_in(word: &[u8]) -> Option<(u128, u128)>
 }
 
 /// The group of axles that a word spells, by its first and its last.
+#[tactic(auto, unfolding(crate::specs::Words::pair_of, crate::specs::Words::group_of))]
 pub fn group_in(word: &[u8]) -> Option<(u32, u32)>
     ensures exact { result ≡ group_of word.now }
     ensures sound { IfSome result (λ g. (word.now ≡ group g.0 g.1) × FitsIndex g.0 × FitsIndex g.1) }
-{
-    group_in_exact(word)
-}
-
-#[tactic(auto, unfolding(crate::specs::Words::pair_of, crate::specs::Words::group_of))]
-fn group_in_exact(word: &[u8]) -> Option<(u32, u32)>
-    ensures { result ≡ group_of word.now }
 {
     let (i, rest) = first_part(word, b'-');
     if let Some((j, rest)) = part(rest, b'-')
@@ -182,16 +163,10 @@ fn group_in_exact(word: &[u8]) -> Option<(u32, u32)>
 }
 
 /// The numbers that a list spells.
+#[tactic(auto, unfolding(crate::specs::Words::list_of))]
 pub fn numbers_in(alloc: Global, word: &[u8]) -> Result<Option<Numbers>, AllocError>
     ensures exact { IfOk result (λ found. found ≡ list_of number32 word.now) }
     ensures sound { IfOk result (IsTextOf (list_text decimal) FitsNumbers word.now) }
-{
-    numbers_in_exact(alloc, word)
-}
-
-#[tactic(auto, unfolding(crate::specs::Words::list_of))]
-fn numbers_in_exact(alloc: Global, word: &[u8]) -> Result<Option<Numbers>, AllocError>
-    ensures { IfOk result (λ found. found ≡ list_of number32 word.now) }
 {
     if is(word, "-") {
         return Ok(Some(Numbers::of(Vec::new(alloc))));
@@ -220,16 +195,10 @@ fn all_numbers(alloc: Global, word: &[u8]) -> Result<Option<Numbers>, AllocError
 }
 
 /// The indices that a list spells.
+#[tactic(auto, unfolding(crate::specs::Words::list_of))]
 pub fn indices_in(alloc: Global, word: &[u8]) -> Result<Option<Numbers>, AllocError>
     ensures exact { IfOk result (λ found. found ≡ list_of place_of word.now) }
     ensures sound { IfOk result (IsTextOf (list_text index) FitsIndices word.now) }
-{
-    indices_in_exact(alloc, word)
-}
-
-#[tactic(auto, unfolding(crate::specs::Words::list_of))]
-fn indices_in_exact(alloc: Global, word: &[u8]) -> Result<Option<Numbers>, AllocError>
-    ensures { IfOk result (λ found. found ≡ list_of place_of word.now) }
 {
     if is(word, "-") {
         return Ok(Some(Numbers::of(Vec::new(alloc))));

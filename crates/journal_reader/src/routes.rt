@@ -16,12 +16,6 @@ pub fn routes_in(alloc: Global, word: &[u8]) -> Result<Option<SharedRoutes>, All
     ensures exact { IfOk result (λ found. found ≡ routes_spelled word.now) }
     ensures sound { IfOk result (IsTextOf routes_text FitsRoutes word.now) }
 {
-    routes_in_exact(alloc, word)
-}
-
-fn routes_in_exact(alloc: Global, word: &[u8]) -> Result<Option<SharedRoutes>, AllocError>
-    ensures { IfOk result (λ found. found ≡ routes_spelled word.now) }
-{
     let Some(routes) = all_routes(alloc, word)? else {
         return Ok(None);
     };
