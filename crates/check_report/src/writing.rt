@@ -6,7 +6,7 @@ ghost use Rattle.std.specs.String.{string_bytes};
 ghost use Rattle.span_rating.specs.Loading.{AreSmall};
 ghost use Rattle.day_text.specs.Spans.{AreSpans, IsProbeSpan};
 ghost use Rattle.check_report.specs.Probes.{AddsOne, AreTexts, Grew};
-ghost use Rattle.check_report.specs.Reports.{HasOneReport, IsOnlyReport, IsProbeText, IsReport, ReportIsOne, design_line, end_name, high_line, judgement_text, legal_line, moment_peak_line, over_line, peaks_text, rule_name, shear_peak_line, truck_line, truck_text, wide_line};
+ghost use Rattle.check_report.specs.Reports.{IsOnlyReport, IsProbeText, IsReport, ReportIsOne, design_line, end_name, high_line, judgement_text, legal_line, moment_peak_line, over_line, peaks_text, rule_name, shear_peak_line, truck_line, truck_text, wide_line};
 
 use crate::probes::{add_rating, add_span};
 use axle_limits::{Finding, LEGAL_HEIGHT, LEGAL_WIDTH, Rule, findings};
@@ -27,8 +27,11 @@ pub fn report(alloc: Global, file: &CheckFile) -> Result<String, NoMemory>
     ensures report { IfOk result (λ text. IsReport file.now (string_bytes text)) }
     ensures only { IfOk result (λ text. IsOnlyReport file.now (string_bytes text)) }
 {
-    one_report(file);
-    let text = whole_report(alloc, file)?;
+    let train = file.truck.load.train();
+    let probes = file.probes.as_slice();
+    report_is_one();
+    let mut text = truck_report(alloc, &file.truck)?;
+    add_probes(&mut text, train, probes)?;
     Ok(text)
 }
 
@@ -36,24 +39,6 @@ pub fn report(alloc: Global, file: &CheckFile) -> Result<String, NoMemory>
 pub fn report_is_one()
     ensures { ReportIsOne }
 {}
-
-// The law for this file, whose truck and probes tell that they are within their bounds.
-fn one_report(file: &CheckFile)
-    ensures { HasOneReport file.now }
-{
-    let _train = file.truck.load.train();
-    let _probes = file.probes.as_slice();
-    report_is_one();
-}
-
-// The report, as its definition has it.
-fn whole_report(alloc: Global, file: &CheckFile) -> Result<String, NoMemory>
-    ensures { IfOk result (λ text. IsReport file.now (string_bytes text)) }
-{
-    let mut text = truck_report(alloc, &file.truck)?;
-    add_probes(&mut text, file.truck.load.train(), file.probes.as_slice())?;
-    Ok(text)
-}
 
 // The report on a truck alone.
 fn truck_report(alloc: Global, truck: &Truck) -> Result<String, NoMemory>
