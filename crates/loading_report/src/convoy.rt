@@ -22,7 +22,9 @@ pub fn convoy_report(alloc: Global, convoy: &Convoy, probes: &Probes) -> Result<
     ensures report { IfOk result (λ text. IsConvoyReport convoy.now probes.now (string_bytes text)) }
     ensures only { IfOk result (λ text. IsOnlyConvoyReport convoy.now probes.now (string_bytes text)) }
 {
-    let text = whole_report(alloc, convoy, probes.as_slice())?;
+    let mut text = String::new(alloc);
+    add_convoy(&mut text, convoy)?;
+    add_probes(&mut text, convoy, probes.as_slice())?;
     Ok(text)
 }
 
@@ -33,17 +35,6 @@ pub fn convoy_refusal_line(alloc: Global, refusal: ConvoyRefusal) -> Result<Stri
     let number = refusal.number();
     let mut text = String::new(alloc);
     write!(text, "refused: convoy {number}\n")?;
-    Ok(text)
-}
-
-// The report, as its definition has it.
-fn whole_report(alloc: Global, convoy: &Convoy, probes: &[Probe]) -> Result<String, NoMemory>
-    requires { AreSpans probes.now }
-    ensures { IfOk result (λ text. IsConvoyReport convoy.now probes.now (string_bytes text)) }
-{
-    let mut text = String::new(alloc);
-    add_convoy(&mut text, convoy)?;
-    add_probes(&mut text, convoy, probes)?;
     Ok(text)
 }
 

@@ -21,17 +21,8 @@ pub fn design_report(alloc: Global, file: &CheckFile) -> Result<String, NoMemory
     ensures report { IfOk result (λ text. IsDesignReport file.now (string_bytes text)) }
     ensures only { IfOk result (λ text. IsOnlyDesignReport file.now (string_bytes text)) }
 {
-    let text = truck_report(alloc, file.truck.load.train(), file.probes.as_slice())?;
-    Ok(text)
-}
-
-// The report on a truck with these axles, as its definition has it.
-fn truck_report(alloc: Global, train: &Train, probes: &[Probe]) -> Result<String, NoMemory>
-    requires { AreSpans probes.now }
-    ensures { IfOk result (λ text. AreTexts (IsDesignText train.now) probes.now (string_bytes text)) }
-{
     let mut text = String::new(alloc);
-    add_probes(&mut text, train, probes)?;
+    add_probes(&mut text, file.truck.load.train(), file.probes.as_slice())?;
     Ok(text)
 }
 
