@@ -3,7 +3,6 @@ use Rattle.std.proofs.Common.{◌≡◌, ◌∙◌, ◌<◌, ap, sym, refl, subs
 use Rattle.std.specs.List.{All}
 use Rattle.std.specs.Result.{IsErrAnd}
 use Rattle.road_graph.specs.Roads.{IsRoads}
-use Rattle.fleet.specs.Bases.{BaseLists}
 use Rattle.day_text.specs.declared.orders.Order.{Order}
 use Rattle.day_text.specs.Days.{DayParts}
 use Rattle.office_core.specs.Machine.{IsLegal}
@@ -59,13 +58,9 @@ module _ (file : DayParts) (o : Opened) (caller : ℕ) (orders : List Order) (is
   when_refused (Ok now) h = tt
   when_refused (Err q) h = where_refused file q too_long h
 
--- the roads that an office tells of
-pub roads_in : (o seen : Opened) (base : BaseLists) → seen ≡ o → base ≡ seen.base → IsRoads base.roads → IsRoads o.base.roads
-roads_in o seen base same told roads = subst (λ (b : BaseLists). IsRoads b.roads) (told ∙ ap (λ (n : Opened). n.base) same) roads
-
--- and those of the file that it opened on
-pub roads_for : (file : DayParts) (o : Opened) → o ≡ newly_opened file.base file.day 1000000 → IsRoads o.base.roads → IsRoads file.base.roads
-roads_for file o is roads = subst (λ (n : Opened). IsRoads n.base.roads) is roads
+-- the roads that an office opened on
+pub roads_of : (file : DayParts) (o : Opened) → o ≡ newly_opened file.base file.day 1000000 → IsRoads file.base.roads → IsRoads o.base.roads
+roads_of file o is roads = subst (λ (n : Opened). IsRoads n.base.roads) (sym is) roads
 
 -- what is so is so where a file is too long
 pub always : {T A : Type 0} (r : Result T ServingRefusal) → A → IfErr r (λ q. q ≡ TooMany → A)

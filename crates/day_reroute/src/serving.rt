@@ -16,7 +16,6 @@ ghost use Rattle.day_reroute.specs.Serving.{AreLong, HasFinished, HasRerouted, H
 
 use crate::refusal::ServingRefusal;
 use command_calls::{runs_are_one, scripts_are_short};
-use day_start::prepare;
 use day_text::{DayFile, Order};
 use day_trial::{Blanks, LoneOffice};
 use office_core::{Office, answers_are_one};
@@ -45,12 +44,12 @@ pub fn serve_rerouted(alloc: Global, file: DayFile) -> Result<Office, ServingRef
     ensures roads { OnOk result (IsRoads file.base.roads) }
     ensures long_roads { IfErr result (λ refusal. refusal ≡ TooMany → IsRoads file.base.roads) }
 {
-    let file = prepare(alloc, file)?;
-    serve_orders::<Brand, Brand>(alloc, file, Blanks::new())
+    serve_counted::<Brand, Brand>(alloc, file, Blanks::new())
 }
 
-// The same, whatever the base keeps of its trucks, with the counters of these blanks.
-fn serve_orders<F: Ledger, O: Ledger>(
+// Opens an office whose tests are counted by ledgers of these blanks, and has it carry out each command of the file and then
+// apply again for what the command recalled.
+fn serve_counted<F: Ledger, O: Ledger>(
     alloc: Global,
     file: DayFile,
     blanks: Blanks,
@@ -63,11 +62,9 @@ fn serve_orders<F: Ledger, O: Ledger>(
     ensures roads { OnOk result (IsRoads file.base.roads) }
     ensures long_roads { IfErr result (λ refusal. refusal ≡ TooMany → IsRoads file.base.roads) }
 {
-    let (base, day, actors, orders) = file.into_parts();
     // the number that no actor has
-    let caller = actors.as_slice().len() as u32;
-    drop(actors);
-    let lone = LoneOffice::<F, O>::start(alloc, base, day, MOST_ENTRIES, blanks)?;
+    let caller = file.actors().len() as u32;
+    let (lone, orders) = LoneOffice::<F, O>::open(alloc, file, MOST_ENTRIES, blanks)?;
     let served = serve_lone(alloc, lone, caller, orders.as_slice());
     drop(orders);
     served
@@ -80,6 +77,7 @@ fn serve_lone<F: Ledger, O: Ledger>(
     caller: u32,
     orders: &[Order],
 ) -> Result<Office, ServingRefusal>
+    requires roads { IsRoads lone.base.roads }
     requires sound { All (λ o. MayCarryOut lone.base o.command) orders.now }
     requires callers { All (λ o. o.actor < caller) orders.now }
     requires caller { caller ≤ 16 }
@@ -91,9 +89,7 @@ fn serve_lone<F: Ledger, O: Ledger>(
     ensures short { IfOk result (λ office. length office.history ≤ 1000000) }
     ensures refused { IfErr result (λ refusal. refusal ≡ TooMany
         → AreLong lone.base lone.opening lone.most caller orders.now) }
-    ensures roads { IsRoads lone.base.roads }
 {
-    lone.office().base().lists_are_in_order();
     let mut lone = lone;
     let carried = carry_out_all(alloc, &mut lone, caller, orders);
     let office = lone.into_office();

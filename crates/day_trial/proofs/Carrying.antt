@@ -7,7 +7,6 @@ use Rattle.std.proofs.lemmas.Bool.{leb-true}
 use Rattle.std.proofs.lemmas.List.{append-nil, length-append}
 use Rattle.std.proofs.lemmas.List.Elements.{All-append, All-nil, All-weaker}
 use Rattle.names.specs.declared.refusal.NoMemory.{NoMemory}
-use Rattle.road_graph.specs.Roads.{IsRoads}
 use Rattle.fleet.specs.Bases.{BaseLists}
 use Rattle.day_text.specs.declared.orders.Order.{Order}
 use Rattle.day_text.specs.Days.{DayParts}
@@ -126,14 +125,6 @@ found_memory found (o ∷ os) history h =
     (All-append (λ (e : Entry). e.reply ≢ reply.NoMemory) h.front h.back
     (found o.actor (o.command ∷ []) h.front (h.front, [], h.finished, refl, sym (append-nil h.front))) (found_memory found os h.back h.behind))
 
--- an office that opened on the parts of a file
-pub opened_for : (file : DayParts) (o : Opened) (base : BaseLists) (day : List ℕ) (most : ℕ) → o ≡ newly_opened base day most → base ≡ file.base → day ≡ file.day → o ≡ newly_opened file.base file.day most
-opened_for file o base day most is same_base same_day = is ∙ (ap (λ (b : BaseLists). newly_opened b day most) same_base ∙ ap (λ (d : List ℕ). newly_opened file.base d most) same_day)
-
--- the commands of a file, as they were handed on
-pub orders_of : (file : DayParts) (orders items : List Order) → orders ≡ items → items ≡ file.commands → orders ≡ file.commands
-orders_of file orders items are told = are ∙ told
-
 module _ (file : DayParts) (orders : List Order) (are : orders ≡ file.commands) where
   -- the callers of a file are few
   pub callers_for : length file.actors ≤ 16 → All (λ o. o.actor < length file.actors) file.commands → All (λ o. o.actor < 65536) orders
@@ -152,10 +143,6 @@ module _ (file : DayParts) (orders : List Order) (are : orders ≡ file.commands
 
       day_is : now.opening ≡ file.day
       day_is = has.opening ∙ ap (λ (n : Opened). n.opening) is
-
-      -- the roads that it tells of are those of the file
-      pub roads_for : (base : BaseLists) → base ≡ now.base → IsRoads base.roads → IsRoads file.base.roads
-      roads_for base same roads = subst (λ (b : BaseLists). IsRoads b.roads) (same ∙ base_is) roads
 
       -- where it carried out all the file's commands, it has served it
       pub served : FinishedFoundMemory → IsLegal now.base now.opening now.history → KeepsPromises now.base now.opening now.history → IsSerial file now.history

@@ -1,6 +1,7 @@
 // An office that nobody else calls.
 
-ghost use Rattle.std.specs.Prelude.{◌≡◌, ◌<◌, ◌≤◌, IfOk};
+ghost use Rattle.std.specs.Prelude.{◌≡◌, ◌<◌, ◌≤◌, IfOk, OnOk};
+ghost use Rattle.road_graph.specs.Roads.{IsRoads};
 ghost use Rattle.office_words.specs.Commands.{MayCarryOut};
 ghost use Rattle.office_core.specs.Offices.{newly_opened};
 ghost use Rattle.day_trial.specs.Blanks.{AreBlanks};
@@ -8,7 +9,8 @@ ghost use Rattle.day_trial.specs.Serving.{WasCarriedOut};
 
 use crate::blanks::Blanks;
 use command_calls::{Errand, Finder, OpenGate, carry_out};
-use day_text::Order;
+use day_start::prepare;
+use day_text::{DayFile, Order};
 use fleet::Base;
 use names::NoMemory;
 use office_core::{CountedOffice, Office, OneSeat};
@@ -44,6 +46,33 @@ impl<F: Ledger, O: Ledger> Model for LoneOffice<F, O> {
 }
 
 impl<F: Ledger, O: Ledger> LoneOffice<F, O> {
+    /// An office about the roads and trucks of this file, which opens on its day, with room for so many entries; and the file's
+    /// commands. Its base keeps what is the same for all of them. `NoMemory` where no memory was left.
+    pub fn open(
+        alloc: Global,
+        file: DayFile,
+        most: u32,
+        blanks: Blanks,
+    ) -> Result<(LoneOffice<F, O>, Vec<Order>), NoMemory>
+        requires some { 1 ≤ most }
+        requires bounded { most ≤ 1000000 }
+        requires blanks { AreBlanks F.name F.parts O.name O.parts blanks }
+        ensures office { IfOk result (λ opened. opened.0 ≡ newly_opened file.base file.day most) }
+        ensures orders { IfOk result (λ opened. opened.1.items ≡ file.commands) }
+        ensures roads { OnOk result (IsRoads file.base.roads) }
+    {
+        let (base, day, actors, orders) = prepare(alloc, file)?.into_parts();
+        drop(actors);
+        base.lists_are_in_order();
+        match LoneOffice::start(alloc, base, day, most, blanks) {
+            Ok(lone) => Ok((lone, orders)),
+            Err(no_memory) => {
+                drop(orders);
+                Err(no_memory)
+            }
+        }
+    }
+
     /// An office about this base, which opens on this day, with room for so many entries. Nothing is counted yet, and nothing
     /// is known of the trucks. `NoMemory` where no memory was left.
     pub fn start(

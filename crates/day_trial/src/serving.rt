@@ -13,7 +13,6 @@ ghost use Rattle.day_trial.specs.Serving.{HasCarriedOut, HasServed};
 use crate::blanks::Blanks;
 use crate::lone::LoneOffice;
 use command_calls::{most_entries, scripts_are_short, unfoldings_are_short};
-use day_start::prepare;
 use day_text::{DayFile, Order};
 use names::NoMemory;
 use office_core::Office;
@@ -31,12 +30,11 @@ pub fn serve_in_order(alloc: Global, file: DayFile) -> Result<Office, NoMemory>
     ensures served { IfOk result (λ office. IsSerial file office.history) }
     ensures roads { OnOk result (IsRoads file.base.roads) }
 {
-    let file = prepare(alloc, file)?;
-    serve_orders::<Brand, Brand>(alloc, file, Blanks::new())
+    serve_counted::<Brand, Brand>(alloc, file, Blanks::new())
 }
 
-// The same, whatever the base keeps of its trucks, with the counters of these blanks.
-fn serve_orders<F: Ledger, O: Ledger>(
+// Opens an office whose tests are counted by ledgers of these blanks, and has it carry out each command of the file.
+fn serve_counted<F: Ledger, O: Ledger>(
     alloc: Global,
     file: DayFile,
     blanks: Blanks,
@@ -46,15 +44,12 @@ fn serve_orders<F: Ledger, O: Ledger>(
     ensures served { IfOk result (λ office. IsSerial file office.history) }
     ensures roads { OnOk result (IsRoads file.base.roads) }
 {
-    let (base, day, actors, orders) = file.into_parts();
-    drop(actors);
-    let most = most_entries(orders.as_slice());
-    let mut lone = LoneOffice::<F, O>::start(alloc, base, day, most, blanks)?;
+    let most = most_entries(file.commands());
+    let (mut lone, orders) = LoneOffice::<F, O>::open(alloc, file, most, blanks)?;
     let carried = carry_out_all(alloc, &mut lone, orders.as_slice());
     drop(orders);
     let office = lone.into_office();
     carried?;
-    office.base().lists_are_in_order();
     // an office tells that its history is legal and keeps its promises; and finished commands found memory
     let _history = office.history();
     scripts_are_short();

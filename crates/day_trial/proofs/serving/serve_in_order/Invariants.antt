@@ -1,7 +1,7 @@
 use Rattle.day_trial.proofs.serving.serve_in_order.Given as goal
 
-abbrev pub ghosts-serve_orders-F-Ledger : goal.ghosts-serve_orders-F-Ledger
-ghosts-serve_orders-F-Ledger a = record { name = a.blanks.finder.name; parts = a.blanks.finder.parts }
+abbrev pub ghosts-serve_counted-F-Ledger : goal.ghosts-serve_counted-F-Ledger
+ghosts-serve_counted-F-Ledger a = record { name = a.blanks.finder.name; parts = a.blanks.finder.parts }
 
-abbrev pub ghosts-serve_orders-O-Ledger : goal.ghosts-serve_orders-O-Ledger
-ghosts-serve_orders-O-Ledger a = record { name = a.blanks.office.name; parts = a.blanks.office.parts }
+abbrev pub ghosts-serve_counted-O-Ledger : goal.ghosts-serve_counted-O-Ledger
+ghosts-serve_counted-O-Ledger a = record { name = a.blanks.office.name; parts = a.blanks.office.parts }
