@@ -1,7 +1,7 @@
 // The summary of a history.
 
 ghost use Rattle.std.specs.Prelude.{◌≡◌, ◌≤◌, ◌++◌, ◌*◌, ◌^◌, count_by, length, sum_by, IfOk, OnOk};
-ghost use Rattle.trial_report.specs.Summaries.{is_of, is_no_road, is_not_needed, is_permit, is_refusal, recalled_count, summary_of, told, last_version_from, version_behind};
+ghost use Rattle.trial_report.specs.Summaries.{is_of, recalled_count, summary_of, told, last_version_from, version_behind};
 
 use names::NoMemory;
 use numerals::write_number;
@@ -72,10 +72,10 @@ fn is_of_kind(kind: Kind, reply: &Reply) -> bool
     ensures { result ≡ is_of kind reply.now }
 {
     match kind {
-        Kind::Issued => issues(reply),
-        Kind::Refused => refuses(reply),
-        Kind::NoRoad => finds_no_road(reply),
-        Kind::NotNeeded => needs_none(reply),
+        Kind::Issued => matches!(reply, Reply::Issued { .. }),
+        Kind::Refused => matches!(reply, Reply::Refused { .. }),
+        Kind::NoRoad => matches!(reply, Reply::NoRoad),
+        Kind::NotNeeded => matches!(reply, Reply::NotNeeded),
     }
 }
 
@@ -119,32 +119,4 @@ fn version_of_reply(before: u32, reply: &Reply) -> u32
         Reply::Posted { version, .. } => *version,
         _ => before,
     }
-}
-
-// Whether a reply issues a permit.
-fn issues(reply: &Reply) -> bool
-    ensures { result ≡ is_permit reply.now }
-{
-    matches!(reply, Reply::Issued { .. })
-}
-
-// Whether a reply refuses one.
-fn refuses(reply: &Reply) -> bool
-    ensures { result ≡ is_refusal reply.now }
-{
-    matches!(reply, Reply::Refused { .. })
-}
-
-// Whether a reply says that there is no road.
-fn finds_no_road(reply: &Reply) -> bool
-    ensures { result ≡ is_no_road reply.now }
-{
-    matches!(reply, Reply::NoRoad)
-}
-
-// Whether a reply says that none is needed.
-fn needs_none(reply: &Reply) -> bool
-    ensures { result ≡ is_not_needed reply.now }
-{
-    matches!(reply, Reply::NotNeeded)
 }
