@@ -21,7 +21,7 @@ pub fn reroute_report(alloc: Global, caller: u32, history: &[Entry]) -> Result<V
 {
     let recalled = recalled(alloc, history)?;
     let mut text = Vec::new(alloc);
-    add_lines(alloc, &mut text, recalled.as_slice(), caller, history)?;
+    add_lines(&mut text, recalled.as_slice(), caller, history)?;
     Ok(text)
 }
 
@@ -48,7 +48,6 @@ fn add_recalled(numbers: &mut Vec<u32>, reply: &Reply) -> Result<(), AllocError>
 
 // A line for each of these permits, with the answers to the caller.
 fn add_lines(
-    alloc: Global,
     text: &mut Vec<u8>,
     permits: &[u32],
     caller: u32,
@@ -60,7 +59,7 @@ fn add_lines(
     let mut left = permits;
     'entries: for entry in history {
         if entry.caller == caller {
-            left = add_first(alloc, text, left, &entry.reply)?;
+            left = add_first(text, left, &entry.reply)?;
         }
     }
     Ok(())
@@ -68,7 +67,6 @@ fn add_lines(
 
 // The line of the first of these permits, if there is one, by the next answer; and the permits that are left.
 fn add_first<'a>(
-    alloc: Global,
     text: &mut Vec<u8>,
     permits: &'a [u32],
     reply: &Reply,
@@ -79,12 +77,12 @@ fn add_first<'a>(
     let Some((permit, left)) = permits.split_first() else {
         return Ok(permits);
     };
-    add_line(alloc, text, *permit, reply)?;
+    add_line(text, *permit, reply)?;
     Ok(left)
 }
 
 // The line of a permit.
-fn add_line(alloc: Global, text: &mut Vec<u8>, permit: u32, reply: &Reply) -> Result<(), NoMemory>
+fn add_line(text: &mut Vec<u8>, permit: u32, reply: &Reply) -> Result<(), NoMemory>
     ensures { OnOk result (text.new.items ≡ text.old.items ++ line_for permit reply.now) }
 {
     match reply {
@@ -92,8 +90,8 @@ fn add_line(alloc: Global, text: &mut Vec<u8>, permit: u32, reply: &Reply) -> Re
             number,
             version,
             routes,
-        } => add_replaced(alloc, text, permit, *number, *version, routes),
-        Reply::Refused { version, limit } => add_refused(alloc, text, permit, *version, limit),
+        } => add_replaced(text, permit, *number, *version, routes),
+        Reply::Refused { version, limit } => add_refused(text, permit, *version, limit),
         _ => Ok(()),
     }
 }
@@ -101,7 +99,6 @@ fn add_line(alloc: Global, text: &mut Vec<u8>, permit: u32, reply: &Reply) -> Re
 // The line of a permit that is replaced.
 #[tactic(auto, using(crate::proofs::Lines::replaced_adds))]
 fn add_replaced(
-    alloc: Global,
     text: &mut Vec<u8>,
     permit: u32,
     number: u32,
@@ -111,7 +108,7 @@ fn add_replaced(
     ensures { OnOk result
         (text.new.items ≡ text.old.items ++ replaced_line permit number version routes.now) }
 {
-    let routes = routes_text(alloc, routes)?;
+    let routes = routes_text(*text.allocator(), routes)?;
     add_number(text, "permit ", permit)?;
     add_number(text, " replaced ", number)?;
     add_number(text, " at ", version)?;
@@ -123,17 +120,11 @@ fn add_replaced(
 
 // The line of a permit whose trip fails a limit now.
 #[tactic(auto, using(crate::proofs::Lines::refused_adds))]
-fn add_refused(
-    alloc: Global,
-    text: &mut Vec<u8>,
-    permit: u32,
-    version: u32,
-    limit: &Limit,
-) -> Result<(), NoMemory>
+fn add_refused(text: &mut Vec<u8>, permit: u32, version: u32, limit: &Limit) -> Result<(), NoMemory>
     ensures { OnOk result
         (text.new.items ≡ text.old.items ++ refused_line permit version limit.now) }
 {
-    let limit = limit_text(alloc, limit)?;
+    let limit = limit_text(*text.allocator(), limit)?;
     add_number(text, "permit ", permit)?;
     add_number(text, " refused ", version)?;
     text.push(b' ')?;
