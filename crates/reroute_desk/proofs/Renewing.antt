@@ -33,7 +33,7 @@ same_trip e f = cc
 -- What is so of the trip for which a permit was issued: it can be asked for, its truck needs a permit, and there is a road.
 pub record IsWanted (base : BaseLists) (trip : Application) : Type 0 where
   pub sound : Sound base trip
-  pub needed : loads.IsLegal (truck_of base trip.truck).load → ⊥
+  pub needed : loads.IsLegalLoad (truck_of base trip.truck).load → ⊥
   pub road : (route : Route) × IsRoadWalk base trip.from trip.to route
 
 -- routes with a segment are at least one
@@ -132,7 +132,7 @@ module _ (base : BaseLists) (day : Day) (es : History) (caller : ℕ) (trip : Ap
     by reply.NotNeeded is answers =
         let true_one = after.not_needed es caller (call.Held a) (at_end reply.NotNeeded is) in
         let same : true_one.trip ≡ a = same_trip true_one.asked.is refl in
-        absurd (w.needed (subst (λ (t : Application). loads.IsLegal (truck_of base t.truck).load) same true_one.legal))
+        absurd (w.needed (subst (λ (t : Application). loads.IsLegalLoad (truck_of base t.truck).load) same true_one.legal))
     by reply.NoRoad is answers =
         let true_one = after.no_road es caller (call.Held a) (at_end reply.NoRoad is) in
         let same : true_one.trip ≡ a = same_trip true_one.asked.is refl in
