@@ -83,7 +83,7 @@ impl<C: OfficeCalls> Worker<C> {
         self.work_counted::<Brand, G>(alloc, base, gate, Blank::new(1));
     }
 
-    // Carries out the script, with a counter of this blank for what is tested outside of the office.
+    // The same, with this counter.
     fn work_counted<L: Ledger, G: Gate>(
         &mut self,
         alloc: Global,

@@ -54,7 +54,7 @@ pub fn lone_actors_are_one()
     ensures { LoneActorsAreOne }
 {}
 
-// Opens a desk on the day file, has its actors work there, and closes it. What the base keeps of its trucks makes no difference.
+// The same, whatever the base keeps of its trucks.
 fn serve_actors<R: Threads + Wait + AllocGlobal + Sync, G: Gate + Sync, L: Ledger + Send + Sync>(
     rt: &R,
     file: DayFile,

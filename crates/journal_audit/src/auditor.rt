@@ -61,7 +61,7 @@ impl Auditor {
         }
     }
 
-    // Who has judged no entry yet: an office about this base, its versions, and seats at which nothing is known.
+    // The same, with seats at which nothing is known yet.
     fn with_seats(
         alloc: Global,
         base: Arc<Base, Global>,
