@@ -83,7 +83,7 @@ impl<C: OfficeCalls> Worker<C> {
         self.work_counted::<Brand, G>(alloc, base, gate, Blank::new(1));
     }
 
-    // The same, with this counter.
+    // Carries out the script with a finder that counts by this counter.
     fn work_counted<L: Ledger, G: Gate>(
         &mut self,
         alloc: Global,

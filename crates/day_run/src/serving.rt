@@ -54,7 +54,7 @@ pub fn lone_actors_are_one()
     ensures { LoneActorsAreOne }
 {}
 
-// The same, whatever the base keeps of its trucks.
+// Serves a file whose base may keep what its trucks may pass.
 fn serve_actors<R: Threads + Wait + AllocGlobal + Sync, G: Gate + Sync, L: Ledger + Send + Sync>(
     rt: &R,
     file: DayFile,

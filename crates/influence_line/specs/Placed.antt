@@ -27,13 +27,6 @@ right_line n (negsuc x) = 0
 abbrev pub moment_sum : ℕ → ℕ → List Load → ℕ
 moment_sum n r loads = sum_by (λ l. l.weight * moment_line n r l.at) loads
 
--- the sums over the loads of the two reactions. Each reaction is its sum over q * span, in pounds
-abbrev pub left_sum : ℕ → List Load → ℕ
-left_sum n loads = sum_by (λ l. l.weight * left_line n l.at) loads
-
-abbrev pub right_sum : ℕ → List Load → ℕ
-right_sum n loads = sum_by (λ l. l.weight * right_line n l.at) loads
-
 -- a train whose first axle stands at `lead`: each axle stands q times its place, in inches, further right
 abbrev pub placed : ℕ → ℤ → List Axle → List Load
 placed q lead axles = map (λ a. record { at = lead +ℤ pos (q * a.place); weight = a.weight }) axles

@@ -61,7 +61,7 @@ impl Auditor {
         }
     }
 
-    // The same, with seats at which nothing is known yet.
+    // An auditor of this replay and these versions, with seats at which nothing is known yet.
     fn with_seats(
         alloc: Global,
         base: Arc<Base, Global>,

@@ -57,7 +57,3 @@ pub record RoseAt (place : ℕ) (before now : List ℕ) : Type 0 where
   pub are : now ≡ front ++ new ∷ back
   pub is_at : length front ≡ place
   pub rose : Rose old new
-
--- a delivery that a fault stopped: it stopped at some subscriber, and the count of just that one's object rose
-abbrev pub WasStopped : List Standing → List Recall → List Standing → List ℕ → List ℕ → Type 0
-WasStopped before recalls after counts now = (place : ℕ) × (StoppedAt place before recalls after × RoseAt place counts now)
