@@ -52,19 +52,26 @@ fn begin_of_run(permits: &[Permit], numbers: &[u32], end: usize, route: &[u32]) 
     ensures alike { AllWithin (λ n. segments_of permits.now n ≡ route.now) numbers.now result end }
 {
     for i in (0..end).rev() {
-        if !goes_along(permits, numbers[i], route) {
+        if !are_same(segments_of(permits, numbers[i]), route) {
             return i + 1;
         }
     }
     0
 }
 
-// Whether a permit has this route. It is not said where it has not.
-fn goes_along(permits: &[Permit], number: u32, route: &[u32]) -> bool
-    requires { is_issued permits.now number ≡ true }
-    ensures { result ≡ true → segments_of permits.now number ≡ route.now }
+// Whether two lists of numbers are equal. It reads them whole, since a loop without an early way out takes several numbers at a
+// time, and the routes of neighbours are mostly equal. It is not said where they are not.
+fn are_same(one: &[u32], other: &[u32]) -> bool
+    ensures { result ≡ true → one.now ≡ other.now }
 {
-    segments_of(permits, number) == route
+    if one.len() != other.len() {
+        return false;
+    }
+    let mut same = true;
+    for i in 0..one.len() {
+        same &= one[i] == other[i];
+    }
+    same
 }
 
 // The segments of the routes of a permit.
