@@ -16,7 +16,7 @@ pub(crate) const GIVEN_BACK: usize = 4;
 pub(crate) const OVER_ALLOWANCE: usize = 5;
 
 /// Which of these days has a bridge that is rated lower.
-pub(crate) const RATED: usize = 8;
+pub(crate) const RATED: usize = 7;
 
 /// A day of two postings, of which each recalls a permit, the later one first. Its journal is that of the file
 /// `two-recalls.csv` among the examples.
@@ -49,7 +49,7 @@ end 6
 );
 
 /// A day file, and the journal that `day` writes for it.
-pub(crate) const DAYS: [(&str, &str); 12] = [
+pub(crate) const DAYS: [(&str, &str); 11] = [
     // One road posted at 168 in, and a load as high as that.
     (
         "\
@@ -193,31 +193,6 @@ permit-journal 3
 1 snapshot = at 0
 1 submit truck 1 from 1 to 2 asked none days 2026-03-02 2026-03-06 seen 0 cut 1 = refused 0 segment 1 group 2-5 weight 68000 limit 65500 allowance 1038
 end 2
-",
-    ),
-    // A tridem group that weighs just what is posted, and then a pound more than is posted.
-    (
-        "\
-day,2026-03-02,,,,,,
-node,A,,,,,,
-node,B,,,,,,
-segment,S1,A,B,5000,,,
-limit,S1,tridem,51000,,,,
-truck,TRI,ACME,168,102,720,0:12000 180:17000 234:17000 288:17000,
-actor,ann,,,,,,
-apply,ann,TRI,A,B,,2026-03-02,2026-03-06
-post,ann,S1,tridem,50999,,,
-apply,ann,TRI,A,B,,2026-03-02,2026-03-06
-end,,,,,,,
-",
-        "\
-permit-journal 3
-1 snapshot = at 0
-1 submit truck 1 from 1 to 2 asked none days 2026-03-02 2026-03-06 seen 0 route 1 = issued 1 at 0 route 1
-1 post segment 1 tridem 50999 = posted 1 recalled 1
-1 snapshot = at 1
-1 submit truck 1 from 1 to 2 asked none days 2026-03-02 2026-03-06 seen 1 cut 1 = refused 1 segment 1 tridem 2-4 weight 51000 over 50999
-end 5
 ",
     ),
     // The allowance at which that group passes.

@@ -7,19 +7,6 @@ use std::alloc::Global;
 use std::process::Abort;
 use trip_routes::SharedRoutes;
 
-// A load as high as the one road is posted.
-const ISSUED: &str = "\
-day,2026-03-02,,,,,,
-node,A,,,,,,
-node,B,,,,,,
-segment,S1,A,B,5000,,,
-limit,S1,height,168,,,,
-truck,T1,ACME,168,102,720,0:12000 180:17000 228:17000,
-actor,ann,,,,,,
-apply,ann,T1,A,B,,2026-03-02,2026-03-06
-end,,,,,,,
-";
-
 // Nine records: three nodes, two segments one behind the other, a span, a truck and an actor.
 const BEGUN: &str = "\
 day,2026-03-02,,,,,,
@@ -33,10 +20,16 @@ truck,K,ACME,168,102,720,0:1 180:1,
 actor,ann,,,,,,
 ";
 
+// Those nine records, a trip over both segments, and the end.
+fn whole_day(rt: &impl Abort, alloc: Global) -> String {
+    let text = format!(in alloc; "{BEGUN}apply,ann,K,A,C,,2026-03-02,2026-03-06\nend,,,,,,,\n");
+    text.expect(rt, "memory")
+}
+
 // What was read is let go by a call of `drop`: where a scope lets it go, the proof of the whole function goes
 // through its parts. For the same reason no function both reads and goes through a table.
 
-// A day of 2 March 2026 with two nodes, a segment, a truck, an actor and a command.
+// The whole day is of 2 March 2026, with three nodes, two segments, a span, a truck, an actor and a command.
 fn take(rt: &impl Abort, alloc: Global, text: &str) {
     let file = read_day(alloc, text.as_bytes()).expect(rt, text);
     let date = file.day().text();
@@ -48,7 +41,7 @@ fn take(rt: &impl Abort, alloc: Global, text: &str) {
     holds(rt, date.as_slice() == b"2026-03-02".as_slice(), text);
     holds(
         rt,
-        roads == (2, 1, 0) && trucks == 1 && work == (1, 1),
+        roads == (3, 2, 1) && trucks == 1 && work == (1, 1),
         text,
     );
 }
@@ -57,9 +50,10 @@ fn take(rt: &impl Abort, alloc: Global, text: &str) {
 #[test]
 fn takes_a_day_as_programs_write_it(rt: HostRuntime) {
     let alloc = rt.alloc();
-    let marked = format!(in alloc; "\u{feff}{ISSUED}").expect(&rt, "memory");
-    let returned = ISSUED.replace(alloc, "\n", "\r\n").expect(&rt, "memory");
-    take(&rt, alloc, ISSUED);
+    let text = whole_day(&rt, alloc);
+    let marked = format!(in alloc; "\u{feff}{}", text.as_str()).expect(&rt, "memory");
+    let returned = text.replace(alloc, "\n", "\r\n").expect(&rt, "memory");
+    take(&rt, alloc, text.as_str());
     take(&rt, alloc, marked.as_str());
     take(&rt, alloc, returned.as_str());
 }
@@ -117,7 +111,7 @@ fn deal(rt: &impl Abort, alloc: Global, text: &str, wanted: &str) {
 #[test]
 fn gives_each_actor_its_commands(rt: HostRuntime) {
     deal(&rt, rt.alloc(), SHARED, " sdg  ds");
-    deal(&rt, rt.alloc(), ISSUED, " a");
+    deal(&rt, rt.alloc(), whole_day(&rt, rt.alloc()).as_str(), " a");
     deal(&rt, rt.alloc(), EMPTY, "");
 }
 
@@ -479,9 +473,10 @@ fn refuses_the_first_record_that_is_bad(rt: HostRuntime) {
 // The whole text is taken, also without its last line feed, and each shorter front of it has a bad record.
 #[test]
 fn refuses_each_front_of_a_day(rt: HostRuntime) {
-    for length in 0..=ISSUED.len() {
-        let taken = ISSUED.len() - length <= 1;
-        let found = refusal(rt.alloc(), &ISSUED.as_bytes()[..length]);
+    let text = whole_day(&rt, rt.alloc());
+    for length in 0..=text.len() {
+        let taken = text.len() - length <= 1;
+        let found = refusal(rt.alloc(), &text.as_bytes()[..length]);
         let is_so = match found {
             None => taken,
             Some(FileRefusal::Refused { cause, .. }) => !taken && matches!(cause, Cause::Bad(_)),
