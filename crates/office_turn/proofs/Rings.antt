@@ -1,5 +1,5 @@
--- That a bell is rung keeps the rule.
-use Rattle.std.proofs.Common.{ℕ, zero, suc, ◌+◌, ◌%◌, ◌^◌, ◌≤◌, List, Option, get_or, set, sym, refl, ap, subst, arith}
+-- Whatever becomes of a word that sleepers use, the rule is kept.
+use Rattle.std.proofs.Common.{ℕ, zero, suc, ◌≤◌, List, Option, get_or, set, sym, refl, ap, subst, arith}
 use mathlib.Core.Option.{none}
 use Rattle.atomic_table.specs.Table.{State, Me, step, keeps, Allows}
 use Rattle.atomic_table.proofs.Lists.{set_again}
@@ -42,7 +42,7 @@ module _ {V E T : Type 0} (caller : E → ℕ) (story : V → List E) (terms : V
     numbers = r.numbers;
   }
 
-  pub rings : (slots id i : ℕ) (m : Mine) → 2 ≤ i → Allows Rule slots id m i (λ n. (n + 1) % 2 ^ 64) (stayed (step slots i 1 0 none) m)
-  rings slots id i m behind s r _ at _ =
-      let n : ℕ = (get_or s.words i 0 + 1) % 2 ^ 64 in
+  pub rings : (slots id i k : ℕ) (f : ℕ → ℕ) (m : Mine) → 2 ≤ i → Allows Rule slots id m i f (stayed (step slots i k 0 none) m)
+  rings slots id i k f m behind s r _ at _ =
+      let n : ℕ = f (get_or s.words i 0) in
       (m.0, keeps, tt, subst (λ vs. Rule record { words = set s.words i n; homes = s.homes; views = vs }) (sym (set_again s.views id m.0 at)) (rung s r i n behind), refl)

@@ -1,6 +1,5 @@
-//! The rule of the table. Word 0 is the next ticket and word 1 the ticket now served. Each word behind them is a bell, on
-//! which those sleep whose tickets have it; the rule says nothing of bells. The one slot has the value, or nothing while a
-//! turn is held.
+//! The rule of the table. Word 0 is the next ticket and word 1 the ticket now served. The words behind them are for those who
+//! sleep, and the rule says nothing of them. The one slot has the value, or nothing while a turn is held.
 ghost use Rattle.office_turn.specs.Rule.{Turned, opening_view};
 
 use crate::story::Storied;
@@ -8,8 +7,8 @@ use crate::view::View;
 use atomic_table::TableRule;
 use std::snapshot::Snapshot;
 
-// The next ticket, the ticket now served, and the bells.
-pub const WORDS: usize = 18;
+// The next ticket, the ticket now served, and words for those who sleep.
+pub const WORDS: usize = 10;
 
 // What the table is told when it is made: the value at the start, which takes no bytes, and the most turns.
 #[derive(Drop)]

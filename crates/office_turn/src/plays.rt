@@ -33,7 +33,7 @@ impl<V: Storied> Play<Option<V>, View<V::Entry, V::Terms>> for PassOn {
     ghost then = { passed V.caller V.story };
 }
 
-// A bell is rung.
+// One who sleeps is counted, or the bell is rung.
 pub struct Ring;
 
 impl<S, E, T> Play<S, View<E, T>> for Ring {

@@ -12,10 +12,23 @@ use atomic_table::{Seat, Shared};
 use std::hint;
 use std::sync::Wait;
 
-// How often the one who is next looks before it sleeps.
+// How often one looks whether a turn can be had before it sleeps. Most turns are short.
 const LOOKS: u32 = 200;
 
-// Draws the next ticket, or finds that all have been drawn.
+// The word that tells how many sleep or are about to, and the word on which they sleep. They are not in the line of the cache of
+// the first two words.
+const SLEEPERS: usize = 8;
+
+const BELL: usize = 9;
+
+// Draws the next ticket once it is served, or finds that all have been drawn. A ticket is drawn only where no turn is held, so
+// whoever runs need not wait for one that sleeps.
+//
+// No wake is missed. Whoever wants to sleep is counted first, then reads the bell, and then looks whether a turn is held. Whoever
+// passes a turn on counts up word 1 first, then looks whether anybody is counted, rings the bell and wakes one. So either that
+// look finds the sleeper counted, or the sleeper finds that the turn was passed on. One who is counted and not asleep yet does not
+// fall asleep once the bell was rung, since the kernel compares the bell with what was read. Who is woken draws a ticket, and wakes
+// another when it passes its turn on; or it finds that no ticket is left, and wakes all.
 pub fn draw<V: Storied, R: Wait>(
     rt: &R,
     shared: &Shared<Option<V>, View<V::Entry, V::Terms>, Opening<V>, Law>,
@@ -23,7 +36,7 @@ pub fn draw<V: Storied, R: Wait>(
     most: u32,
 ) -> Result<u64, Worn>
     requires lock { (seat.old.table_id ≡ shared.now.table_id)
-        × (shared.now.table_id.words ≡ 18) × (most ≡ seat.old.me.0.most) }
+        × (shared.now.table_id.words ≡ 10) × (most ≡ seat.old.me.0.most) }
     requires view { (seat.old.me.0.ticket ≡ None)
         × (seat.old.me.0.is_spent ≡ false) × (seat.old.me.0.is_root ≡ false) }
     ensures drawn { IfOk result (λ ticket.
@@ -33,33 +46,55 @@ pub fn draw<V: Storied, R: Wait>(
         (worn.turns ≡ most) × (seat.new.me ≡ (with_worn seat.old.me.0, seat.old.me.1))) }
     ensures same { (seat.new.table_id ≡ seat.old.table_id) × (seat.new.id ≡ seat.old.id) }
 {
+    let mut looks = 0;
     for _ in rt.forever() {
         let next = shared.load::<Count>(seat, 0);
         if next == u64::from(most) {
+            shared.wake_all(BELL);
             return Err(Worn { turns: most });
         }
-        let found = shared.compare_exchange::<Draw>(seat, 0, next, next + 1);
-        if found == next {
-            return Ok(next);
+        if shared.peek(1) == next {
+            let found = shared.compare_exchange::<Draw>(seat, 0, next, next + 1);
+            if found == next {
+                return Ok(next);
+            }
+        } else if looks < LOOKS {
+            looks += 1;
+            hint::spin_loop();
+        } else {
+            sleep(rt, shared, seat);
+            looks = 0;
         }
     }
     unreachable!()
 }
 
-// Waits until the ticket is served, and takes the value. The one who is next looks a bounded number of times, since most
-// turns are short, and then sleeps like those further back, so that the processors are left to others.
-//
-// No wake is missed. The bell is read before the look. Whoever serves the ticket counts up word 1 first, then finds that the
-// ticket has been drawn, rings the bell, and wakes those who sleep on it. Where the look did not find the ticket served, all of
-// this comes after it: a sleeper is woken, and one who is not asleep yet does not fall asleep, since the kernel compares the
-// bell with what was read.
-pub fn wait_for<V: Storied, R: Wait>(
+// Sleeps until a turn was passed on, where one is held. It may return before.
+fn sleep<V: Storied, R: Wait>(
+    rt: &R,
+    shared: &Shared<Option<V>, View<V::Entry, V::Terms>, Opening<V>, Law>,
+    seat: &mut Seat<Option<V>, View<V::Entry, V::Terms>>,
+)
+    requires lock { (seat.old.table_id ≡ shared.now.table_id) × (shared.now.table_id.words ≡ 10) }
+    ensures same { (seat.new.table_id ≡ seat.old.table_id) × (seat.new.id ≡ seat.old.id) × (seat.new.me ≡ seat.old.me) }
+{
+    shared.fetch_add::<Ring>(seat, SLEEPERS, 1);
+    // Of a word the kernel compares the low half.
+    let rung = (shared.peek(BELL) % (1 << 32)) as u32;
+    if shared.peek(0) > shared.peek(1) {
+        shared.park(rt, BELL, rung);
+    }
+    shared.fetch_sub::<Ring>(seat, SLEEPERS, 1);
+}
+
+// Takes the value once the ticket is served, as it is where it was drawn while no turn was held.
+pub fn take<V: Storied, R: Wait>(
     rt: &R,
     shared: &Shared<Option<V>, View<V::Entry, V::Terms>, Opening<V>, Law>,
     seat: &mut Seat<Option<V>, View<V::Entry, V::Terms>>,
     ticket: u64,
 ) -> V
-    requires lock { (seat.old.table_id ≡ shared.now.table_id) × (shared.now.table_id.words ≡ 18) }
+    requires lock { (seat.old.table_id ≡ shared.now.table_id) × (shared.now.table_id.words ≡ 10) }
     requires view { (seat.old.me.0.ticket ≡ Some ticket) × (seat.old.me.0.looked ≡ false)
         × (seat.old.me.0.is_spent ≡ false) × (seat.old.me.0.is_root ≡ false) × (seat.old.me.1 ≡ []) }
     ensures view { seat.new.me ≡ (with_story seat.old.me.0 (V.story result), (0, None) ∷ []) }
@@ -69,33 +104,24 @@ pub fn wait_for<V: Storied, R: Wait>(
     ensures terms { Some (V.terms result) ≡ seat.old.me.0.terms }
     ensures same { (seat.new.table_id ≡ seat.old.table_id) × (seat.new.id ≡ seat.old.id) }
 {
-    let bell = bell_of(ticket);
-    let mut looks = 0;
     for _ in rt.forever() {
-        // Of a word the kernel compares the low half.
-        let rung = (shared.peek(bell) % (1 << 32)) as u32;
         let serving = shared.load::<Look>(seat, 1);
         if serving == ticket {
             return shared.exchange(seat, 0, None).unwrap();
         }
-        if serving + 1 == ticket && looks < LOOKS {
-            looks += 1;
-            hint::spin_loop();
-        } else {
-            shared.park(rt, bell, rung);
-        }
+        hint::spin_loop();
     }
     unreachable!()
 }
 
-// Puts the value back, and serves the next ticket. Where that one has been drawn, somebody may sleep, and is woken.
+// Puts the value back, and serves the next ticket. Where somebody sleeps, one is woken.
 pub fn put_back<V: Storied>(
     shared: &Shared<Option<V>, View<V::Entry, V::Terms>, Opening<V>, Law>,
     seat: &mut Seat<Option<V>, View<V::Entry, V::Terms>>,
     value: V,
 )
     requires lock { (seat.old.table_id ≡ shared.now.table_id)
-        × (shared.now.table_id.words ≡ 18) × (seat.old.me.0.most < 2 ^ 32) }
+        × (shared.now.table_id.words ≡ 10) × (seat.old.me.0.most < 2 ^ 32) }
     requires view { (seat.old.me.0.looked ≡ true) × (seat.old.me.0.is_spent ≡ false)
         × (seat.old.me.0.is_root ≡ false) × (seat.old.me.1 ≡ (0, None) ∷ []) }
     requires story { HasOneMore V.caller seat.old.me.0.number seat.old.me.0.seen (V.story value) }
@@ -106,11 +132,10 @@ pub fn put_back<V: Storied>(
 {
     let left = shared.exchange(seat, 0, Some(value));
     let None = left else { unreachable!() };
-    let served = shared.fetch_add::<PassOn>(seat, 1, 1);
-    if shared.peek(0) > served + 1 {
-        let bell = bell_of(served + 1);
-        shared.fetch_add::<Ring>(seat, bell, 1);
-        shared.wake_all(bell);
+    let _served = shared.fetch_add::<PassOn>(seat, 1, 1);
+    if shared.peek(SLEEPERS) > 0 {
+        shared.fetch_add::<Ring>(seat, BELL, 1);
+        shared.wake_one(BELL);
     }
 }
 
@@ -121,7 +146,7 @@ pub fn take_in<V: Storied>(
     pass: Seat<Option<V>, View<V::Entry, V::Terms>>,
 )
     requires lock { (root.old.table_id ≡ shared.now.table_id)
-        × (pass.table_id ≡ shared.now.table_id) × (shared.now.table_id.words ≡ 18) }
+        × (pass.table_id ≡ shared.now.table_id) × (shared.now.table_id.words ≡ 10) }
     requires root { (root.old.me.0.is_root ≡ true) × (root.old.me.0.is_spent ≡ false) }
     requires pass { (pass.me.0.is_root ≡ false) × (pass.me.0.is_spent ≡ false)
         × (pass.me.0.looked ≡ false) × (pass.me.0.ticket ≡ None) × (pass.me.1 ≡ []) }
@@ -132,12 +157,4 @@ pub fn take_in<V: Storied>(
 {
     shared.join_seat::<Receive>(root, pass);
     shared.load::<Tally>(root, 0);
-}
-
-// The word on which the one with a ticket sleeps. Tickets that are drawn one after another have different ones.
-fn bell_of(ticket: u64) -> usize
-    ensures behind { 2 ≤ result }
-    ensures within { result < 18 }
-{
-    2 + (ticket % 16) as usize
 }

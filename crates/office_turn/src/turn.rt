@@ -31,7 +31,7 @@ impl<V: Storied> Model for Turn<V> {
 
     ghost view = { λ t. lock_of t.table.shared.table_id (V.terms t.table.shared.key.value.value) t.most };
 
-    ghost invariant = { λ t. (t.table.shared.table_id.words ≡ 18) × (t.table.shared.table_id.slots ≡ 1)
+    ghost invariant = { λ t. (t.table.shared.table_id.words ≡ 10) × (t.table.shared.table_id.slots ≡ 1)
         × (t.most ≡ t.table.shared.key.most) × (t.most ≤ 1000000) };
 }
 
@@ -122,7 +122,7 @@ impl<V: Storied> Turn<V> {
         let shared = &self.table.shared;
         match steps::draw(rt, shared, &mut pass.seat, self.most) {
             Ok(ticket) => {
-                let value = steps::wait_for(rt, shared, &mut pass.seat, ticket);
+                let value = steps::take(rt, shared, &mut pass.seat, ticket);
                 let by = Snapshot::of(&*pass);
                 Ok(Held { value, by })
             }

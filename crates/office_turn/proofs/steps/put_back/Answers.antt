@@ -1,4 +1,4 @@
-use Rattle.std.proofs.Common.{rules, ◌∙◌, arith}
+use Rattle.std.proofs.Common.{rules, ◌∙◌, ◌+◌, ◌%◌, ◌^◌, arith}
 use Rattle.office_turn.proofs.Passes.{passes_at}
 use Rattle.office_turn.proofs.Rings.{rings}
 use Rattle.office_turn.proofs.steps.put_back.Goals as goal
@@ -11,8 +11,8 @@ fetch_add-served-requires g c = let v = c.requires.view in let t = c.requires.st
 )
 
 pub fetch_add-requires : goal.fetch_add-requires
-fetch_add-requires g c = let bell = c.bell_of-bell.ensures in (
+fetch_add-requires g c = (
   c.fetch_add-served.ensures.0 ∙ (c.exchange-left.ensures.0 ∙ c.requires.lock.0),
-  omega (arith, bell.within, c.requires.lock.1),
-  rings _ _ _ _ _ _ _ _ _ bell.behind,
+  omega (arith, c.requires.lock.1),
+  rings _ _ _ _ _ _ _ _ 1 (λ n. (n + 1) % 2 ^ 64) _ (omega arith),
 )

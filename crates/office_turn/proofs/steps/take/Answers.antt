@@ -1,7 +1,7 @@
 use Rattle.std.proofs.Common.{rules, ap, sym, ◌∙◌, ◌∷◌, Some}
 use Rattle.atomic_table.specs.Table.{rest}
 use Rattle.office_turn.proofs.Looks.{looks}
-use Rattle.office_turn.proofs.steps.wait_for.Goals as goal
+use Rattle.office_turn.proofs.steps.take.Goals as goal
 
 pub load-serving-requires : goal.load-serving-requires
 load-serving-requires g c = let same = ap (λ m. m.0) c.loop.invariant.2 in let v = c.requires.view in (
