@@ -13,3 +13,4 @@ pub mod Cuts
 pub mod Columns
 pub mod Staying
 pub mod Regions
+pub mod Tables

@@ -10,3 +10,4 @@ pub use Rattle.road_graph.specs.Roads
 pub mod Staying
 pub mod Heights
 pub mod Regions
+pub mod Tables

@@ -13,6 +13,7 @@ use crate::query::Query;
 use crate::reach::{listed, reach};
 use crate::settle::{settle, settle_all};
 use crate::shortest::Shortest;
+use crate::table::Table;
 use crate::trip_ends::TripEnds;
 use crate::walks::{Walks, Way};
 use names::NoMemory;
@@ -66,7 +67,8 @@ pub fn shortest_walk(
     requires { AreHeights trip.now.roads.network.now.segments heights.now }
     ensures { IfOk result (IsShortest trip.now.roads.network.now trip.now.roads.flags.now trip.now.from trip.now.to) }
 {
-    let found = shortest_route(alloc, trip, heights)?;
+    let mut table = Table::new(alloc);
+    let found = shortest_route(alloc, trip, heights, &mut table)?;
     Ok(or_why(alloc, trip, found)?)
 }
 
@@ -83,11 +85,13 @@ pub fn shortest_walk_by(
     Ok(or_why(alloc, trip, found)?)
 }
 
-/// The route that `shortest_walk` answers, or `None` where no passable walk leads there. `NoMemory` where no memory was left.
+/// The route that `shortest_walk` answers, or `None` where no passable walk leads there. The lengths go into the table,
+/// whatever a search before this one noted there. `NoMemory` where no memory was left.
 pub fn shortest_route(
     alloc: Global,
     trip: &TripEnds,
     heights: &Heights,
+    table: &mut Table,
 ) -> Result<Option<Shortest>, NoMemory>
     requires { AreHeights trip.now.roads.network.now.segments heights.now }
     ensures { IfOk result (IsRouteOrNone trip.now.roads.network.now trip.now.roads.flags.now trip.now.from trip.now.to) }
@@ -98,8 +102,8 @@ pub fn shortest_route(
         goal: trip.to,
         heights,
     };
-    let list = settle(alloc, &query)?;
-    Ok(route_shown(alloc, trip, &list)?)
+    settle(alloc, &query, table)?;
+    Ok(route_shown(alloc, trip, table.as_slice())?)
 }
 
 /// The same, where the potentials are known. `NoMemory` where no memory was left.

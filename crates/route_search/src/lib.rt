@@ -11,6 +11,9 @@
 //! as short as one that is known, as heights of the nodes show (Goldberg and Harrelson, "Computing the shortest path: A*
 //! search meets graph theory", 2005). How much is left out is speed alone.
 //!
+//! Who makes many such searches keeps a `Table` from one to the next: `shortest_route` writes its lengths there, and sets back
+//! only what the search before it wrote. So a search between near nodes does not take a step for each node of the network.
+//!
 //! A `Region` keeps what is reached from a node. From each node that passable walks join to it, there and back, just the same
 //! is reached, so it tells without a search why trips from there have no route.
 #![tactic(auto)]
@@ -28,6 +31,7 @@ mod reach;
 mod region;
 mod settle;
 mod shortest;
+mod table;
 mod trip_ends;
 mod waiting;
 mod walks;
@@ -42,4 +46,5 @@ pub use laws::{cuts_hold, findings_are_one, potentials_certify};
 pub use passable::Passable;
 pub use region::Region;
 pub use shortest::Shortest;
+pub use table::Table;
 pub use trip_ends::TripEnds;

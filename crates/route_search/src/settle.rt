@@ -1,13 +1,13 @@
 // The least lengths to a goal.
-ghost use Rattle.std.specs.Prelude.{◌≡◌, ◌↔◌, ◌<◌, length, IfOk, IfNone, OnOk, IsTrue, true, replicate, Some, None};
+ghost use Rattle.std.specs.Prelude.{◌≡◌, ◌↔◌, ◌<◌, length, IfOk, IfNone, OnOk, IsTrue, true, Some};
 ghost use Rattle.route_search.specs.Founds.{ArePotentialsOver};
 ghost use Rattle.route_search.specs.Settling.{AreAsked, IsLeftOut, IsLonger, IsNoMoreWork, IsRelaxingFor, IsSearchingFor, IsTriedFor, beyond, weight_of};
 
 use crate::heights::Heights;
 use crate::passable::Passable;
 use crate::query::Query;
+use crate::table::Table;
 use crate::waiting::{Queue, Waiting};
-use crate::width::shift;
 use std::alloc::{AllocError, Global};
 
 fn is_shorter(known: Option<u64>, feet: u64) -> bool
@@ -36,12 +36,6 @@ fn is_longer(feet: u64, known: Option<u64>) -> bool
     }
 }
 
-fn none_known(alloc: Global, nodes: usize) -> Result<Vec<Option<u64>>, AllocError>
-    ensures { IfOk result (λ v. v.items ≡ replicate nodes None) }
-{
-    vec![in alloc; None; nodes]
-}
-
 // How long a walk from the start by a node is at least, that goes on for so many feet; none where a shorter one is known.
 // Where no start is named, how many feet it goes on.
 fn through(query: &Query, potentials: &[Option<u64>], near: Waiting) -> Option<u64>
@@ -64,19 +58,19 @@ fn through(query: &Query, potentials: &[Option<u64>], near: Waiting) -> Option<u
 // Notes the length of a way from a node, where none so short is known and a walk from the start by it may be the shortest.
 fn improve(
     query: &Query,
-    potentials: &mut Vec<Option<u64>>,
+    table: &mut Table,
     queue: &mut Queue,
     next: Waiting,
 ) -> Result<(), AllocError>
-    requires many { length potentials.old.items ≡ length query.now.roads.network.now.nodes }
-    requires within { next.node < length potentials.old.items }
+    requires many { length table.old ≡ length query.now.roads.network.now.nodes }
+    requires within { next.node < length table.old }
     requires near { next.length < beyond }
-    ensures { OnOk result
-        (IsTriedFor query.now potentials.old.items queue.old potentials.new.items queue.new next) }
+    ensures { OnOk result (IsTriedFor query.now table.old queue.old table.new queue.new next) }
 {
+    let potentials = table.as_slice();
     if is_shorter(potentials[next.node as usize], next.length) {
         if let Some(place) = through(query, potentials, next) {
-            potentials[next.node as usize] = Some(next.length);
+            table.note(next.node, next.length)?;
             queue.push(next, place)?;
         }
     }
@@ -95,17 +89,16 @@ fn is_out(query: &Query, potentials: &[Option<u64>], near: Waiting) -> bool
 // Tries the segments into a node for shorter ways, where a walk from the start by it may be the shortest.
 fn relax(
     query: &Query,
-    potentials: &mut Vec<Option<u64>>,
+    table: &mut Table,
     queue: &mut Queue,
     near: Waiting,
 ) -> Result<(), AllocError>
     requires there { near.node < length query.now.roads.network.now.nodes }
-    requires before { IsRelaxingFor query.now potentials.old.items queue.old near }
-    ensures after { OnOk result (IsSearchingFor query.now potentials.new.items queue.new) }
-    ensures less { OnOk result
-        (IsNoMoreWork potentials.old.items queue.old potentials.new.items queue.new) }
+    requires before { IsRelaxingFor query.now table.old queue.old near }
+    ensures after { OnOk result (IsSearchingFor query.now table.new queue.new) }
+    ensures less { OnOk result (IsNoMoreWork table.old queue.old table.new queue.new) }
 {
-    if is_out(query, potentials, near) {
+    if is_out(query, table.as_slice(), near) {
         return Ok(());
     }
     let passable = query.roads.flags;
@@ -114,21 +107,20 @@ fn relax(
         if passable[arrival.segment as usize] {
             let length = near.length + u64::from(arrival.feet);
             let node = arrival.from;
-            improve(query, potentials, queue, Waiting { length, node })?;
+            improve(query, table, queue, Waiting { length, node })?;
         }
     }
     Ok(())
 }
 
-// The least lengths that are asked for.
-pub(crate) fn settle(alloc: Global, query: &Query) -> Result<Vec<Option<u64>>, AllocError>
-    ensures { IfOk result (λ r. AreAsked query.now r.items) }
+// The least lengths that are asked for, written into a table.
+pub(crate) fn settle(alloc: Global, query: &Query, table: &mut Table) -> Result<(), AllocError>
+    ensures { OnOk result (AreAsked query.now table.new) }
 {
     let goal = query.goal;
-    let nodes = query.roads.network.nodes() as usize;
-    let mut potentials = none_known(alloc, nodes)?;
-    potentials[goal as usize] = Some(0);
-    let mut queue = Queue::new(alloc, shift(query.roads.network))?;
+    table.begin(alloc, query.roads.network)?;
+    table.note(goal, 0)?;
+    let mut queue = Queue::new(alloc, table.shift())?;
     queue.push(
         Waiting {
             length: 0,
@@ -137,11 +129,11 @@ pub(crate) fn settle(alloc: Global, query: &Query) -> Result<Vec<Option<u64>>, A
         0,
     )?;
     'nearest: while let Some(near) = queue.pop() {
-        if is_known(potentials[near.node as usize], near.length) {
-            relax(query, &mut potentials, &mut queue, near)?;
+        if is_known(table.as_slice()[near.node as usize], near.length) {
+            relax(query, table, &mut queue, near)?;
         }
     }
-    Ok(potentials)
+    Ok(())
 }
 
 // The least length to a goal from each node.
@@ -160,5 +152,7 @@ pub(crate) fn settle_all(
         goal,
         heights: &none,
     };
-    settle(alloc, &query)
+    let mut table = Table::new(alloc);
+    settle(alloc, &query, &mut table)?;
+    Ok(table.into_lengths())
 }

@@ -16,7 +16,7 @@ overflow_add-length c =
     let none : Arrival = record { segment = 0; from = 0; feet = 0 } in
     let a = get_or list k none in
     let at = slice_get-get_or list k none c.loop-arrival-test.true in
-    let near = turn_near q.roads.network.now (flagged q.roads.flags.now) q.start q.goal q.roads.in_order c.loop-arrival.potentials.items c.loop-arrival.queue c.args.near.node c.args.near.length list (take k list) c.incoming-arrivals.ensures.meaning c.loop-arrival.invariant.relaxing k a at in
+    let near = turn_near q.roads.network.now (flagged q.roads.flags.now) q.start q.goal q.roads.in_order c.loop-arrival.table c.loop-arrival.queue c.args.near.node c.args.near.length list (take k list) c.incoming-arrivals.ensures.meaning c.loop-arrival.invariant.relaxing k a at in
     rw c.from.ensures (omega (arith, near))
 
 pub improve-requires-clause-within : goal.improve-requires-clause-within
@@ -27,7 +27,7 @@ improve-requires-clause-within c =
     let none : Arrival = record { segment = 0; from = 0; feet = 0 } in
     let a = get_or list k none in
     let at = slice_get-get_or list k none c.loop-arrival-test.true in
-    turn_from q.roads.network.now (flagged q.roads.flags.now) q.start q.goal q.roads.in_order c.loop-arrival.potentials.items c.loop-arrival.queue c.args.near.node c.args.near.length list (take k list) c.incoming-arrivals.ensures.meaning c.loop-arrival.invariant.relaxing k a at
+    turn_from q.roads.network.now (flagged q.roads.flags.now) q.start q.goal q.roads.in_order c.loop-arrival.table c.loop-arrival.queue c.args.near.node c.args.near.length list (take k list) c.incoming-arrivals.ensures.meaning c.loop-arrival.invariant.relaxing k a at
 
 pub improve-requires-clause-near : goal.improve-requires-clause-near
 improve-requires-clause-near c =
@@ -37,7 +37,7 @@ improve-requires-clause-near c =
     let none : Arrival = record { segment = 0; from = 0; feet = 0 } in
     let a = get_or list k none in
     let at = slice_get-get_or list k none c.loop-arrival-test.true in
-    rw c.from.ensures (turn_near q.roads.network.now (flagged q.roads.flags.now) q.start q.goal q.roads.in_order c.loop-arrival.potentials.items c.loop-arrival.queue c.args.near.node c.args.near.length list (take k list) c.incoming-arrivals.ensures.meaning c.loop-arrival.invariant.relaxing k a at)
+    rw c.from.ensures (turn_near q.roads.network.now (flagged q.roads.flags.now) q.start q.goal q.roads.in_order c.loop-arrival.table c.loop-arrival.queue c.args.near.node c.args.near.length list (take k list) c.incoming-arrivals.ensures.meaning c.loop-arrival.invariant.relaxing k a at)
 
 pub loop-arrival-preserved : goal.loop-arrival-preserved
 loop-arrival-preserved c =
@@ -51,12 +51,12 @@ loop-arrival-preserved c =
     elim c.if-passable-arrival.branch [
       | then-passable-arrival+in_ok-improve w ↦ (
           let tried = rw w.from.ensures at w.in_ok-improve.ensures in
-          rw (w.potentials-is, w.queue-is, more) (record {
-            relaxing = turn_more q.roads.network.now (flagged q.roads.flags.now) q.start q.goal q.roads.in_order c.loop-arrival.potentials.items c.loop-arrival.queue c.args.near.node c.args.near.length list (take k list) c.incoming-arrivals.ensures.meaning c.loop-arrival.invariant.relaxing k a at w.improve.new.potentials.items w.improve.new.queue w.if-passable-arrival.true tried;
-            less = omega (arith, c.loop-arrival.invariant.less, turn_less q.roads.network.now (flagged q.roads.flags.now) q.start q.goal q.roads.in_order c.loop-arrival.potentials.items c.loop-arrival.queue c.args.near.node c.args.near.length list (take k list) c.incoming-arrivals.ensures.meaning c.loop-arrival.invariant.relaxing k a at w.improve.new.potentials.items w.improve.new.queue w.if-passable-arrival.true tried);
+          rw (w.table-is, w.queue-is, more) (record {
+            relaxing = turn_more q.roads.network.now (flagged q.roads.flags.now) q.start q.goal q.roads.in_order c.loop-arrival.table c.loop-arrival.queue c.args.near.node c.args.near.length list (take k list) c.incoming-arrivals.ensures.meaning c.loop-arrival.invariant.relaxing k a at w.improve.new.table w.improve.new.queue w.if-passable-arrival.true tried;
+            less = omega (arith, c.loop-arrival.invariant.less, turn_less q.roads.network.now (flagged q.roads.flags.now) q.start q.goal q.roads.in_order c.loop-arrival.table c.loop-arrival.queue c.args.near.node c.args.near.length list (take k list) c.incoming-arrivals.ensures.meaning c.loop-arrival.invariant.relaxing k a at w.improve.new.table w.improve.new.queue w.if-passable-arrival.true tried);
           }))
-      | else-passable-arrival w ↦ rw (w.potentials-is, w.queue-is, more) (record {
-        relaxing = relaxing_skip q.roads.network.now (flagged q.roads.flags.now) q.start q.goal q.roads.in_order c.loop-arrival.potentials.items c.loop-arrival.queue c.args.near.node c.args.near.length a (take k list) w.if-passable-arrival.false c.loop-arrival.invariant.relaxing;
+      | else-passable-arrival w ↦ rw (w.table-is, w.queue-is, more) (record {
+        relaxing = relaxing_skip q.roads.network.now (flagged q.roads.flags.now) q.start q.goal q.roads.in_order c.loop-arrival.table c.loop-arrival.queue c.args.near.node c.args.near.length a (take k list) w.if-passable-arrival.false c.loop-arrival.invariant.relaxing;
         less = c.loop-arrival.invariant.less;
       })
     ]
@@ -66,14 +66,14 @@ returns-clause-after c =
     let q = c.args.query.now in
     let list = c.incoming-arrivals.result.now in
     let all = take_all c.loop-arrival.arrival-index list c.loop-arrival-test.false in
-    relaxed q.roads.network.now (flagged q.roads.flags.now) q.start q.goal q.roads.in_order c.loop-arrival.potentials.items c.loop-arrival.queue c.args.near.node c.args.near.length list c.incoming-arrivals.ensures.meaning (rw all at c.loop-arrival.invariant.relaxing)
+    relaxed q.roads.network.now (flagged q.roads.flags.now) q.start q.goal q.roads.in_order c.loop-arrival.table c.loop-arrival.queue c.args.near.node c.args.near.length list c.incoming-arrivals.ensures.meaning (rw all at c.loop-arrival.invariant.relaxing)
 
 pub is_out-requires-clause-near : goal.is_out-requires-clause-near
 is_out-requires-clause-near c =
     let q = c.args.query.now in
-    relaxing_small q.roads.network.now (flagged q.roads.flags.now) q.start q.goal q.roads.in_order c.args.potentials.now.items c.args.queue.now c.args.near.node c.args.near.length [] c.requires.before
+    relaxing_small q.roads.network.now (flagged q.roads.flags.now) q.start q.goal q.roads.in_order c.args.table.now c.args.queue.now c.args.near.node c.args.near.length [] c.requires.before
 
 pub returns-then-is_out-clause-after : goal.returns-then-is_out-clause-after
 returns-then-is_out-clause-after c =
     let q = c.args.query.now in
-    relaxed_out q.roads.network.now (flagged q.roads.flags.now) q.start q.goal q.roads.in_order c.args.potentials.now.items c.args.queue.now c.args.near.node c.args.near.length [] c.requires.before (rw c.deref.ensures.value at (c.is_out.ensures c.if-is_out.true))
+    relaxed_out q.roads.network.now (flagged q.roads.flags.now) q.start q.goal q.roads.in_order c.args.table.now c.args.queue.now c.args.near.node c.args.near.length [] c.requires.before (rw c.as_slice.ensures at (c.is_out.ensures c.if-is_out.true))
