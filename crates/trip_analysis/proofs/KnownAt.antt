@@ -50,7 +50,7 @@ below_judged base old new n truck (Some known) (Some judged) within is below = r
 
 -- what is known of each truck meanwhile
 pub record AreKnownBelow (base : BaseLists) (old new : InForce) (n : ℕ) (a : Analyst) : Type 0 where
-  pub heights : AreHeights base.roads.segments a.heights
+  pub heights : AreHeights base.roads.segments a.tables.heights
   pub many : length a.known.items ≡ length base.fleet
   pub each : (truck : ℕ) (d : Option Known) → truck < length base.fleet → IfSome (get_or a.known.items truck d) (IsKnownBelow base old new n truck)
 

@@ -28,7 +28,7 @@ module _ (base : BaseLists) (state : InForce) (a b : Analyst) (truck number : �
   by is k d less (inr ne) =
       subst (λ (o : Option Known). IfSome o (IsKnown base state k)) (sym (get_or-set_other a.known.items truck k known d (λ e. ne (sym e)))) (all.each k d less)
 
-  pub known_with : b.known.items ≡ set a.known.items truck known → AreHeights base.roads.segments b.heights → IfSome known (IsKnown base state truck) → AreKnown base state b
+  pub known_with : b.known.items ≡ set a.known.items truck known → AreHeights base.roads.segments b.tables.heights → IfSome known (IsKnown base state truck) → AreKnown base state b
   known_with items heights is = record {
     heights = heights;
     many = ap length items ∙ (length-set a.known.items truck known ∙ all.many);

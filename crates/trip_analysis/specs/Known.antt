@@ -55,12 +55,12 @@ pub record AreOfFleet (base : BaseLists) (a : Analyst) : Type 0 where
 
 -- the segment is judged anew for each truck of the fleet, and the heights are as before
 pub record AreJudged (base : BaseLists) (state : InForce) (segment : ℕ) (old new : Analyst) : Type 0 where
-  pub heights : new.heights ≡ old.heights
+  pub heights : new.tables.heights ≡ old.tables.heights
   pub many : length new.known.items ≡ length base.fleet
   pub each : (truck : ℕ) (d : Option Known) → truck < length base.fleet → IsJudged base state segment truck (slice_index_or old.known.items truck d) (slice_index_or new.known.items truck d)
 
 -- what is known of each truck of the fleet, in order, if anything is, is so in the state, and the heights are those of the roads
 pub record AreKnown (base : BaseLists) (state : InForce) (a : Analyst) : Type 0 where
-  pub heights : AreHeights base.roads.segments a.heights
+  pub heights : AreHeights base.roads.segments a.tables.heights
   pub many : length a.known.items ≡ length base.fleet
   pub each : (truck : ℕ) (d : Option Known) → truck < length base.fleet → IfSome (slice_index_or a.known.items truck d) (IsKnown base state truck)

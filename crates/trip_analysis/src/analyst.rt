@@ -12,24 +12,25 @@ ghost use Rattle.trip_analysis.specs.Known.{AreJudged, AreKnown, AreOfFleet};
 
 use crate::analysis::{find_asked, proposed};
 use crate::finding::What;
+use crate::kept::Tables;
 use crate::known::Known;
 use clearance_rules::Steps;
 use fleet::{Base, TruckOn};
 use names::NoMemory;
 use restriction_log::State;
 use road_graph::Network;
-use route_search::{Heights, Passable, TripEnds};
+use route_search::{Passable, Table, TripEnds};
 use snapshot_store::Snapshot;
 use std::alloc::Global;
 use std::sync::ledger::Ledger;
 use trip_applications::Application;
 
 /// What is known of the trucks of a base, in order, in a state of its roads: something once a truck was needed. Beside it heights
-/// of its nodes, which stay whatever is posted.
+/// of its nodes, which stay whatever is posted, and the table that searches write.
 #[derive(Drop)]
 pub struct Analyst {
     known: Vec<Option<Known>>,
-    heights: Heights,
+    tables: Tables,
 }
 
 impl Analyst {
@@ -42,10 +43,11 @@ impl Analyst {
         'trucks: for _ in 0..count {
             known.push(None)?;
         }
-        Ok(Analyst {
-            known,
+        let tables = Tables {
             heights: base.own_heights(alloc)?,
-        })
+            table: Table::new(alloc),
+        };
+        Ok(Analyst { known, tables })
     }
 
     /// What is found for the application in the state of the snapshot, as `find` says it, by what is known. This is known in
@@ -104,7 +106,7 @@ impl Analyst {
         let roads = Passable { network, flags };
         let (from, to) = (application.from(), application.to());
         let trip = TripEnds { roads, from, to };
-        let found = known.kept.search(alloc, &trip, &mut self.heights);
+        let found = known.kept.search(alloc, &trip, &mut self.tables);
         *slot = Some(known);
         proposed(alloc, found?)
     }

@@ -8,7 +8,7 @@ ghost use Rattle.trip_analysis.specs.Known.{IsKept, IsSettled};
 use names::NoMemory;
 use road_graph::Network;
 use route_search::{
-    Heights, Passable, Potentials, Region, Shortest, TripEnds, potentials, shortest_route,
+    Heights, Passable, Potentials, Region, Shortest, Table, TripEnds, potentials, shortest_route,
     shortest_route_by,
 };
 use std::alloc::Global;
@@ -31,6 +31,13 @@ pub(crate) struct Settled {
     pub potentials: Potentials,
 }
 
+/// What searches for any truck go by: heights of the nodes, and the table that each search writes.
+#[derive(Drop)]
+pub(crate) struct Tables {
+    pub heights: Heights,
+    pub table: Table,
+}
+
 impl Kept {
     /// The shortest walk of a trip over these segments. Where the kept region tells that there is none, no search is made;
     /// where a search finds none, the region around its start is kept.
@@ -38,20 +45,20 @@ impl Kept {
         &mut self,
         alloc: Global,
         trip: &TripEnds,
-        heights: &mut Heights,
+        tables: &mut Tables,
     ) -> Result<Shortest, NoMemory>
         requires kept { IsKept trip.now.roads.network.now trip.now.roads.flags.now self.old }
-        requires heights { AreHeights trip.now.roads.network.now.segments heights.old }
+        requires heights { AreHeights trip.now.roads.network.now.segments tables.old.heights }
         ensures found { IfOk result (IsShortest trip.now.roads.network.now trip.now.roads.flags.now trip.now.from trip.now.to) }
         ensures kept { IsKept trip.now.roads.network.now trip.now.roads.flags.now self.new }
-        ensures heights { AreHeights trip.now.roads.network.now.segments heights.new }
+        ensures heights { AreHeights trip.now.roads.network.now.segments tables.new.heights }
     {
         if let Some(region) = &self.region {
             if let Some(found) = region.tell(alloc, trip.from, trip.to)? {
                 return Ok(found);
             }
         }
-        match self.route(alloc, trip, heights)? {
+        match self.route(alloc, trip, tables)? {
             Some(route) => Ok(route),
             None => self.learn_region(alloc, trip),
         }
@@ -63,14 +70,14 @@ impl Kept {
         &mut self,
         alloc: Global,
         trip: &TripEnds,
-        heights: &mut Heights,
+        tables: &mut Tables,
     ) -> Result<Option<Shortest>, NoMemory>
         requires kept { IsKept trip.now.roads.network.now trip.now.roads.flags.now self.old }
-        requires heights { AreHeights trip.now.roads.network.now.segments heights.old }
+        requires heights { AreHeights trip.now.roads.network.now.segments tables.old.heights }
         ensures found { IfOk result
             (IsRouteOrNone trip.now.roads.network.now trip.now.roads.flags.now trip.now.from trip.now.to) }
         ensures kept { IsKept trip.now.roads.network.now trip.now.roads.flags.now self.new }
-        ensures heights { AreHeights trip.now.roads.network.now.segments heights.new }
+        ensures heights { AreHeights trip.now.roads.network.now.segments tables.new.heights }
     {
         if self.comes_again(trip.to) {
             let settled = self.settled_at(alloc, &trip.roads, trip.to)?;
@@ -80,8 +87,8 @@ impl Kept {
         }
         let others = self.last.is_some();
         self.last = Some(trip.to);
-        learn_heights(alloc, trip.roads.network, heights, others)?;
-        shortest_route(alloc, trip, heights)
+        learn_heights(alloc, trip.roads.network, &mut tables.heights, others)?;
+        shortest_route(alloc, trip, &tables.heights, &mut tables.table)
     }
 
     // Whether potentials of the goal are kept, or the last trip had it too.

@@ -6,7 +6,7 @@ use Rattle.trip_analysis.proofs.analyst.Analyst.judge.Given as goal
 
 abbrev pub invariant-trucks : goal.invariant-trucks
 invariant-trucks g l = record {
-  heights : l.self.heights ≡ l.fn.self.heights;
+  heights : l.self.tables.heights ≡ l.fn.self.tables.heights;
   many : length l.self.known.items ≡ length l.base.fleet;
   before : (k : ℕ) (d : Option Known) → k < l.truck → IsJudged l.base l.state l.segment k (get_or l.fn.self.known.items k d) (get_or l.self.known.items k d);
   behind : (k : ℕ) (d : Option Known) → l.truck ≤ k → k < length l.base.fleet → get_or l.self.known.items k d ≡ get_or l.fn.self.known.items k d;
