@@ -1,10 +1,10 @@
 // The field of axles.
 
-ghost use Rattle.std.specs.Prelude.{◌≡◌, IfOk};
+ghost use Rattle.std.specs.Prelude.{◌≡◌, ◌==◌, ◌<◌, IfOk, map};
+ghost use Rattle.std.specs.List.{slice_split};
 ghost use Rattle.record_text.specs.Fields.{axle_of, axles_of};
 
 use crate::fields::parse_number;
-use crate::split::{split_at_colons, split_at_spaces};
 use axle_train::Axle;
 use std::alloc::{AllocError, Global};
 use std::marker::Model;
@@ -37,7 +37,7 @@ impl Axles {
 pub fn parse_axles(alloc: Global, text: &str) -> Result<Option<Axles>, AllocError>
     ensures { IfOk result (λ axles. axles ≡ axles_of text.now) }
 {
-    let parts = split_at_spaces(alloc, text)?;
+    let parts = split_at(alloc, text, ' ')?;
     let mut list = Vec::new(alloc);
     'parts: for part in &parts {
         match parse_axle(alloc, part)? {
@@ -52,7 +52,7 @@ pub fn parse_axles(alloc: Global, text: &str) -> Result<Option<Axles>, AllocErro
 fn parse_axle(alloc: Global, text: &str) -> Result<Option<Axle>, AllocError>
     ensures { IfOk result (λ axle. axle ≡ axle_of text.now) }
 {
-    let parts = split_at_colons(alloc, text)?;
+    let parts = split_at(alloc, text, ':')?;
     if parts.len() != 2 {
         return Ok(None);
     }
@@ -63,4 +63,12 @@ fn parse_axle(alloc: Global, text: &str) -> Result<Option<Axle>, AllocError>
         return Ok(None);
     };
     Ok(Some(Axle { place, weight }))
+}
+
+// The parts of a text around each separator, which is a byte.
+fn split_at(alloc: Global, text: &str, separator: char) -> Result<Vec<&str>, AllocError>
+    requires { separator < 128 }
+    ensures { IfOk result (λ v. map (λ x. x.now) v.items ≡ slice_split (λ b. b == separator) text.now) }
+{
+    text.split(separator).collect(alloc)
 }

@@ -16,7 +16,6 @@ mod posted;
 mod records;
 mod refusal;
 mod route;
-mod split;
 
 pub use axles::{Axles, parse_axles};
 pub use demands::{day_in, demand, has_only, limit, name_in, number_in, or_bad};

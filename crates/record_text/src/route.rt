@@ -1,8 +1,8 @@
 // The field of routes.
 
-ghost use Rattle.std.specs.Prelude.{◌≡◌, ◌==◌, nat_le, length, is_some, Some};
-ghost use Rattle.std.specs.List.{list_all, slice_split};
-ghost use Rattle.record_text.specs.Fields.{name_field, route_of, routes_field};
+ghost use Rattle.std.specs.Prelude.{◌≡◌, ◌==◌, is_some, Some};
+ghost use Rattle.std.specs.List.{slice_split};
+ghost use Rattle.record_text.specs.Fields.{few_routes, route_of, routes_field};
 
 use crate::fields::parse_name;
 use std::marker::Model;
@@ -44,44 +44,23 @@ impl<'a> RouteField<'a> {
 pub fn parse_routes(text: &str) -> Option<RouteField<'_>>
     ensures { result ≡ routes_field text.now }
 {
-    if has_routes(text) {
+    if text.is_empty() || are_few_routes(text) {
         Some(RouteField { text })
     } else {
         None
     }
 }
 
-// Whether a text is a route field.
-fn has_routes(text: &str) -> bool
-    ensures { result ≡ is_some (routes_field text.now) }
+// Whether the parts of a text around each bar are few enough, and each is a route.
+fn are_few_routes(text: &str) -> bool
+    ensures { result ≡ is_some (few_routes (slice_split (λ b. b == 124) text.now)) }
 {
-    text.is_empty() || has_few_parts(text) && are_routes(text)
-}
-
-// Whether a text has few enough parts around each bar.
-fn has_few_parts(text: &str) -> bool
-    ensures { result ≡ nat_le (length (slice_split (λ b. b == 124) text.now)) 8 }
-{
-    text.split('|').count() <= MOST_ROUTES
-}
-
-// Whether each part of a text around each bar is a route.
-fn are_routes(text: &str) -> bool
-    ensures { result ≡ list_all (λ part. is_some (route_of part)) (slice_split (λ b. b == 124) text.now) }
-{
-    text.split('|').all(is_route)
+    text.split('|').count() <= MOST_ROUTES && text.split('|').all(is_route)
 }
 
 // Whether a text is a route.
 fn is_route(text: &str) -> bool
     ensures { result ≡ is_some (route_of text.now) }
-{
-    are_names(text)
-}
-
-// Whether each part of a text around each space is a name.
-fn are_names(text: &str) -> bool
-    ensures { result ≡ list_all (λ part. is_some (name_field part)) (slice_split (λ b. b == 32) text.now) }
 {
     text.split(' ').all(|name| parse_name(name).is_some())
 }
