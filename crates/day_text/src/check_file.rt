@@ -5,13 +5,13 @@ ghost use Rattle.csv.specs.Records.{fields_of};
 ghost use Rattle.day_text.specs.Refusals.{IsRefusedAs};
 ghost use Rattle.day_text.specs.Spans.{AreSpans, IsProbeSpan};
 ghost use Rattle.record_text.specs.Causes.{Grows, Judges, Tells};
-ghost use Rattle.day_text.specs.Checks.{check_of, ended_check, is_check_kind, judge_check, judge_check_kind, judge_end, judge_later, judge_probe, judge_truck, probe_of, probes_of};
+ghost use Rattle.day_text.specs.Checks.{check_of, ended_check, is_check_kind, judge_check, judge_check_kind, judge_end, judge_later, judge_probe, judge_truck, probes_of};
 
 use crate::truck::{load_of, parse_truck};
 use csv::StringRecord;
 use fleet::Truck;
 use record_text::{
-    Cause, FileRefusal, Kind, Progress, RecordCause, RecordRefusal, demand, field, has_only,
+    FileRefusal, Kind, Progress, RecordCause, RecordRefusal, demand, field, has_only,
     is_blank_from, limit, number_in, read_records,
 };
 use std::alloc::Global;
@@ -199,12 +199,18 @@ fn take_probe(file: CheckFile, row: &StringRecord) -> Result<CheckProgress, Reco
     }
 }
 
-// Adds the probe of a record.
+// Adds the probe of a record, behind those that are there.
+#[tactic(auto, unfolding(crate::specs::Checks::probe_of))]
 fn add_probe(probes: &mut Probes, row: &StringRecord) -> Result<(), RecordRefusal>
     ensures { Grows result probes.new (probes_of probes.old (fields_of row.now)) }
 {
-    let probe = parse_probe(probes, row)?;
-    probes.push(probe)
+    has_only(row, 3)?;
+    let inches = number_in(row, 2)?;
+    let rating = number_in(row, 3)?;
+    demand(1 <= inches && inches <= 6000, RecordCause::Range(2))?;
+    demand(rating <= 100_000, RecordCause::Range(3))?;
+    limit(probes.as_slice().len() < 64, Kind::Probes)?;
+    probes.push(Probe { inches, rating })
 }
 
 // Where the end leads.
@@ -218,19 +224,4 @@ fn take_end(file: CheckFile, row: &StringRecord) -> Result<CheckProgress, Record
         drop(file);
         Err(RecordRefusal::bad(RecordCause::Extra))
     }
-}
-
-// The probe of a record, behind those that are there.
-#[tactic(auto, unfolding(crate::specs::Checks::probe_of))]
-fn parse_probe(probes: &Probes, row: &StringRecord) -> Result<Probe, Cause>
-    ensures probe { result ≡ probe_of probes.now (fields_of row.now) }
-    ensures span { IfOk result (λ probe. IsProbeSpan probe) }
-{
-    has_only(row, 3)?;
-    let inches = number_in(row, 2)?;
-    let rating = number_in(row, 3)?;
-    demand(1 <= inches && inches <= 6000, RecordCause::Range(2))?;
-    demand(rating <= 100_000, RecordCause::Range(3))?;
-    limit(probes.as_slice().len() < 64, Kind::Probes)?;
-    Ok(Probe { inches, rating })
 }

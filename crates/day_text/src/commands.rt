@@ -3,7 +3,7 @@
 ghost use Rattle.std.specs.Prelude.{◌≡◌};
 ghost use Rattle.csv.specs.Records.{fields_of};
 ghost use Rattle.record_text.specs.Causes.{Judges};
-ghost use Rattle.day_text.specs.Commands.{apply_fields_of, apply_of, cause_of, order_of, asked_permit_of, post_of, posting_of, resolved_of, set_day_of, show_of, surrender_of};
+ghost use Rattle.day_text.specs.Commands.{apply_fields_of, apply_of, cause_of, order_of, asked_permit_of, post_of, posting_of, set_day_of};
 
 use crate::asked::find_asked;
 use crate::day_so_far::DaySoFar;
@@ -48,26 +48,29 @@ pub(crate) fn parse_order(
         CommandKind::Apply => parse_apply(alloc, so_far, row),
         CommandKind::Post => parse_post(so_far, row),
         CommandKind::SetDay => parse_set_day(so_far, row),
-        CommandKind::Surrender => parse_surrender(so_far, row),
-        CommandKind::Show => parse_show(so_far, row),
+        CommandKind::Surrender => {
+            let (actor, number) = parse_permit(so_far, row)?;
+            Ok(Order {
+                actor,
+                command: Command::Surrender(number),
+            })
+        }
+        CommandKind::Show => {
+            let (actor, number) = parse_permit(so_far, row)?;
+            Ok(Order {
+                actor,
+                command: Command::Show(number),
+            })
+        }
     }
 }
 
-// The application of a record, for its actor.
+// The application of a record, for its actor: the fields in their forms first, and then what they refer to.
+#[tactic(auto, unfolding(crate::specs::Commands::resolved_of))]
 fn parse_apply(alloc: Global, so_far: &DaySoFar, row: &StringRecord) -> Result<Order, RecordRefusal>
     ensures { Judges result (apply_of so_far.now (fields_of row.now)) }
 {
     let fields = parse_apply_fields(row)?;
-    let order = resolve(alloc, so_far, &fields);
-    drop(fields);
-    order
-}
-
-// The application of some fields, each name of which is looked up.
-#[tactic(auto, unfolding(crate::specs::Commands::resolved_of))]
-fn resolve(alloc: Global, so_far: &DaySoFar, fields: &ApplyFields) -> Result<Order, RecordRefusal>
-    ensures { Judges result (resolved_of so_far.now fields.now) }
-{
     let actor = known(so_far.actors.number(&fields.actor), 2)?;
     let truck = known(so_far.fleet.number(&fields.truck), 3)?;
     let from = known(so_far.network.node_named(&fields.from), 4)?;
@@ -124,28 +127,6 @@ fn parse_set_day(so_far: &DaySoFar, row: &StringRecord) -> Result<Order, RecordR
     Ok(Order {
         actor,
         command: Command::Day(day),
-    })
-}
-
-// The surrender of a record, for its actor.
-fn parse_surrender(so_far: &DaySoFar, row: &StringRecord) -> Result<Order, RecordRefusal>
-    ensures { Judges result (surrender_of so_far.now (fields_of row.now)) }
-{
-    let (actor, number) = parse_permit(so_far, row)?;
-    Ok(Order {
-        actor,
-        command: Command::Surrender(number),
-    })
-}
-
-// The showing of a record, for its actor.
-fn parse_show(so_far: &DaySoFar, row: &StringRecord) -> Result<Order, RecordRefusal>
-    ensures { Judges result (show_of so_far.now (fields_of row.now)) }
-{
-    let (actor, number) = parse_permit(so_far, row)?;
-    Ok(Order {
-        actor,
-        command: Command::Show(number),
     })
 }
 

@@ -2,7 +2,7 @@
 
 ghost use Rattle.std.specs.Prelude.{◌≡◌, Ok, IfErr, IfOk};
 ghost use Rattle.record_text.specs.Causes.{Tells};
-ghost use Rattle.day_text.specs.Days.{day_of, ended_day, file_parts_of};
+ghost use Rattle.day_text.specs.Days.{day_of, ended_day};
 ghost use Rattle.day_text.specs.Laws.{IsDayFile};
 ghost use Rattle.day_text.specs.Refusals.{IsRefusedAs};
 
@@ -105,29 +105,24 @@ fn finish(progress: DayProgress, row: u64) -> Result<DayFile, FileRefusal>
     ensures { Tells result (ended_day (row, progress)) }
 {
     match progress {
-        DayProgress::Ended(growing) => Ok(closed(growing.into_inner())),
+        DayProgress::Ended(growing) => {
+            let DaySoFar {
+                network,
+                day,
+                fleet,
+                actors,
+                orders,
+            } = growing.into_inner();
+            Ok(DayFile {
+                base: Base::new(network, fleet.into_vec()),
+                day,
+                actors,
+                commands: orders.into_vec(),
+            })
+        }
         unended => {
             drop(unended);
             Err(RecordRefusal::bad(RecordCause::End).at(row))
         }
-    }
-}
-
-// The file of what the records said.
-fn closed(so_far: DaySoFar) -> DayFile
-    ensures { result ≡ file_parts_of so_far }
-{
-    let DaySoFar {
-        network,
-        day,
-        fleet,
-        actors,
-        orders,
-    } = so_far;
-    DayFile {
-        base: Base::new(network, fleet.into_vec()),
-        day,
-        actors,
-        commands: orders.into_vec(),
     }
 }

@@ -1,7 +1,7 @@
 // The kinds of records of a day file.
 
 ghost use Rattle.std.specs.Prelude.{◌≡◌};
-ghost use Rattle.day_text.specs.Kinds.{command_kind_of, kind_of, road_kind_of, road_or_command};
+ghost use Rattle.day_text.specs.Kinds.{kind_of};
 
 /// The kind of a record: its first field.
 #[derive(Clone, Copy)]
@@ -42,43 +42,15 @@ pub(crate) fn parse_kind(text: &str) -> Option<RecordKind>
         "truck" => Some(RecordKind::Truck),
         "actor" => Some(RecordKind::Actor),
         "end" => Some(RecordKind::End),
-        _ => parse_road_or_command(text),
-    }
-}
-
-// The kind of a record of the road network, or else of a command, that a word means.
-fn parse_road_or_command(text: &str) -> Option<RecordKind>
-    ensures { result ≡ road_or_command text.now (road_kind_of text.now) }
-{
-    match parse_road_kind(text) {
-        Some(kind) => Some(RecordKind::Road(kind)),
-        None => Some(RecordKind::Command(parse_command_kind(text)?)),
-    }
-}
-
-// The kind of a record of the road network that a word means.
-fn parse_road_kind(text: &str) -> Option<RoadKind>
-    ensures { result ≡ road_kind_of text.now }
-{
-    match text {
-        "node" => Some(RoadKind::Node),
-        "segment" => Some(RoadKind::Segment),
-        "limit" => Some(RoadKind::Limit),
-        "span" => Some(RoadKind::Span),
-        _ => None,
-    }
-}
-
-// The kind of a command that a word means.
-fn parse_command_kind(text: &str) -> Option<CommandKind>
-    ensures { result ≡ command_kind_of text.now }
-{
-    match text {
-        "apply" => Some(CommandKind::Apply),
-        "post" => Some(CommandKind::Post),
-        "setday" => Some(CommandKind::SetDay),
-        "surrender" => Some(CommandKind::Surrender),
-        "show" => Some(CommandKind::Show),
+        "node" => Some(RecordKind::Road(RoadKind::Node)),
+        "segment" => Some(RecordKind::Road(RoadKind::Segment)),
+        "limit" => Some(RecordKind::Road(RoadKind::Limit)),
+        "span" => Some(RecordKind::Road(RoadKind::Span)),
+        "apply" => Some(RecordKind::Command(CommandKind::Apply)),
+        "post" => Some(RecordKind::Command(CommandKind::Post)),
+        "setday" => Some(RecordKind::Command(CommandKind::SetDay)),
+        "surrender" => Some(RecordKind::Command(CommandKind::Surrender)),
+        "show" => Some(RecordKind::Command(CommandKind::Show)),
         _ => None,
     }
 }

@@ -3,10 +3,10 @@
 ghost use Rattle.std.specs.Prelude.{◌≡◌};
 ghost use Rattle.csv.specs.Records.{fields_of};
 ghost use Rattle.record_text.specs.Causes.{Grows};
-ghost use Rattle.day_text.specs.Fleets.{actors_of, fleet_of, fleet_with};
+ghost use Rattle.day_text.specs.Fleets.{actors_of, fleet_of};
 
 use crate::name_set::Names;
-use crate::truck::{TruckFields, load_of, parse_truck};
+use crate::truck::{load_of, parse_truck};
 use crate::trucks::Fleet;
 use csv::StringRecord;
 use fleet::Truck;
@@ -29,17 +29,8 @@ pub(crate) fn add_truck(
     ensures { Grows result fleet.new (fleet_of fleet.old (fields_of row.now)) }
 {
     let truck = parse_truck(alloc, row)?;
-    let added = enter(fleet, &truck);
-    drop(truck);
-    added
-}
-
-// Adds the truck of these fields.
-fn enter(fleet: &mut Fleet, truck: &TruckFields) -> Result<(), RecordRefusal>
-    ensures { Grows result fleet.new (fleet_with fleet.old truck.now) }
-{
     demand(!fleet.has(&truck.name), RecordCause::Same)?;
-    let load = load_of(truck)?;
+    let load = load_of(&truck)?;
     limit(fleet.len() < MOST_TRUCKS, Kind::Trucks)?;
     fleet.push(Truck {
         name: truck.name,

@@ -6,21 +6,18 @@
 ghost use Rattle.std.specs.Prelude.{◌≡◌, Ok, Err, OnOk, IfErr};
 ghost use Rattle.csv.specs.Records.{fields_of};
 ghost use Rattle.record_text.specs.Causes.{Judges};
-ghost use Rattle.day_text.specs.Days.{going_on, judge_day, judge_kind, judge_later, judge_opening, opening_of, with_actor, with_command, with_road, with_truck};
+ghost use Rattle.day_text.specs.Days.{judge_day, judge_kind, judge_later, judge_opening};
 
 use crate::commands::parse_order;
 use crate::day_so_far::{DaySoFar, Growing};
-use crate::kind::{CommandKind, RecordKind, RoadKind, parse_kind};
+use crate::kind::{RecordKind, parse_kind};
 use crate::members::{add_actor, add_truck};
 use crate::name_set::Names;
 use crate::orders::Orders;
 use crate::roads::add_road;
 use crate::trucks::Fleet;
 use csv::StringRecord;
-use permit_days::Day;
-use record_text::{
-    Cause, Progress, RecordCause, RecordRefusal, day_in, field, has_only, is_blank_from,
-};
+use record_text::{Progress, RecordCause, RecordRefusal, day_in, field, has_only, is_blank_from};
 use road_graph::Network;
 use std::alloc::Global;
 
@@ -66,6 +63,7 @@ fn take_kind(
 }
 
 // Where the first record leads: it is a day.
+#[tactic(auto, unfolding(crate::specs::Days::opening_of))]
 fn take_opening(
     alloc: Global,
     kind: RecordKind,
@@ -75,7 +73,10 @@ fn take_opening(
 {
     match kind {
         RecordKind::Day => {
-            let day = parse_opening(row)?;
+            has_only(row, 2)?;
+            let Some(day) = day_in(row, 2)? else {
+                return Err(RecordRefusal::bad(RecordCause::Range(2)));
+            };
             let so_far = DaySoFar {
                 network: Network::new(alloc),
                 day,
@@ -89,18 +90,6 @@ fn take_opening(
     }
 }
 
-// The opening day of a record.
-#[tactic(auto, unfolding(crate::specs::Days::opening_of))]
-fn parse_opening(row: &StringRecord) -> Result<Day, Cause>
-    ensures { result ≡ opening_of (fields_of row.now) }
-{
-    has_only(row, 2)?;
-    match day_in(row, 2)? {
-        Some(day) => Ok(day),
-        None => Err(Cause::Bad(RecordCause::Range(2))),
-    }
-}
-
 // Where a record behind the day leads.
 fn take_later(
     alloc: Global,
@@ -110,69 +99,33 @@ fn take_later(
 ) -> Result<DayProgress, RecordRefusal>
     ensures { Judges result (judge_later growing kind (fields_of row.now)) }
 {
+    let mut growing = growing;
     match kind {
         RecordKind::Day => {
             drop(growing);
             Err(RecordRefusal::bad(RecordCause::Order))
         }
-        RecordKind::Road(kind) => take_road(growing, kind, row),
-        RecordKind::Truck => take_truck(alloc, growing, row),
-        RecordKind::Actor => take_actor(growing, row),
-        RecordKind::Command(kind) => take_command(alloc, growing, kind, row),
+        RecordKind::Road(kind) => {
+            let taken = add_road(&mut growing.so_far.network, kind, row);
+            keep_going(growing, taken)
+        }
+        RecordKind::Truck => {
+            let taken = add_truck(alloc, &mut growing.so_far.fleet, row);
+            keep_going(growing, taken)
+        }
+        RecordKind::Actor => {
+            let taken = add_actor(&mut growing.so_far.actors, row);
+            keep_going(growing, taken)
+        }
+        RecordKind::Command(kind) => {
+            let taken = match parse_order(alloc, &growing.so_far, kind, row) {
+                Ok(order) => growing.so_far.orders.push(order),
+                Err(refusal) => Err(refusal),
+            };
+            keep_going(growing, taken)
+        }
         RecordKind::End => take_end(growing, row),
     }
-}
-
-// Where a record of the road network leads.
-fn take_road(
-    growing: Growing,
-    kind: RoadKind,
-    row: &StringRecord,
-) -> Result<DayProgress, RecordRefusal>
-    ensures { Judges result (going_on (with_road growing kind (fields_of row.now))) }
-{
-    let mut growing = growing;
-    let taken = add_road(&mut growing.so_far.network, kind, row);
-    keep_going(growing, taken)
-}
-
-// Where the record of a truck leads.
-fn take_truck(
-    alloc: Global,
-    growing: Growing,
-    row: &StringRecord,
-) -> Result<DayProgress, RecordRefusal>
-    ensures { Judges result (going_on (with_truck growing (fields_of row.now))) }
-{
-    let mut growing = growing;
-    let taken = add_truck(alloc, &mut growing.so_far.fleet, row);
-    keep_going(growing, taken)
-}
-
-// Where the record of an actor leads.
-fn take_actor(growing: Growing, row: &StringRecord) -> Result<DayProgress, RecordRefusal>
-    ensures { Judges result (going_on (with_actor growing (fields_of row.now))) }
-{
-    let mut growing = growing;
-    let taken = add_actor(&mut growing.so_far.actors, row);
-    keep_going(growing, taken)
-}
-
-// Where the record of a command leads.
-fn take_command(
-    alloc: Global,
-    growing: Growing,
-    kind: CommandKind,
-    row: &StringRecord,
-) -> Result<DayProgress, RecordRefusal>
-    ensures { Judges result (going_on (with_command growing kind (fields_of row.now))) }
-{
-    let mut growing = growing;
-    let taken = match parse_order(alloc, &growing.so_far, kind, row) {
-        Ok(order) => growing.so_far.orders.push(order),
-        Err(refusal) => Err(refusal),
-    };
-    keep_going(growing, taken)
 }
 
 // Where a record was taken, the next one follows; else what was said so far is let go.

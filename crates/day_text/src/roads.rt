@@ -2,14 +2,12 @@
 
 ghost use Rattle.std.specs.Prelude.{◌≡◌};
 ghost use Rattle.csv.specs.Records.{fields_of};
-ghost use Rattle.road_graph.specs.Roads.{has_name, segment_names, span_names};
 ghost use Rattle.record_text.specs.Causes.{Grows};
-ghost use Rattle.day_text.specs.Roads.{limit_on, roads_of, segment_between, span_on, with_limit_of, with_node_of, with_segment_of, with_span_of};
+ghost use Rattle.day_text.specs.Roads.{roads_of, with_limit_of, with_node_of, with_segment_of, with_span_of};
 
 use crate::kind::RoadKind;
 use crate::referred::known;
 use csv::StringRecord;
-use names::Name;
 use record_text::{
     Kind, RecordCause, RecordRefusal, demand, field, has_only, limit, name_in, number_in,
 };
@@ -48,7 +46,7 @@ fn add_node(network: &mut Network, row: &StringRecord) -> Result<(), RecordRefus
 }
 
 // Adds the segment of a record.
-#[tactic(auto, unfolding(crate::specs::Roads::with_segment_of))]
+#[tactic(auto, using(crate::proofs::Naming::numbered_is_there), unfolding(crate::specs::Roads::with_segment_of))]
 fn add_segment(network: &mut Network, row: &StringRecord) -> Result<(), RecordRefusal>
     ensures { Grows result network.new (with_segment_of network.old (fields_of row.now)) }
 {
@@ -57,22 +55,9 @@ fn add_segment(network: &mut Network, row: &StringRecord) -> Result<(), RecordRe
     let from = name_in(row, 3)?;
     let to = name_in(row, 4)?;
     let feet = number_in(row, 5)?;
-    add_segment_between(network, name, &from, &to, feet)
-}
-
-// Adds a segment between two nodes, each by its name.
-fn add_segment_between(
-    network: &mut Network,
-    name: Name,
-    from: &Name,
-    to: &Name,
-    feet: u32,
-) -> Result<(), RecordRefusal>
-    ensures { Grows result network.new (segment_between network.old name from.now to.now feet) }
-{
-    demand(!has_segment(network, &name), RecordCause::Same)?;
-    let from = known(network.node_named(from), 3)?;
-    let to = known(network.node_named(to), 4)?;
+    demand(network.segment_named(&name).is_none(), RecordCause::Same)?;
+    let from = known(network.node_named(&from), 3)?;
+    let to = known(network.node_named(&to), 4)?;
     match network.add_segment(name, from, to, feet) {
         Ok(_) => Ok(()),
         Err(AddRefusal::Range) => Err(RecordRefusal::bad(RecordCause::Range(5))),
@@ -93,19 +78,7 @@ fn set_limit(network: &mut Network, row: &StringRecord) -> Result<(), RecordRefu
         return Err(RecordRefusal::bad(RecordCause::Field(3)));
     };
     let value = number_in(row, 4)?;
-    set_limit_on(network, &segment, what, value)
-}
-
-// Sets a limit of a segment, by its name.
-fn set_limit_on(
-    network: &mut Network,
-    segment: &Name,
-    what: What,
-    value: u32,
-) -> Result<(), RecordRefusal>
-    ensures { Grows result network.new (limit_on network.old segment.now what value) }
-{
-    let segment = known(network.segment_named(segment), 2)?;
+    let segment = known(network.segment_named(&segment), 2)?;
     match network.set_limit(segment, what, value) {
         Ok(()) => Ok(()),
         Err(AddRefusal::Range) => Err(RecordRefusal::bad(RecordCause::Range(4))),
@@ -114,7 +87,7 @@ fn set_limit_on(
 }
 
 // Adds the span of a record.
-#[tactic(auto, unfolding(crate::specs::Roads::with_span_of))]
+#[tactic(auto, using(crate::proofs::Naming::numbered_is_there), unfolding(crate::specs::Roads::with_span_of))]
 fn add_span(network: &mut Network, row: &StringRecord) -> Result<(), RecordRefusal>
     ensures { Grows result network.new (with_span_of network.old (fields_of row.now)) }
 {
@@ -123,21 +96,8 @@ fn add_span(network: &mut Network, row: &StringRecord) -> Result<(), RecordRefus
     let segment = name_in(row, 3)?;
     let inches = number_in(row, 4)?;
     let rating = number_in(row, 5)?;
-    add_span_on(network, name, &segment, inches, rating)
-}
-
-// Adds a span to a segment, by its name.
-fn add_span_on(
-    network: &mut Network,
-    name: Name,
-    segment: &Name,
-    inches: u32,
-    rating: u32,
-) -> Result<(), RecordRefusal>
-    ensures { Grows result network.new (span_on network.old name segment.now inches rating) }
-{
-    demand(!has_span(network, &name), RecordCause::Same)?;
-    let segment = known(network.segment_named(segment), 3)?;
+    demand(network.span_named(&name).is_none(), RecordCause::Same)?;
+    let segment = known(network.segment_named(&segment), 3)?;
     demand(1 <= inches && inches <= 6000, RecordCause::Range(4))?;
     demand(Span::takes_rating(rating), RecordCause::Range(5))?;
     limit(network.spans() < 2048, Kind::Spans)?;
@@ -147,20 +107,4 @@ fn add_span_on(
         Err(AddRefusal::NoMemory) => Err(RecordRefusal::NoMemory),
         Err(_) => unreachable!(),
     }
-}
-
-// Whether there is a segment of this name.
-#[tactic(auto, using(crate::proofs::Naming::numbered_is_there))]
-fn has_segment(network: &Network, name: &Name) -> bool
-    ensures { result ≡ has_name name.now (segment_names network.now.segments) }
-{
-    network.segment_named(name).is_some()
-}
-
-// Whether there is a span of this name.
-#[tactic(auto, using(crate::proofs::Naming::numbered_is_there))]
-fn has_span(network: &Network, name: &Name) -> bool
-    ensures { result ≡ has_name name.now (span_names network.now.spans) }
-{
-    network.span_named(name).is_some()
 }

@@ -1,8 +1,8 @@
 // The scripts of a day file: the commands of each actor.
 
-ghost use Rattle.std.specs.Prelude.{◌≡◌, ◌<◌, [], All, IfOk, OnOk, length};
+ghost use Rattle.std.specs.Prelude.{◌≡◌, ◌<◌, All, IfOk, length};
 ghost use Rattle.day_text.specs.Laws.{IsDayFile};
-ghost use Rattle.day_text.specs.Scripts.{AreScripts, IsDealt};
+ghost use Rattle.day_text.specs.Scripts.{AreScripts};
 
 use crate::day_file::DayFile;
 use crate::orders::Order;
@@ -35,7 +35,7 @@ impl DayFile {
     }
 }
 
-// The script of each of so many actors.
+// The script of each of so many actors: each command is put behind the others of its actor.
 fn scripts_of(
     alloc: Global,
     actors: usize,
@@ -45,42 +45,12 @@ fn scripts_of(
     ensures count { IfOk result (λ scripts. length scripts.items ≡ actors) }
     ensures scripts { IfOk result (λ scripts. AreScripts scripts.items orders.items) }
 {
-    let mut scripts = empty_scripts(alloc, actors)?;
-    deal(&mut scripts, orders)?;
-    Ok(scripts)
-}
-
-// The script of each of so many actors, where there are no commands.
-fn empty_scripts(alloc: Global, actors: usize) -> Result<Vec<Vec<Command>>, NoMemory>
-    ensures count { IfOk result (λ scripts. length scripts.items ≡ actors) }
-    ensures empty { IfOk result (λ scripts. AreScripts scripts.items []) }
-{
     let mut scripts = Vec::with_capacity(alloc, actors)?;
     'actors: for _ in 0..actors {
         scripts.push_reserved(Vec::new(alloc));
     }
-    Ok(scripts)
-}
-
-// Puts each command into the script of its actor.
-fn deal(scripts: &mut Vec<Vec<Command>>, orders: Vec<Order>) -> Result<(), NoMemory>
-    requires empty { AreScripts scripts.old.items [] }
-    requires callers { All (λ o. o.actor < length scripts.old.items) orders.items }
-    ensures count { OnOk result (length scripts.new.items ≡ length scripts.old.items) }
-    ensures scripts { OnOk result (AreScripts scripts.new.items orders.items) }
-{
     'orders: for order in orders {
-        deal_one(scripts, order)?;
+        scripts[order.actor as usize].push(order.command)?;
     }
-    Ok(())
-}
-
-// Puts a command into the script of its actor, behind the others.
-fn deal_one(scripts: &mut Vec<Vec<Command>>, order: Order) -> Result<(), NoMemory>
-    requires { order.actor < length scripts.old.items }
-    ensures count { OnOk result (length scripts.new.items ≡ length scripts.old.items) }
-    ensures dealt { OnOk result (IsDealt scripts.old.items order scripts.new.items) }
-{
-    scripts[order.actor as usize].push(order.command)?;
-    Ok(())
+    Ok(scripts)
 }

@@ -1,15 +1,19 @@
-use Rattle.std.proofs.Common.{◌<◌, ℕ, All, sym, subst, ◌∙◌}
+use Rattle.std.proofs.Common.{◌≤◌, ◌+◌, ◌≡◌, List, ap, sym, subst, ◌∙◌, length, length-append, map-id, ◌∷◌, ◌++◌, [], ℕ, Vec, arith}
+use Rattle.std.specs.Global.{Global}
+use Rattle.std.proofs.lemmas.Iterator.Adapters.{YieldsList-from_vec}
+use Rattle.std.proofs.lemmas.Iterator.Consumers.{YieldsList-end}
+use Rattle.office_words.specs.declared.entry.Command.{Command}
+use Rattle.day_text.specs.Scripts.{AreScripts}
 use Rattle.day_text.specs.declared.orders.Order.{Order}
+use Rattle.day_text.proofs.Dealing.{dealt_at, dealt_more, one_script_more}
 use Rattle.day_text.proofs.scripts.scripts_of.Goals as goal
 
-pub deal-requires-clause-empty : goal.deal-requires-clause-empty
-deal-requires-clause-empty c = c.in_ok-scripts.ensures.empty
+one_longer : {A : Type 0} (n : ℕ) (xs : List A) (x : A) → length xs ≡ n → length (xs ++ x ∷ []) ≡ n + 1
+one_longer n xs x is = omega (arith, length-append xs (x ∷ []), is)
 
-pub deal-requires-clause-callers : goal.deal-requires-clause-callers
-deal-requires-clause-callers c = subst (λ (n : ℕ). All (λ (o : Order). o.actor < n) c.args.orders.items) (sym c.in_ok-scripts.ensures.count) c.requires
-
-pub returns-clause-count : goal.returns-clause-count
-returns-clause-count c = c.in_ok-deal.ensures.count ∙ c.in_ok-scripts.ensures.count
-
-pub returns-clause-scripts : goal.returns-clause-scripts
-returns-clause-scripts c = c.in_ok-deal.ensures.scripts
+pub actors-preserved : goal.actors-preserved
+actors-preserved c = let i = c.actors.invariant in record {
+  room = subst (λ (n : ℕ). c.args.actors ≤ n) (sym c.push_reserved.ensures.capacity) i.room;
+  count = ap length c.push_reserved.ensures.items ∙ one_longer _ c.actors.scripts.items c.new.result i.count;
+  empty = subst (λ (scripts : List (Vec Command Global)). AreScripts scripts []) (sym c.push_reserved.ensures.items) (one_script_more c.actors.scripts.items c.new.result c.new.ensures.items i.empty);
+}
