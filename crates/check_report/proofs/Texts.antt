@@ -3,6 +3,10 @@ use Rattle.std.proofs.Common.{◌≡◌, ◌∙◌, ◌∷◌, ◌++◌, [], ℕ
 use Rattle.std.specs.List.{AllByRecursion}
 use Rattle.check_report.specs.Probes.{AddsOne, AreTexts}
 
+-- a text that grew twice grew by both
+pub joined : (old between new first second : List ℕ) → between ≡ old ++ first → new ≡ between ++ second → new ≡ old ++ (first ++ second)
+joined old between new first second h k = k ∙ (ap (λ t. t ++ second) h ∙ append_assoc old first second)
+
 module _ {X : Type 0} (IsText : X → List ℕ → Type 0) where
   texts_more : (xs : List X) (x : X) (text one : List ℕ) → AreTexts IsText xs text → IsText x one
       → AreTexts IsText (xs ++ x ∷ []) (text ++ one)

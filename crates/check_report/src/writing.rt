@@ -3,10 +3,9 @@
 ghost use Rattle.std.specs.Prelude.{◌≡◌, IfOk, OnOk};
 ghost use Rattle.std.specs.List.{flat_map};
 ghost use Rattle.std.specs.String.{string_bytes};
-ghost use Rattle.span_rating.specs.Loading.{AreSmall};
 ghost use Rattle.day_text.specs.Spans.{AreSpans, IsProbeSpan};
 ghost use Rattle.check_report.specs.Probes.{AddsOne, AreTexts, Grew};
-ghost use Rattle.check_report.specs.Reports.{IsOnlyReport, IsProbeText, IsReport, ReportIsOne, design_line, end_name, high_line, judgement_text, legal_line, moment_peak_line, over_line, peaks_text, rule_name, shear_peak_line, truck_line, truck_text, wide_line};
+ghost use Rattle.check_report.specs.Reports.{IsOnlyReport, IsProbeText, IsReport, ReportIsOne, design_line, end_name, high_line, legal_line, moment_peak_line, over_line, rule_name, shear_peak_line, truck_text, wide_line};
 
 use crate::probes::{add_rating, add_span};
 use axle_limits::{Finding, LEGAL_HEIGHT, LEGAL_WIDTH, Rule, findings};
@@ -44,10 +43,14 @@ pub fn report_is_one()
 fn truck_report(alloc: Global, truck: &Truck) -> Result<String, NoMemory>
     ensures { IfOk result (λ text. string_bytes text ≡ truck_text truck.now) }
 {
+    let name = truck.name;
     let load = &truck.load;
-    let found = findings(alloc, load.train())?;
+    let train = load.train();
+    let axles = train.len();
+    let gross = train.gross();
+    let found = findings(alloc, train)?;
     let mut text = String::new(alloc);
-    add_truck(&mut text, truck)?;
+    write!(text, "truck {name} axles {axles} gross {gross}\n")?;
     add_findings(&mut text, found.as_slice())?;
     add_height(&mut text, load)?;
     add_width(&mut text, load)?;
@@ -55,37 +58,19 @@ fn truck_report(alloc: Global, truck: &Truck) -> Result<String, NoMemory>
     Ok(text)
 }
 
-// What the truck is.
-fn add_truck(text: &mut String, truck: &Truck) -> Result<(), AllocError>
-    ensures { OnOk result (Grew text.old text.new (truck_line truck.now)) }
-{
-    let name = truck.name;
-    let train = truck.load.train();
-    let axles = train.len();
-    let gross = train.gross();
-    write!(text, "truck {name} axles {axles} gross {gross}\n")
-}
-
-// Each group over its limit, and the gross weight where it is over its own.
+// Each group over its limit, and the gross weight where it is over its own, with axles counted from 1.
 fn add_findings(text: &mut String, found: &[Finding]) -> Result<(), AllocError>
     ensures { OnOk result (Grew text.old text.new (flat_map over_line found.now)) }
 {
     for finding in found {
-        add_finding(text, finding)?;
+        let first = finding.i as u128 + 1;
+        let last = finding.j as u128 + 1;
+        let weight = finding.weight;
+        let limit = finding.limit;
+        let rule = rule_name(finding.rule);
+        write!(text, "over {first}-{last} {weight} {limit} {rule}\n")?;
     }
     Ok(())
-}
-
-// One finding, with axles counted from 1.
-fn add_finding(text: &mut String, finding: &Finding) -> Result<(), AllocError>
-    ensures { OnOk result (Grew text.old text.new (over_line finding.now)) }
-{
-    let first = finding.i as u128 + 1;
-    let last = finding.j as u128 + 1;
-    let weight = finding.weight;
-    let limit = finding.limit;
-    let rule = rule_name(finding.rule);
-    write!(text, "over {first}-{last} {weight} {limit} {rule}\n")
 }
 
 // The name of a rule.
@@ -145,7 +130,7 @@ fn add_probes(text: &mut String, train: &Train, probes: &[Probe]) -> Result<(), 
     Ok(())
 }
 
-// The truck on one probe.
+// The truck on one probe: the span and the truck's peaks on it, those of the HS20-44 truck, and the judgement by the rating.
 fn add_probe(text: &mut String, train: &Train, probe: &Probe) -> Result<(), AllocError>
     requires { IsProbeSpan probe.now }
     ensures { OnOk result (AddsOne (IsProbeText train.now probe.now) (string_bytes text.old) (string_bytes text.new)) }
@@ -156,33 +141,12 @@ fn add_probe(text: &mut String, train: &Train, probe: &Probe) -> Result<(), Allo
         moment: moment.value,
         shear: shear.value,
     };
-    add_peaks(text, probe, &moment, &shear)?;
-    add_judgement(text, probe, &truck)
-}
-
-// The span, and the truck's peaks on it.
-fn add_peaks(
-    text: &mut String,
-    probe: &Probe,
-    moment: &MomentPeak,
-    shear: &ShearPeak,
-) -> Result<(), AllocError>
-    ensures { OnOk result (Grew text.old text.new (peaks_text probe.now moment.now shear.now)) }
-{
-    add_span(text, probe)?;
-    add_moment(text, moment)?;
-    add_shear(text, shear)
-}
-
-// The peaks of the design truck, and the judgement of the truck by the rating.
-fn add_judgement(text: &mut String, probe: &Probe, truck: &Effects) -> Result<(), AllocError>
-    requires span { IsProbeSpan probe.now }
-    requires truck { AreSmall truck.now }
-    ensures { OnOk result (Grew text.old text.new (judgement_text probe.now truck.now)) }
-{
     let design = effects(probe.inches);
+    add_span(text, probe)?;
+    add_moment(text, &moment)?;
+    add_shear(text, &shear)?;
     add_design(text, &design)?;
-    add_rating(text, probe.rating, fits(truck, &design, probe.rating))
+    add_rating(text, probe.rating, fits(&truck, &design, probe.rating))
 }
 
 // A peak moment, with axles counted from 1.
