@@ -1,6 +1,6 @@
 // A field of a record that is made.
 
-ghost use Rattle.std.specs.Prelude.{◌≡◌, ◌∷◌, ◌++◌, OnOk, flat_map};
+ghost use Rattle.std.specs.Prelude.{◌≡◌, ◌++◌, OnOk};
 ghost use Rattle.day_maker.specs.Fields.{field_text};
 ghost use Rattle.day_maker.specs.Made.{axle_text, axles_text};
 
@@ -49,14 +49,7 @@ fn write_axles(out: &mut Vec<u8>, axles: &[Axle]) -> Result<(), AllocError>
         return Ok(());
     };
     write_axle(out, *first)?;
-    write_more_axles(out, more)
-}
-
-// Axles, each behind a space.
-fn write_more_axles(out: &mut Vec<u8>, axles: &[Axle]) -> Result<(), AllocError>
-    ensures { OnOk result (out.new.items ≡ out.old.items ++ flat_map (λ a. 32 ∷ axle_text a) axles.now) }
-{
-    'axles: for axle in axles {
+    'more: for axle in more {
         out.push(b' ')?;
         write_axle(out, *axle)?;
     }

@@ -2,7 +2,7 @@
 
 ghost use Rattle.std.specs.Prelude.{◌≡◌, ◌<◌, ◌≤◌, ◌+◌, OnOk, nat_lt};
 ghost use Rattle.day_maker.specs.Making.{each, when};
-ghost use Rattle.day_maker.specs.Made.{cell, eastward, joining_segments, node, nodes, segment, segments, southward, span, spans};
+ghost use Rattle.day_maker.specs.Made.{cell, eastward, nodes, segment, segments, southward, span, spans};
 ghost use Rattle.day_maker.specs.Texts.{page_after};
 
 use crate::field::Field;
@@ -16,20 +16,21 @@ pub(crate) fn put_nodes(page: &mut Page, size: u32) -> Result<(), AllocError>
 {
     'rows: for r in 0..size + 1 {
         'columns: for c in 0..size + 1 {
-            put_node(page, r, c)?;
+            page.put("node", &[Field::Cell(b'n', r, c)])?;
         }
     }
     Ok(())
 }
 
-/// All segments.
+/// All segments: of each node those to the east and to the south, and back.
 pub(crate) fn put_segments(page: &mut Page, size: u32) -> Result<(), AllocError>
     requires { size ≤ 40 }
     ensures { OnOk result (page.new ≡ page_after (segments size) page.old) }
 {
     'rows: for r in 0..size + 1 {
         'columns: for c in 0..size + 1 {
-            put_joined(page, r, c, size)?;
+            put_eastward(page, r, c, size)?;
+            put_southward(page, r, c, size)?;
         }
     }
     Ok(())
@@ -45,26 +46,6 @@ pub(crate) fn put_spans(page: &mut Page, size: u32) -> Result<(), AllocError>
             put_span(page, r, c)?;
         }
     }
-    Ok(())
-}
-
-// A node.
-#[tactic(auto, unfolding(crate::specs::Made::node))]
-fn put_node(page: &mut Page, r: u32, c: u32) -> Result<(), AllocError>
-    ensures { OnOk result (page.new ≡ page_after (node r c) page.old) }
-{
-    page.put("node", &[Field::Cell(b'n', r, c)])
-}
-
-// The segments from a node to the east and to the south, and back.
-fn put_joined(page: &mut Page, r: u32, c: u32, size: u32) -> Result<(), AllocError>
-    requires size { size ≤ 40 }
-    requires row { r ≤ size }
-    requires column { c ≤ size }
-    ensures { OnOk result (page.new ≡ page_after (joining_segments size r c) page.old) }
-{
-    put_eastward(page, r, c, size)?;
-    put_southward(page, r, c, size)?;
     Ok(())
 }
 

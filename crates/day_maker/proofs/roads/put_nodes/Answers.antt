@@ -5,7 +5,8 @@ use Rattle.day_maker.proofs.Pages.{each_end, each_more}
 use Rattle.day_maker.proofs.roads.put_nodes.Goals as goal
 
 pub columns-preserved : goal.columns-preserved
-columns-preserved c = each_more (λ k. node c.rows.r k) c.columns.page c.put_node.new.page _ c.columns.c (c.args.size + 1) (omega arith) c.columns.invariant c.in_ok-put_node.ensures
+unfolding node
+columns-preserved c = each_more (λ k. node c.rows.r k) c.columns.page c.put.new.self _ c.columns.c (c.args.size + 1) (omega arith) c.columns.invariant c.in_ok-put.ensures
 
 pub rows-preserved : goal.rows-preserved
 rows-preserved c =

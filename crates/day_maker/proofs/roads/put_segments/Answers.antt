@@ -1,11 +1,18 @@
 use Rattle.std.proofs.Common.{arith, ◌+◌}
-use Rattle.day_maker.specs.Making.{each}
-use Rattle.day_maker.specs.Made.{joining_segments}
-use Rattle.day_maker.proofs.Pages.{each_end, each_more}
+use Rattle.std.specs.Prelude.{nat_lt}
+use Rattle.day_maker.specs.Making.{each, when}
+use Rattle.day_maker.specs.Made.{eastward, joining_segments, southward}
+use Rattle.day_maker.proofs.Pages.{after_then, each_end, each_more}
 use Rattle.day_maker.proofs.roads.put_segments.Goals as goal
 
 pub columns-preserved : goal.columns-preserved
-columns-preserved c = each_more (λ k. joining_segments c.args.size c.rows.r k) c.columns.page c.put_joined.new.page _ c.columns.c (c.args.size + 1) (omega arith) c.columns.invariant c.in_ok-put_joined.ensures
+columns-preserved c =
+    let size = c.args.size in
+    let r = c.rows.r in
+    let k = c.columns.c in
+    each_more (λ k. joining_segments size r k) c.columns.page c.put_southward.new.page _ k (size + 1) (omega arith) c.columns.invariant
+    (after_then (when (nat_lt k size) (eastward r k)) (when (nat_lt r size) (southward r k)) c.columns.page c.put_eastward.new.page
+    c.put_southward.new.page c.in_ok-put_eastward.ensures c.in_ok-put_southward.ensures)
 
 pub rows-preserved : goal.rows-preserved
 rows-preserved c =

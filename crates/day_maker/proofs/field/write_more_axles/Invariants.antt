@@ -1,7 +1,0 @@
-use Rattle.std.proofs.Common.{◌≡◌, ◌∷◌, ◌++◌, take}
-use Rattle.std.specs.Prelude.{flat_map}
-use Rattle.day_maker.specs.Made.{axle_text}
-use Rattle.day_maker.proofs.field.write_more_axles.Given as goal
-
-abbrev pub invariant-axles : goal.invariant-axles
-invariant-axles l = l.out.items ≡ l.fn.out.items ++ flat_map (λ a. 32 ∷ axle_text a) (take l.axle-index l.axles)
