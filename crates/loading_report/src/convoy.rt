@@ -1,12 +1,10 @@
 // The text that `convoy` writes, and the line for trucks that are no convoy.
 
-ghost use Rattle.std.specs.Prelude.{◌≡◌, ◌≤◌, IfOk, OnOk};
+ghost use Rattle.std.specs.Prelude.{◌≡◌, IfOk, OnOk};
 ghost use Rattle.std.specs.String.{string_bytes};
-ghost use Rattle.span_rating.specs.Loading.{AreEffects};
-ghost use Rattle.convoy_moves.specs.Convoys.{IsConvoyPlaced};
 ghost use Rattle.day_text.specs.Spans.{AreSpans, IsProbeSpan};
 ghost use Rattle.check_report.specs.Probes.{AddsOne, AreTexts, Grew};
-ghost use Rattle.loading_report.specs.Convoys.{IsConvoyReport, IsConvoyText, IsOnlyConvoyReport, convoy_line, convoy_refusal_line, moment_fraction_line, convoy_peaks_text, shear_fraction_line};
+ghost use Rattle.loading_report.specs.Convoys.{IsConvoyReport, IsConvoyText, IsOnlyConvoyReport, convoy_refusal_line, moment_fraction_line, shear_fraction_line};
 
 use check_report::{add_rating, add_span};
 use convoy_moves::{Convoy, ConvoyRefusal};
@@ -22,8 +20,15 @@ pub fn convoy_report(alloc: Global, convoy: &Convoy, probes: &Probes) -> Result<
     ensures report { IfOk result (λ text. IsConvoyReport convoy.now probes.now (string_bytes text)) }
     ensures only { IfOk result (λ text. IsOnlyConvoyReport convoy.now probes.now (string_bytes text)) }
 {
+    let trucks = convoy.trucks();
+    let gap = convoy.gap();
+    let axles = convoy.axles();
+    let gross = convoy.gross();
     let mut text = String::new(alloc);
-    add_convoy(&mut text, convoy)?;
+    write!(
+        text,
+        "convoy {trucks} gap {gap} axles {axles} gross {gross}\n"
+    )?;
     add_probes(&mut text, convoy, probes.as_slice())?;
     Ok(text)
 }
@@ -38,20 +43,6 @@ pub fn convoy_refusal_line(alloc: Global, refusal: ConvoyRefusal) -> Result<Stri
     Ok(text)
 }
 
-// What the convoy is.
-fn add_convoy(text: &mut String, convoy: &Convoy) -> Result<(), AllocError>
-    ensures { OnOk result (Grew text.old text.new (convoy_line convoy.now)) }
-{
-    let trucks = convoy.trucks();
-    let gap = convoy.gap();
-    let axles = convoy.axles();
-    let gross = convoy.gross();
-    write!(
-        text,
-        "convoy {trucks} gap {gap} axles {axles} gross {gross}\n"
-    )
-}
-
 // The convoy on each probe.
 fn add_probes(text: &mut String, convoy: &Convoy, probes: &[Probe]) -> Result<(), AllocError>
     requires { AreSpans probes.now }
@@ -63,36 +54,20 @@ fn add_probes(text: &mut String, convoy: &Convoy, probes: &[Probe]) -> Result<()
     Ok(())
 }
 
-// The convoy on one probe.
+// The convoy on one probe: the span, the convoy's peaks on it, and the judgement by the rating.
 fn add_probe(text: &mut String, convoy: &Convoy, probe: &Probe) -> Result<(), AllocError>
     requires { IsProbeSpan probe.now }
     ensures { OnOk result (AddsOne (IsConvoyText convoy.now probe.now) (string_bytes text.old) (string_bytes text.new)) }
 {
-    let peaks = peaks_of(convoy, probe.inches);
+    let peaks = Effects {
+        moment: convoy.moment(probe.inches),
+        shear: convoy.shear(probe.inches),
+    };
     let design = effects(probe.inches);
-    add_peaks(text, probe, &peaks)?;
-    add_rating(text, probe.rating, fits(&peaks, &design, probe.rating))
-}
-
-// The peaks of the convoy on a span.
-fn peaks_of(convoy: &Convoy, span: u32) -> Effects
-    requires some { 1 ≤ span }
-    requires long { span ≤ 6000 }
-    ensures { AreEffects (IsConvoyPlaced convoy.now) span result }
-{
-    Effects {
-        moment: convoy.moment(span),
-        shear: convoy.shear(span),
-    }
-}
-
-// The span, and the convoy's peaks on it.
-fn add_peaks(text: &mut String, probe: &Probe, peaks: &Effects) -> Result<(), AllocError>
-    ensures { OnOk result (Grew text.old text.new (convoy_peaks_text probe.now peaks.now)) }
-{
     add_span(text, probe)?;
     add_moment(text, &peaks.moment)?;
-    add_shear(text, &peaks.shear)
+    add_shear(text, &peaks.shear)?;
+    add_rating(text, probe.rating, fits(&peaks, &design, probe.rating))
 }
 
 // The convoy's peak moment.

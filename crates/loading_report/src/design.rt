@@ -4,12 +4,12 @@ ghost use Rattle.std.specs.Prelude.{◌≡◌, IfOk, OnOk};
 ghost use Rattle.std.specs.String.{string_bytes};
 ghost use Rattle.day_text.specs.Spans.{AreSpans, IsProbeSpan};
 ghost use Rattle.check_report.specs.Probes.{AddsOne, AreTexts, Grew};
-ghost use Rattle.loading_report.specs.Designs.{IsDesignReport, IsDesignText, IsOnlyDesignReport, governing_moment_line, governing_shear_line, governing_text, load_name};
+ghost use Rattle.loading_report.specs.Designs.{IsDesignReport, IsDesignText, IsOnlyDesignReport, governing_moment_line, governing_shear_line, load_name};
 
 use axle_train::Train;
 use check_report::{add_rating, add_span};
 use day_text::{CheckFile, Probe};
-use design_loads::{By, GreatestEffects, fits_greatest, greatest};
+use design_loads::{By, fits_greatest, greatest};
 use hs20_truck::effects_of;
 use influence_line::Frac;
 use names::NoMemory;
@@ -37,32 +37,21 @@ fn add_probes(text: &mut String, train: &Train, probes: &[Probe]) -> Result<(), 
     Ok(())
 }
 
-// The truck on one probe.
+// The truck on one probe: the span, the greatest effects of the design loads on it, and the judgement by the rating.
 fn add_probe(text: &mut String, train: &Train, probe: &Probe) -> Result<(), AllocError>
     requires { IsProbeSpan probe.now }
     ensures { OnOk result (AddsOne (IsDesignText train.now probe.now) (string_bytes text.old) (string_bytes text.new)) }
 {
     let truck = effects_of(train, probe.inches);
     let design = greatest(probe.inches);
-    add_governing(text, probe, &design)?;
+    add_span(text, probe)?;
+    add_moment(text, &design.moment, design.moment_by)?;
+    add_shear(text, &design.shear, design.shear_by)?;
     add_rating(
         text,
         probe.rating,
         fits_greatest(&truck, &design, probe.rating),
     )
-}
-
-// The span, and the greatest effects of the design loads on it.
-fn add_governing(
-    text: &mut String,
-    probe: &Probe,
-    design: &GreatestEffects,
-) -> Result<(), AllocError>
-    ensures { OnOk result (Grew text.old text.new (governing_text probe.now design.now)) }
-{
-    add_span(text, probe)?;
-    add_moment(text, &design.moment, design.moment_by)?;
-    add_shear(text, &design.shear, design.shear_by)
 }
 
 // The greatest moment, and the load that it is of.
