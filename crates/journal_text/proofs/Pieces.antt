@@ -21,8 +21,9 @@ adds_named_word old a new first text h i ws = h (text ∷ ws) ∙ adds_spaced a 
 pub pair_adds : (old a new one two : List ℕ) (sep : ℕ) → a ≡ old ++ (32 ∷ one) → new ≡ a ++ (sep ∷ two) → new ≡ old ++ (32 ∷ one ++ (sep ∷ two))
 pair_adds old a new one two sep h i = rw (i, h) (simp append_assoc)
 
-pub list_adds : (text : ℕ → List ℕ) (old a new numbers rest : List ℕ) (first : ℕ) → numbers ≡ first ∷ rest → a ≡ old ++ (32 ∷ text first) → new ≡ a ++ flat_map (λ n. 44 ∷ text n) rest → new ≡ old ++ (32 ∷ list_text text numbers)
-list_adds text old a new numbers rest first is one more = rw (more, one, is) (simp append_assoc)
+-- a list, behind a byte: its first number, and each other one behind a comma
+pub list_adds : (text : ℕ → List ℕ) (old a new numbers rest : List ℕ) (before first : ℕ) → numbers ≡ first ∷ rest → a ≡ old ++ (before ∷ text first) → new ≡ a ++ flat_map (λ n. 44 ∷ text n) rest → new ≡ old ++ (before ∷ list_text text numbers)
+list_adds text old a new numbers rest before first is one more = rw (more, one, is) (simp append_assoc)
 
 append_nil : (xs : List ℕ) → xs ++ [] ≡ xs
 append_nil [] = refl

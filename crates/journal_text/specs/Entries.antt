@@ -69,6 +69,12 @@ limit_words (limit.Moment segment span has design rating) ws =
 limit_words (limit.Shear segment span has design rating) ws =
     codes "segment" ∷ index segment ∷ codes "span" ∷ index span ∷ effect_words (codes "shear") has design rating ws
 
+-- a limit of a group of axles
+abbrev pub IsOfGroup : Limit → Type 0
+IsOfGroup (limit.Group segment i j weight most allowance) = Unit {0}
+IsOfGroup (limit.Tridem segment i j weight allowed) = Unit {0}
+IsOfGroup _ = ⊥
+
 -- a limit of a span
 abbrev pub IsOfSpan : Limit → Type 0
 IsOfSpan (limit.Moment segment span has design rating) = Unit {0}

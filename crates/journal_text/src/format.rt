@@ -1,7 +1,7 @@
 // The formats of journals: which entries each has words for.
 
 ghost use Rattle.std.specs.Prelude.{◌≡◌};
-ghost use Rattle.journal_text.specs.Formats.{answers_several, answers_tridem, are_several, asks_several, asks_tridem, finds_several, is_by_tridem, is_of_tridem, is_said_in, posts_tridem, seeks_several, tells_several, tells_tridem};
+ghost use Rattle.journal_text.specs.Formats.{are_several, asks_several, is_said_in, seeks_several, tells_several, tells_tridem};
 ghost use Rattle.journal_text.specs.Journals.{first_line};
 
 use clearance_rules::Limit;
@@ -50,7 +50,8 @@ impl Format {
 fn tells_several(entry: &Entry) -> bool
     ensures { result ≡ tells_several entry.now }
 {
-    asks_several(&entry.call) || answers_several(&entry.reply)
+    asks_several(&entry.call)
+        || matches!(&entry.reply, Reply::Issued { routes, .. } if are_several(routes))
 }
 
 fn asks_several(call: &Call) -> bool
@@ -60,7 +61,10 @@ fn asks_several(call: &Call) -> bool
         Call::Submit {
             application,
             proposal,
-        } => seeks_several(application) || finds_several(&proposal.what),
+        } => {
+            seeks_several(application)
+                || matches!(&proposal.what, What::Route(routes) if are_several(routes))
+        }
         Call::Held { application } => seeks_several(application),
         _ => false,
     }
@@ -75,24 +79,6 @@ fn seeks_several(application: &Application) -> bool
     }
 }
 
-fn finds_several(what: &What) -> bool
-    ensures { result ≡ finds_several what.now }
-{
-    match what {
-        What::Route(routes) => are_several(routes),
-        _ => false,
-    }
-}
-
-fn answers_several(reply: &Reply) -> bool
-    ensures { result ≡ answers_several reply.now }
-{
-    match reply {
-        Reply::Issued { routes, .. } => are_several(routes),
-        _ => false,
-    }
-}
-
 fn are_several(routes: &SharedRoutes) -> bool
     ensures { result ≡ are_several routes.now }
 {
@@ -103,51 +89,21 @@ fn are_several(routes: &SharedRoutes) -> bool
 fn tells_tridem(entry: &Entry) -> bool
     ensures { result ≡ tells_tridem entry.now }
 {
-    asks_tridem(&entry.call) || answers_tridem(&entry.reply)
-}
-
-fn asks_tridem(call: &Call) -> bool
-    ensures { result ≡ asks_tridem call.now }
-{
-    match call {
-        Call::Post { change } => posts_tridem(change),
-        _ => false,
-    }
-}
-
-fn posts_tridem(change: &Change) -> bool
-    ensures { result ≡ posts_tridem change.now }
-{
-    match change {
-        Change::Tridem { .. } => true,
-        _ => false,
-    }
-}
-
-fn answers_tridem(reply: &Reply) -> bool
-    ensures { result ≡ answers_tridem reply.now }
-{
-    match reply {
-        Reply::Refused { limit, .. } => is_of_tridem(limit),
-        Reply::Outdated { cause, .. } => is_by_tridem(cause),
-        _ => false,
-    }
-}
-
-fn is_by_tridem(cause: &Cause) -> bool
-    ensures { result ≡ is_by_tridem cause.now }
-{
-    match cause {
-        Cause::NowFails { limit } => is_of_tridem(limit),
-        Cause::NowMeets { .. } => false,
-    }
-}
-
-fn is_of_tridem(limit: &Limit) -> bool
-    ensures { result ≡ is_of_tridem limit.now }
-{
-    match limit {
-        Limit::Tridem { .. } => true,
-        _ => false,
-    }
+    matches!(
+        &entry.call,
+        Call::Post {
+            change: Change::Tridem { .. }
+        }
+    ) || matches!(
+        &entry.reply,
+        Reply::Refused {
+            limit: Limit::Tridem { .. },
+            ..
+        } | Reply::Outdated {
+            cause: Cause::NowFails {
+                limit: Limit::Tridem { .. }
+            },
+            ..
+        }
+    )
 }

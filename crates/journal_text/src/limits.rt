@@ -4,7 +4,7 @@ ghost use Rattle.std.specs.Prelude.{◌≡◌, ◌∷◌, OnOk, codes};
 ghost use Rattle.std.specs.Fmt.{decimal};
 ghost use Rattle.influence_line.specs.Fractions.{ratio_text};
 ghost use Rattle.journal_text.specs.Words.{Adds, index};
-ghost use Rattle.journal_text.specs.Entries.{IsOfSpan, cause_words, change_words, effect_words, limit_words, outweighed_words, over_words, posted_words, weighed_words};
+ghost use Rattle.journal_text.specs.Entries.{IsOfGroup, IsOfSpan, cause_words, change_words, effect_words, limit_words, over_words, posted_words};
 
 use crate::words::{named, named_fraction, named_group, named_place, word};
 use clearance_rules::Limit;
@@ -35,7 +35,10 @@ pub fn limit(out: &mut Vec<u8>, limit: &Limit) -> Result<(), AllocError>
     ensures { OnOk result (Adds out.old.items out.new.items (limit_words limit.now)) }
 {
     match limit {
-        Limit::Closed { segment } => closed(out, *segment),
+        Limit::Closed { segment } => {
+            named_place(out, "segment", *segment)?;
+            word(out, "closed")
+        }
         Limit::Height {
             segment,
             has,
@@ -56,29 +59,7 @@ pub fn limit(out: &mut Vec<u8>, limit: &Limit) -> Result<(), AllocError>
             has,
             allowed,
         } => over(out, *segment, "gross", *has, *allowed),
-        Limit::Group {
-            segment,
-            i,
-            j,
-            weight,
-            limit,
-            allowance,
-        } => {
-            named_place(out, "segment", *segment)?;
-            named_group(out, "group", *i, *j)?;
-            weighed(out, *weight, *limit, *allowance)
-        }
-        Limit::Tridem {
-            segment,
-            i,
-            j,
-            weight,
-            allowed,
-        } => {
-            named_place(out, "segment", *segment)?;
-            named_group(out, "tridem", *i, *j)?;
-            outweighed(out, *weight, *allowed)
-        }
+        Limit::Group { .. } | Limit::Tridem { .. } => group_limit(out, limit),
         Limit::Moment { .. } | Limit::Shear { .. } => span_limit(out, limit),
     }
 }
@@ -96,6 +77,42 @@ pub fn cause(out: &mut Vec<u8>, cause: &Cause) -> Result<(), AllocError>
             word(out, "meets")?;
             named_place(out, "segment", *segment)
         }
+    }
+}
+
+// A limit of a group of axles: the group, what it weighs, and what is allowed.
+fn group_limit(out: &mut Vec<u8>, limit: &Limit) -> Result<(), AllocError>
+    requires { IsOfGroup limit.now }
+    ensures { OnOk result (Adds out.old.items out.new.items (limit_words limit.now)) }
+{
+    match limit {
+        Limit::Group {
+            segment,
+            i,
+            j,
+            weight,
+            limit,
+            allowance,
+        } => {
+            named_place(out, "segment", *segment)?;
+            named_group(out, "group", *i, *j)?;
+            named(out, "weight", *weight)?;
+            named(out, "limit", *limit)?;
+            named(out, "allowance", *allowance)
+        }
+        Limit::Tridem {
+            segment,
+            i,
+            j,
+            weight,
+            allowed,
+        } => {
+            named_place(out, "segment", *segment)?;
+            named_group(out, "tridem", *i, *j)?;
+            named(out, "weight", *weight)?;
+            named(out, "over", *allowed)
+        }
+        _ => unreachable!(),
     }
 }
 
@@ -131,14 +148,6 @@ fn span_limit(out: &mut Vec<u8>, limit: &Limit) -> Result<(), AllocError>
     }
 }
 
-// A closed segment.
-fn closed(out: &mut Vec<u8>, segment: u32) -> Result<(), AllocError>
-    ensures { OnOk result (Adds out.old.items out.new.items (limit_words (Limit.Closed segment))) }
-{
-    named_place(out, "segment", segment)?;
-    word(out, "closed")
-}
-
 // A value of a segment.
 fn posted(out: &mut Vec<u8>, segment: u32, name: &str, value: u32) -> Result<(), AllocError>
     ensures { OnOk result (Adds out.old.items out.new.items (posted_words segment name.now value)) }
@@ -158,23 +167,6 @@ fn over(
     ensures { OnOk result (Adds out.old.items out.new.items (over_words segment name.now has allowed)) }
 {
     posted(out, segment, name, has)?;
-    named(out, "over", allowed)
-}
-
-// What a group weighs, its limit, and the allowance on it.
-fn weighed(out: &mut Vec<u8>, weight: u32, limit: u32, allowance: u32) -> Result<(), AllocError>
-    ensures { OnOk result (Adds out.old.items out.new.items (weighed_words weight limit allowance)) }
-{
-    named(out, "weight", weight)?;
-    named(out, "limit", limit)?;
-    named(out, "allowance", allowance)
-}
-
-// What a tridem group weighs, and what is allowed.
-fn outweighed(out: &mut Vec<u8>, weight: u32, allowed: u32) -> Result<(), AllocError>
-    ensures { OnOk result (Adds out.old.items out.new.items (outweighed_words weight allowed)) }
-{
-    named(out, "weight", weight)?;
     named(out, "over", allowed)
 }
 

@@ -38,22 +38,12 @@ impl<'a> LastList<'a> {
         ensures text { OnOk result (out.new.items ≡ out.old.items ++ (before ∷ list_text index places.now)) }
         ensures kept { OnOk result (IsListText self.new) }
     {
-        self.keep(places)?;
-        out.push(before)?;
-        out.extend_from_slice(&self.text[1..])
-    }
-
-    // Keeps these places and their text.
-    fn keep(&mut self, places: &'a [u32]) -> Result<(), AllocError>
-        requires { IsListText self.old }
-        ensures places { OnOk result (self.new.places.now ≡ places.now) }
-        ensures kept { OnOk result (IsListText self.new) }
-    {
         if places != self.places {
             self.text.clear();
             place_list(&mut self.text, b' ', places)?;
             self.places = places;
         }
-        Ok(())
+        out.push(before)?;
+        out.extend_from_slice(&self.text[1..])
     }
 }

@@ -1,6 +1,6 @@
 // Words that are added to a text, each behind a space.
 
-ghost use Rattle.std.specs.Prelude.{◌≡◌, ◌<◌, ◌+◌, ◌∷◌, ◌++◌, ◌%◌, OnOk, codes, flat_map};
+ghost use Rattle.std.specs.Prelude.{◌≡◌, ◌<◌, ◌+◌, ◌∷◌, ◌++◌, ◌%◌, OnOk, codes};
 ghost use Rattle.std.specs.Fmt.{decimal};
 ghost use Rattle.influence_line.specs.Fractions.{ratio_text};
 ghost use Rattle.journal_text.specs.Lists.{IsListText};
@@ -98,7 +98,8 @@ pub fn named_fraction(out: &mut Vec<u8>, text: &str, f: Frac) -> Result<(), Allo
     ensures { OnOk result (Adds out.old.items out.new.items (λ ws. text.now ∷ ratio_text f ∷ ws)) }
 {
     word(out, text)?;
-    fraction(out, f)
+    wide_digits_behind(out, b' ', f.num())?;
+    wide_digits_behind(out, b'/', f.den())
 }
 
 /// A word and a group of axles, by its first and its last.
@@ -106,7 +107,8 @@ pub fn named_group(out: &mut Vec<u8>, text: &str, i: u32, j: u32) -> Result<(), 
     ensures { OnOk result (Adds out.old.items out.new.items (λ ws. text.now ∷ group i j ∷ ws)) }
 {
     word(out, text)?;
-    axles(out, i, j)
+    index_behind(out, b' ', i)?;
+    index_behind(out, b'-', j)
 }
 
 /// A word and a list of numbers.
@@ -114,7 +116,15 @@ pub fn named_numbers(out: &mut Vec<u8>, text: &str, numbers: &[u32]) -> Result<(
     ensures { OnOk result (Adds out.old.items out.new.items (numbers_words text.now numbers.now)) }
 {
     word(out, text)?;
-    number_list(out, numbers)
+    let Some((first, rest)) = numbers.split_first() else {
+        out.extend_from_slice(b" -")?;
+        return Ok(());
+    };
+    digits_behind(out, b' ', u64::from(*first))?;
+    'numbers: for n in rest {
+        digits_behind(out, b',', u64::from(*n))?;
+    }
+    Ok(())
 }
 
 /// A word and routes.
@@ -130,44 +140,6 @@ pub fn named_routes<'a>(
 {
     word(out, text)?;
     route_lists(out, last, routes)
-}
-
-// The text of a fraction, behind a space.
-fn fraction(out: &mut Vec<u8>, f: Frac) -> Result<(), AllocError>
-    ensures { OnOk result (out.new.items ≡ out.old.items ++ (32 ∷ ratio_text f)) }
-{
-    wide_digits_behind(out, b' ', f.num())?;
-    wide_digits_behind(out, b'/', f.den())
-}
-
-// The text of a group of axles, behind a space.
-fn axles(out: &mut Vec<u8>, i: u32, j: u32) -> Result<(), AllocError>
-    ensures { OnOk result (out.new.items ≡ out.old.items ++ (32 ∷ group i j)) }
-{
-    index_behind(out, b' ', i)?;
-    index_behind(out, b'-', j)
-}
-
-// The numbers of a list, behind a space.
-fn number_list(out: &mut Vec<u8>, numbers: &[u32]) -> Result<(), AllocError>
-    ensures { OnOk result (out.new.items ≡ out.old.items ++ (32 ∷ list_text decimal numbers.now)) }
-{
-    let Some((first, rest)) = numbers.split_first() else {
-        out.extend_from_slice(b" -")?;
-        return Ok(());
-    };
-    digits_behind(out, b' ', u64::from(*first))?;
-    more_numbers(out, rest)
-}
-
-// Numbers, each behind a comma.
-fn more_numbers(out: &mut Vec<u8>, numbers: &[u32]) -> Result<(), AllocError>
-    ensures { OnOk result (out.new.items ≡ out.old.items ++ flat_map (λ n. 44 ∷ decimal n) numbers.now) }
-{
-    'numbers: for n in numbers {
-        digits_behind(out, b',', u64::from(*n))?;
-    }
-    Ok(())
 }
 
 /// The lists of routes with slashes between them, behind a space.
@@ -197,14 +169,7 @@ pub fn place_list(out: &mut Vec<u8>, before: u8, places: &[u32]) -> Result<(), A
         return Ok(());
     };
     index_behind(out, before, *first)?;
-    more_places(out, rest)
-}
-
-// Indices, each behind a comma.
-fn more_places(out: &mut Vec<u8>, places: &[u32]) -> Result<(), AllocError>
-    ensures { OnOk result (out.new.items ≡ out.old.items ++ flat_map (λ i. 44 ∷ index i) places.now) }
-{
-    'places: for i in places {
+    'places: for i in rest {
         index_behind(out, b',', *i)?;
     }
     Ok(())
