@@ -1,7 +1,7 @@
 // The summary of a history.
 
 ghost use Rattle.std.specs.Prelude.{◌≡◌, ◌≤◌, ◌++◌, ◌*◌, ◌^◌, count_by, length, sum_by, IfOk, OnOk};
-ghost use Rattle.trial_report.specs.Summaries.{is_of, recalled_count, summary_of, told, last_version_from, version_behind};
+ghost use Rattle.trial_report.specs.Summaries.{is_of, recalled_count, summary_of, told, last_version_from};
 
 use names::NoMemory;
 use numerals::write_number;
@@ -19,12 +19,6 @@ enum Kind {
 
 /// The summary of a history: seven lines, each a word, a space and a number. `NoMemory` where no memory was left.
 pub fn summary(alloc: Global, history: &[Entry]) -> Result<Vec<u8>, NoMemory>
-    ensures { IfOk result (λ text. text.items ≡ summary_of history.now) }
-{
-    Ok(text(alloc, history)?)
-}
-
-fn text(alloc: Global, history: &[Entry]) -> Result<Vec<u8>, AllocError>
     ensures { IfOk result (λ text. text.items ≡ summary_of history.now) }
 {
     let mut out = Vec::new(alloc);
@@ -85,38 +79,22 @@ fn recalled(history: &[Entry]) -> u128
 {
     let mut sum = 0;
     'history: for entry in history {
-        sum += recalled_in(&entry.reply) as u128;
+        if let Reply::Posted { recalled, .. } = &entry.reply {
+            sum += recalled.as_slice().len() as u128;
+        }
     }
     sum
-}
-
-// How many permits a reply recalls.
-fn recalled_in(reply: &Reply) -> usize
-    ensures { result ≡ recalled_count reply.now }
-{
-    match reply {
-        Reply::Posted { recalled, .. } => recalled.as_slice().len(),
-        _ => 0,
-    }
 }
 
 // The version that the last posting names, 0 where there is none.
 fn last_version(history: &[Entry]) -> u32
     ensures { result ≡ last_version_from 0 history.now }
 {
-    let mut version = 0;
+    let mut last = 0;
     'history: for entry in history {
-        version = version_of_reply(version, &entry.reply);
+        if let Reply::Posted { version, .. } = &entry.reply {
+            last = *version;
+        }
     }
-    version
-}
-
-// The version behind a reply, which a posting names.
-fn version_of_reply(before: u32, reply: &Reply) -> u32
-    ensures { result ≡ version_behind before reply.now }
-{
-    match reply {
-        Reply::Posted { version, .. } => *version,
-        _ => before,
-    }
+    last
 }

@@ -3,7 +3,7 @@ use Rattle.std.specs.Prelude.{codes, count_by, sum_by}
 use Rattle.office_words.specs.declared.entry.Entry.{Entry}
 use Rattle.trial_report.specs.Summaries.{is_no_road, is_not_needed, is_permit, is_refusal, recalled_count, told, last_version_from}
 use Rattle.trial_report.proofs.Lines.{seven_add}
-use Rattle.trial_report.proofs.telling.text.Goals as goal
+use Rattle.trial_report.proofs.telling.summary.Goals as goal
 
 pub returns : goal.returns
 returns c =
