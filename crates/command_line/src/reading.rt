@@ -27,7 +27,10 @@ pub fn read_words(alloc: Global, words: &[String]) -> Result<Asked, WordsRefusal
 {
     match match_words(alloc, words) {
         Ok(matches) => read_matches(&matches).ok_or(WordsRefusal::Usage),
-        Err(error) => Err(refusal_of(&error)),
+        Err(error) => match error.kind() {
+            ErrorKind::OutOfMemory => Err(WordsRefusal::NoMemory),
+            _ => Err(WordsRefusal::Usage),
+        },
     }
 }
 
@@ -40,16 +43,6 @@ fn match_words<'a>(alloc: Global, words: &'a [String]) -> Result<ArgMatches<'a>,
 {
     let office = office(alloc)?;
     office.try_get_matches_from(words)
-}
-
-// Why words with this error ask for nothing.
-fn refusal_of(error: &Error) -> WordsRefusal
-    ensures { result ≡ Usage → kind_of error.now ≢ ErrorKind.OutOfMemory }
-{
-    match error.kind() {
-        ErrorKind::OutOfMemory => WordsRefusal::NoMemory,
-        _ => WordsRefusal::Usage,
-    }
 }
 
 // What the matches ask for.
@@ -96,45 +89,9 @@ fn options_at(matches: &ArgMatches<'_>) -> Option<Options>
     ensures range { IsSomeAnd result NumbersAreInRange }
 {
     Some(Options {
-        seed: seed_at(matches)?,
-        size: size_at(matches)?,
-        trucks: trucks_at(matches)?,
-        gap: gap_at(matches)?,
+        seed: matches.get_one("seed")?,
+        size: matches.get_one("size")?,
+        trucks: matches.get_one("trucks")?,
+        gap: matches.get_one("gap")?,
     })
-}
-
-// The number at --seed.
-fn seed_at(matches: &ArgMatches<'_>) -> Option<u32>
-    requires { HasNumberIn seed_option matches.now }
-    ensures value { result ≡ number_at seed_option (rows_of (found_of matches.now)) }
-    ensures range { IsSomeAnd result (IsInRange seed_option) }
-{
-    matches.get_one("seed")
-}
-
-// The number at --size.
-fn size_at(matches: &ArgMatches<'_>) -> Option<u32>
-    requires { HasNumberIn size_option matches.now }
-    ensures value { result ≡ number_at size_option (rows_of (found_of matches.now)) }
-    ensures range { IsSomeAnd result (IsInRange size_option) }
-{
-    matches.get_one("size")
-}
-
-// The number at --trucks.
-fn trucks_at(matches: &ArgMatches<'_>) -> Option<u32>
-    requires { HasNumberIn trucks_option matches.now }
-    ensures value { result ≡ number_at trucks_option (rows_of (found_of matches.now)) }
-    ensures range { IsSomeAnd result (IsInRange trucks_option) }
-{
-    matches.get_one("trucks")
-}
-
-// The number at --gap.
-fn gap_at(matches: &ArgMatches<'_>) -> Option<u32>
-    requires { HasNumberIn gap_option matches.now }
-    ensures value { result ≡ number_at gap_option (rows_of (found_of matches.now)) }
-    ensures range { IsSomeAnd result (IsInRange gap_option) }
-{
-    matches.get_one("gap")
 }

@@ -1,4 +1,4 @@
-use Rattle.std.proofs.Common.{map}
+use Rattle.std.proofs.Common.{◌∙◌, map}
 use Rattle.std.specs.String.{string_bytes}
 use Rattle.clap.specs.Words.{fault_of, matches_of}
 use Rattle.command_line.specs.Asking.{asked_of}
@@ -6,6 +6,7 @@ use Rattle.command_line.specs.Office.{office}
 use Rattle.command_line.proofs.Refusals.{none_asked}
 use Rattle.command_line.proofs.reading.read_words.Goals as goal
 
-pub returns-in-Err-clause-usage : goal.returns-in-Err-clause-usage
+pub returns-clause-usage : goal.returns-clause-usage
 unfolding asked_of
-returns-in-Err-clause-usage c = λ usage. none_asked (fault_of office (map string_bytes c.args.words.now)) (matches_of office (map string_bytes c.args.words.now)) c.in-Err.error c.in-Err.ensures.fails (c.refusal_of.ensures usage)
+returns-clause-usage c =
+    λ usage. none_asked (fault_of office (map string_bytes c.args.words.now)) (matches_of office (map string_bytes c.args.words.now)) c.in-Err.error c.in-Err.ensures.fails (λ m. c.in_default.not-OutOfMemory (c.kind.ensures ∙ m))
