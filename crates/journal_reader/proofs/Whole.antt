@@ -1,6 +1,6 @@
 -- Journals, line by line: what follows lines that are read, and that each text is the journal of one history.
 use Rattle.std.proofs.Common.{◌≡◌, ◌≢◌, ◌∙◌, ◌∷◌, ◌++◌, [], ℕ, List, Option, Some, None, Bool, true, false, cond, eqb, refl, ap, sym, subst, arith, length, append_assoc, inl, inr, ◌⊎◌}
-use Rattle.std.specs.Prelude.{◌&&◌, IfOk, Result, Ok, Err}
+use Rattle.std.specs.Prelude.{◌&&◌}
 use Rattle.std.specs.Fmt.{digits}
 use Rattle.std.specs.List.{join_with_byte, list_all}
 use Rattle.std.proofs.lemmas.Bool.{true≢false}
@@ -13,11 +13,11 @@ use Rattle.journal_text.specs.Words.{Words, index, spaced}
 use Rattle.journal_text.specs.declared.format.Format.{Format}
 use Rattle.journal_text.specs.declared.format.Format.TheVariants.{One, Two, Three}
 use Rattle.journal_text.specs.Journals.{end_line, ended, first_line, journal_in, line_of}
-use Rattle.journal_reader.specs.Words.{IsTextOf, number_spelled, parts, place_of}
+use Rattle.journal_reader.specs.Words.{number_spelled, parts, place_of}
 use Rattle.journal_reader.specs.Fits.{FitsEntry}
 use Rattle.journal_reader.specs.Formats.{FitsIn, HasJournalIn}
 use Rattle.journal_reader.specs.Laws.{NoProperPrefix}
-use Rattle.journal_reader.specs.Readers.{IsWordsOf, entry_of, entry_words}
+use Rattle.journal_reader.specs.Readers.{entry_of, entry_words}
 use Rattle.journal_reader.specs.Journals.{IsJournalOf, IsLine, front_of, lines_of}
 use Rattle.journal_reader.proofs.Clean.{all_append, all_words, append_nil, dark_is_no, is_no, is_word, no_digit}
 use Rattle.journal_reader.proofs.Spelled.{entry_again, line_words}
@@ -28,10 +28,8 @@ unfolding spaced
 join_spaced w [] = sym (append_nil w)
 join_spaced w (v ∷ ws) = ap (λ t. w ++ (32 ∷ t)) (join_spaced v ws)
 
-pub line_found : {E : Type 0} (line : List ℕ) (found : Result (Option Entry) E) → IfOk found (IsWordsOf (parts 32 line)) → IfOk found (IsTextOf line_of FitsEntry line)
-line_found line (Err e) h = tt
-line_found line (Ok None) h = tt
-line_found line (Ok (Some e)) (h, k) = (sym (join_with_byte-slice_split 32 line) ∙ (ap (join_with_byte 32) h ∙ join_spaced (index e.caller) _), k)
+pub line_found : (line : List ℕ) (e : Entry) → (parts 32 line ≡ entry_words e) × FitsEntry e → (line ≡ line_of e) × FitsEntry e
+line_found line e (h, k) = (sym (join_with_byte-slice_split 32 line) ∙ (ap (join_with_byte 32) h ∙ join_spaced (index e.caller) _), k)
 
 -- a line has no line feed
 spaced_no : (ws : Words) → all_words ws ≡ true → list_all (is_no 10) (spaced ws) ≡ true

@@ -3,8 +3,7 @@
 use Rattle.std.specs.Prelude.{[], ◌∷◌, ℕ, List, Bool, true, codes, if◌then◌else◌, Option, Some, None, option_map, IfSome, nat_le, ◌≡◌}
 use Rattle.std.specs.Str.{bytes_eq}
 use Rattle.std.specs.Borrow.{Bor}
-use Rattle.std.specs.Fmt.{decimal}
-use Rattle.influence_line.specs.Fractions.{Ratio, ratio_text}
+use Rattle.influence_line.specs.Fractions.{Ratio}
 use Rattle.restriction_log.specs.declared.change.Change.{Change}
 use Rattle.restriction_log.specs.declared.change.Change.TheVariants as change
 use Rattle.restriction_log.specs.Changes.{change_of}
@@ -26,42 +25,18 @@ use Rattle.office_words.specs.declared.entry.Reply.{Reply}
 use Rattle.office_words.specs.declared.entry.Reply.TheVariants as reply
 use Rattle.office_words.specs.declared.entry.Entry.{Entry}
 use Rattle.journal_text.specs.Words.{Words, index, list_text, routes_text}
-use Rattle.journal_text.specs.Entries.{call_words, days_words, limit_words, reply_words, shown_words, standing_words}
+use Rattle.journal_text.specs.Entries.{call_words, days_words, limit_words, reply_words}
 use Rattle.journal_text.specs.declared.format.Format.{Format}
 use Rattle.journal_reader.specs.Formats.{if_said}
-use Rattle.journal_reader.specs.Fits.{FitsDay, FitsEntry, FitsIndex, FitsLimit, FitsNumber, FitsRatio, FitsReply, FitsStatus}
+use Rattle.journal_reader.specs.Fits.{FitsDay, FitsEntry, FitsIndex, FitsLimit, FitsReply}
 use Rattle.journal_reader.specs.Words.{Spells, after_word, day_at, fraction_of, group_of, is_empty, list_of, number32, read_number, parts, place_at, place_of, routes_spelled, word_at, ◌>>=◌}
 
 -- words that are read in one go
-abbrev pub trip_words : (ℕ × ℕ × ℕ) → Words → Words
-trip_words t ws = codes "truck" ∷ index t.0 ∷ codes "from" ∷ index t.1 ∷ codes "to" ∷ index t.2 ∷ ws
-
-abbrev pub FitsTrip : (ℕ × ℕ × ℕ) → Type 0
-FitsTrip t = FitsIndex t.0 × FitsIndex t.1 × FitsIndex t.2
-
 abbrev pub term_words : (List ℕ × List ℕ) → Words → Words
 term_words d ws = days_words d.0 d.1 ws
 
 abbrev pub FitsTerm : (List ℕ × List ℕ) → Type 0
 FitsTerm d = FitsDay d.0 × FitsDay d.1
-
-abbrev pub rated_words : (Ratio × Ratio × ℕ) → Words → Words
-rated_words e ws = ratio_text e.0 ∷ codes "hs20" ∷ ratio_text e.1 ∷ codes "rating" ∷ decimal e.2 ∷ ws
-
-abbrev pub FitsRated : (Ratio × Ratio × ℕ) → Type 0
-FitsRated e = FitsRatio e.0 × FitsRatio e.1 × FitsNumber e.2
-
-abbrev pub whose_words : (ℕ × ℕ × ℕ) → Words → Words
-whose_words w ws = shown_words w.0 w.1 w.2 ws
-
-abbrev pub FitsWhose : (ℕ × ℕ × ℕ) → Type 0
-FitsWhose w = FitsNumber w.0 × FitsIndex w.1 × FitsIndex w.2
-
-abbrev pub stands_words : (ℕ × ℕ × Status) → Words → Words
-stands_words s ws = standing_words s.0 s.1 s.2 ws
-
-abbrev pub FitsStanding : (ℕ × ℕ × Status) → Type 0
-FitsStanding s = FitsNumber s.0 × FitsNumber s.1 × FitsStatus s.2
 
 abbrev pub list_words : List ℕ → Words → Words
 list_words xs ws = list_text index xs ∷ ws

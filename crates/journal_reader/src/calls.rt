@@ -6,7 +6,7 @@ ghost use Rattle.journal_text.specs.Words.{index, list_text, routes_text};
 ghost use Rattle.journal_text.specs.Entries.{application_words, asked_words, call_words, change_words, days_words, what_words};
 ghost use Rattle.journal_reader.specs.Words.{Spells, left, list_of, place_of, routes_spelled, seen, word_at};
 ghost use Rattle.journal_reader.specs.Fits.{FitsApplication, FitsAsked, FitsCall, FitsChange, FitsDay, FitsIndex, FitsIndices, FitsNumber, FitsWhat};
-ghost use Rattle.journal_reader.specs.Readers.{FitsTerm, FitsTrip, term_words, trip_words, application_at, asked_at, call_at, change_at, days_at, held_at, plain_call, submit_at, trip_at, what_at};
+ghost use Rattle.journal_reader.specs.Readers.{FitsTerm, term_words, application_at, asked_at, call_at, change_at, days_at, held_at, plain_call, submit_at, trip_at, what_at};
 
 use crate::limits::change;
 use crate::numbers::is;
@@ -118,13 +118,15 @@ fn held(alloc: Global, rest: &[u8]) -> Result<Option<(Call, &[u8])>, AllocError>
     Ok(Some((Call::Held { application }, rest)))
 }
 
-// An application.
-#[tactic(auto, unfolding(crate::specs::Readers::application_at))]
+// An application: the truck, the nodes where the trip begins and ends, the asked routes and the days.
+#[tactic(auto, unfolding(crate::specs::Readers::application_at, crate::specs::Readers::trip_at))]
 fn application(alloc: Global, rest: &[u8]) -> Result<Option<(Application, &[u8])>, AllocError>
     ensures exact { IfOk result (λ found. seen found ≡ application_at (left rest.now)) }
     ensures sound { IfOk result (Spells application_words FitsApplication (left rest.now)) }
 {
-    if let Some(((truck, from, to), rest)) = trip(rest)
+    if let Some((truck, rest)) = named_place(rest, "truck")
+        && let Some((from, rest)) = named_place(rest, "from")
+        && let Some((to, rest)) = named_place(rest, "to")
         && let Some((asked, rest)) = asked(alloc, rest)?
         && let Some(((first, last), rest)) = days(rest)
     {
@@ -132,22 +134,6 @@ fn application(alloc: Global, rest: &[u8]) -> Result<Option<(Application, &[u8])
         Ok(Some((application, rest)))
     } else {
         Ok(None)
-    }
-}
-
-// The truck, and the nodes where the trip begins and ends.
-#[tactic(auto, unfolding(crate::specs::Readers::trip_at))]
-fn trip(rest: &[u8]) -> Option<((u32, u32, u32), &[u8])>
-    ensures exact { seen result ≡ trip_at (left rest.now) }
-    ensures sound { Spells trip_words FitsTrip (left rest.now) result }
-{
-    if let Some((truck, rest)) = named_place(rest, "truck")
-        && let Some((from, rest)) = named_place(rest, "from")
-        && let Some((to, rest)) = named_place(rest, "to")
-    {
-        Some(((truck, from, to), rest))
-    } else {
-        None
     }
 }
 

@@ -1,7 +1,7 @@
 // A journal in front of something else.
 
 ghost use Rattle.std.specs.Prelude.{◌≡◌, ◌++◌, List, ℕ};
-ghost use Rattle.journal_reader.specs.Cuts.{IsCutBehindEnd, begins_end};
+ghost use Rattle.journal_reader.specs.Cuts.{IsCutBehindEnd};
 
 use crate::parts::line;
 
@@ -22,18 +22,11 @@ pub fn cut_behind_end(bytes: &[u8]) -> Cut
     let mut rest = bytes;
     'lines: while let Some((found, behind)) = line(rest) {
         rest = behind;
-        if begins_with_end(found) {
+        if found.starts_with(b"end ") {
             let (front, rest) = bytes.split_at(bytes.len() - rest.len());
             return Cut { front, rest };
         }
     }
     let (front, rest) = bytes.split_at(bytes.len());
     Cut { front, rest }
-}
-
-// Whether a line begins as the last line of a journal does.
-fn begins_with_end(line: &[u8]) -> bool
-    ensures { result ≡ begins_end line.now }
-{
-    line.starts_with(b"end ")
 }

@@ -35,16 +35,8 @@ pub fn entry(alloc: Global, format: Format, line: &[u8]) -> Result<Option<Entry>
 }
 
 // The entry of a line, whatever the format is.
-fn any_entry(alloc: Global, line: &[u8]) -> Result<Option<Entry>, AllocError>
-    ensures exact { IfOk result (λ found. found ≡ entry_of line.now) }
-    ensures sound { IfOk result (IsTextOf line_of FitsEntry line.now) }
-{
-    entry_in_words(alloc, line)
-}
-
-// The entry that the words of a line spell.
 #[tactic(auto, unfolding(crate::specs::Readers::entry_of))]
-fn entry_in_words(alloc: Global, line: &[u8]) -> Result<Option<Entry>, AllocError>
+fn any_entry(alloc: Global, line: &[u8]) -> Result<Option<Entry>, AllocError>
     ensures exact { IfOk result (λ found. found ≡ entry_of line.now) }
     ensures sound { IfOk result (IsWordsOf (parts 32 line.now)) }
 {

@@ -8,12 +8,11 @@ ghost use Rattle.journal_text.specs.Words.{group, index};
 ghost use Rattle.journal_text.specs.Entries.{cause_words, change_words, effect_words, limit_words};
 ghost use Rattle.journal_reader.specs.Words.{Spells, group_of, left, seen, word_at};
 ghost use Rattle.journal_reader.specs.Fits.{FitsCause, FitsChange, FitsIndex, FitsLimit, FitsNumber, FitsRatio};
-ghost use Rattle.journal_reader.specs.Readers.{FitsRated, SpellsLimitOf, rated_words, cause_at, change_at, effect_at, read_group_limit, limit_at, may_stand, read_over_limit, segment_change, span_change, read_span_limit, read_tridem_limit};
+ghost use Rattle.journal_reader.specs.Readers.{SpellsLimitOf, cause_at, change_at, effect_at, read_group_limit, limit_at, may_stand, read_over_limit, segment_change, span_change, read_span_limit, read_tridem_limit};
 
 use crate::numbers::{group_in, is};
 use crate::words::{after, fraction, named_number, named_place, number, place, word};
 use clearance_rules::Limit;
-use influence_line::Frac;
 use office_words::Cause;
 use restriction_log::Change;
 use road_graph::What;
@@ -134,51 +133,36 @@ fn over_limit<'a>(segment: u32, named: &[u8], rest: &'a [u8]) -> Option<(Limit, 
     ensures exact { seen result ≡ read_over_limit segment named.now (left rest.now) }
     ensures sound { SpellsLimitOf segment named.now (left rest.now) result }
 {
-    let Some((has, rest)) = number(rest) else {
-        return None;
-    };
-    let Some((allowed, rest)) = named_number(rest, "over") else {
-        return None;
-    };
-    if is(named, "height") {
-        Some((
-            Limit::Height {
-                segment,
-                has,
-                allowed,
-            },
-            rest,
-        ))
+    let (has, rest) = number(rest)?;
+    let (allowed, rest) = named_number(rest, "over")?;
+    let limit = if is(named, "height") {
+        Limit::Height {
+            segment,
+            has,
+            allowed,
+        }
     } else if is(named, "width") {
-        Some((
-            Limit::Width {
-                segment,
-                has,
-                allowed,
-            },
-            rest,
-        ))
+        Limit::Width {
+            segment,
+            has,
+            allowed,
+        }
     } else if is(named, "length") {
-        Some((
-            Limit::Length {
-                segment,
-                has,
-                allowed,
-            },
-            rest,
-        ))
+        Limit::Length {
+            segment,
+            has,
+            allowed,
+        }
     } else if is(named, "gross") {
-        Some((
-            Limit::Gross {
-                segment,
-                has,
-                allowed,
-            },
-            rest,
-        ))
+        Limit::Gross {
+            segment,
+            has,
+            allowed,
+        }
     } else {
-        None
-    }
+        return None;
+    };
+    Some((limit, rest))
 }
 
 // A group of axles over its allowance.
@@ -232,59 +216,38 @@ fn tridem_limit(segment: u32, rest: &[u8]) -> Option<(Limit, &[u8])>
 }
 
 // An effect over the rating of a span.
-#[tactic(auto, unfolding(crate::specs::Readers::read_span_limit))]
+#[tactic(auto, unfolding(crate::specs::Readers::read_span_limit, crate::specs::Readers::effect_at))]
 fn span_limit(segment: u32, rest: &[u8]) -> Option<(Limit, &[u8])>
     ensures exact { seen result ≡ read_span_limit segment (left rest.now) }
     ensures sound { SpellsLimitOf segment (codes "span") (left rest.now) result }
 {
-    let Some((span, rest)) = place(rest) else {
-        return None;
-    };
-    let Some((named, rest)) = word(rest) else {
-        return None;
-    };
-    let Some(((has, design, rating), rest)) = effect(rest) else {
-        return None;
-    };
-    if is(named, "moment") {
-        Some((
+    if let Some((span, rest)) = place(rest)
+        && let Some((named, rest)) = word(rest)
+        && let Some((has, rest)) = fraction(rest)
+        && let Some(rest) = after(rest, "hs20")
+        && let Some((design, rest)) = fraction(rest)
+        && let Some((rating, rest)) = named_number(rest, "rating")
+    {
+        let limit = if is(named, "moment") {
             Limit::Moment {
                 segment,
                 span,
                 has,
                 design,
                 rating,
-            },
-            rest,
-        ))
-    } else if is(named, "shear") {
-        Some((
+            }
+        } else if is(named, "shear") {
             Limit::Shear {
                 segment,
                 span,
                 has,
                 design,
                 rating,
-            },
-            rest,
-        ))
-    } else {
-        None
-    }
-}
-
-// The truck's effect, that of HS20-44, and the rating.
-#[tactic(auto, unfolding(crate::specs::Readers::effect_at))]
-fn effect(rest: &[u8]) -> Option<((Frac, Frac, u32), &[u8])>
-    ensures exact { seen result ≡ effect_at (left rest.now) }
-    ensures sound { Spells rated_words FitsRated (left rest.now) result }
-{
-    if let Some((has, rest)) = fraction(rest)
-        && let Some(rest) = after(rest, "hs20")
-        && let Some((design, rest)) = fraction(rest)
-        && let Some((rating, rest)) = named_number(rest, "rating")
-    {
-        Some(((has, design, rating), rest))
+            }
+        } else {
+            return None;
+        };
+        Some((limit, rest))
     } else {
         None
     }

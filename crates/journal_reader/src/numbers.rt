@@ -23,13 +23,23 @@ pub fn is(word: &[u8], text: &str) -> bool
     word == text.as_bytes()
 }
 
-/// The number that a word spells.
+/// The number that a word spells. Of its digits it makes a number, and at most the greatest that there is.
+#[tactic(auto, using(crate::proofs::Numerals::value_more))]
 pub fn number_in(word: &[u8]) -> Option<u32>
     ensures exact { result ≡ number_spelled (2 ^ 32) word.now }
     ensures sound { IfSome result (λ n. word.now ≡ decimal n) }
 {
-    let n = value_in(word);
-    if spells(word, n) { Some(n) } else { None }
+    let mut value: u32 = 0;
+    'digits: for b in word {
+        value = value
+            .saturating_mul(10)
+            .saturating_add(u32::from(b.saturating_sub(b'0')));
+    }
+    if spells(word, value) {
+        Some(value)
+    } else {
+        None
+    }
 }
 
 /// The next part, the number that it spells, and what is left behind it. The separator is no digit.
@@ -116,21 +126,10 @@ pub fn day_in(word: &[u8]) -> Option<Day>
 }
 
 /// The fraction in lowest terms that a word spells.
-#[tactic(auto, unfolding(crate::specs::Words::fraction_of))]
+#[tactic(auto, unfolding(crate::specs::Words::pair_of, crate::specs::Words::fraction_of))]
 pub fn fraction_in(word: &[u8]) -> Option<Frac>
     ensures exact { result ≡ fraction_of word.now }
     ensures sound { IsTextOf ratio_text FitsRatio word.now result }
-{
-    let Some((num, den)) = pair_in(word) else {
-        return None;
-    };
-    Frac::of(num, den)
-}
-
-// Two numbers with a slash between them.
-#[tactic(auto, unfolding(crate::specs::Words::pair_of))]
-fn pair_in(word: &[u8]) -> Option<(u128, u128)>
-    ensures { result ≡ pair_of 47 wide_of wide_of word.now }
 {
     let (num, rest) = first_part(word, b'/');
     if let Some((den, rest)) = part(rest, b'/')
@@ -138,7 +137,7 @@ fn pair_in(word: &[u8]) -> Option<(u128, u128)>
         && let Some(den) = wide_in(den)
         && is_done(rest, b'/')
     {
-        Some((num, den))
+        Frac::of(num, den)
     } else {
         None
     }
@@ -275,31 +274,10 @@ fn front_digits(text: &[u8]) -> (usize, u64)
     (end, value)
 }
 
-// The number of a word's digits, and at most the greatest that there is.
-#[tactic(auto, using(crate::proofs::Numerals::value_more))]
-fn value_in(word: &[u8]) -> u32
-    ensures { result ≡ min (value_from 0 word.now) 4294967295 }
-{
-    let mut value: u32 = 0;
-    'digits: for b in word {
-        value = value
-            .saturating_mul(10)
-            .saturating_add(u32::from(b.saturating_sub(b'0')));
-    }
-    value
-}
-
 // The wide number that a word spells.
+#[tactic(auto, using(crate::proofs::Numerals::value_more))]
 fn wide_in(word: &[u8]) -> Option<u128>
     ensures { result ≡ wide_of word.now }
-{
-    let n = wide_value_in(word);
-    if spells(word, n) { Some(n) } else { None }
-}
-
-#[tactic(auto, using(crate::proofs::Numerals::value_more))]
-fn wide_value_in(word: &[u8]) -> u128
-    ensures { result ≡ min (value_from 0 word.now) 340282366920938463463374607431768211455 }
 {
     let mut value: u128 = 0;
     'digits: for b in word {
@@ -307,5 +285,9 @@ fn wide_value_in(word: &[u8]) -> u128
             .saturating_mul(10)
             .saturating_add(u128::from(b.saturating_sub(b'0')));
     }
-    value
+    if spells(word, value) {
+        Some(value)
+    } else {
+        None
+    }
 }

@@ -6,7 +6,7 @@ ghost use Rattle.journal_text.specs.Words.{index, numbers_words, routes_words};
 ghost use Rattle.journal_text.specs.Entries.{cause_words, days_words, limit_words, reply_words, shown_words, standing_words, status_words};
 ghost use Rattle.journal_reader.specs.Words.{Spells, left, seen, word_at};
 ghost use Rattle.journal_reader.specs.Fits.{FitsCause, FitsDay, FitsIndex, FitsLimit, FitsNumber, FitsNumbers, FitsReply, FitsRoutes, FitsStatus};
-ghost use Rattle.journal_reader.specs.Readers.{FitsStanding, FitsWhose, stands_words, whose_words, bare_reply, issued_at, outdated_at, plain_reply, posted_at, refused_at, reply_at, shown_at, standing_at, status_at, whose_at};
+ghost use Rattle.journal_reader.specs.Readers.{bare_reply, issued_at, outdated_at, plain_reply, posted_at, refused_at, reply_at, shown_at, standing_at, status_at, whose_at};
 
 use crate::calls::days;
 use crate::limits::{cause, limit};
@@ -170,15 +170,19 @@ fn outdated(rest: &[u8]) -> Option<(Reply, &[u8])>
     }
 }
 
-// What a permit says.
-#[tactic(auto, unfolding(crate::specs::Readers::shown_at))]
+// What a permit says: whose it is, its days, the versions that it was issued at and found at, and how it stands.
+#[tactic(auto, unfolding(crate::specs::Readers::shown_at, crate::specs::Readers::whose_at, crate::specs::Readers::standing_at))]
 fn shown(rest: &[u8]) -> Option<(Reply, &[u8])>
     ensures exact { seen result ≡ shown_at (left rest.now) }
     ensures sound { Spells reply_words FitsReply (codes "shown" ∷ left rest.now) result }
 {
-    if let Some(((number, caller, truck), rest)) = whose(rest)
+    if let Some((number, rest)) = number(rest)
+        && let Some((caller, rest)) = named_place(rest, "caller")
+        && let Some((truck, rest)) = named_place(rest, "truck")
         && let Some(((first, last), rest)) = days(rest)
-        && let Some(((version, seen, status), rest)) = standing(rest)
+        && let Some((version, rest)) = named_number(rest, "at")
+        && let Some((seen, rest)) = named_number(rest, "seen")
+        && let Some((status, rest)) = status(rest)
     {
         let reply = Reply::Shown {
             number,
@@ -191,38 +195,6 @@ fn shown(rest: &[u8]) -> Option<(Reply, &[u8])>
             status,
         };
         Some((reply, rest))
-    } else {
-        None
-    }
-}
-
-// Whose permit is shown.
-#[tactic(auto, unfolding(crate::specs::Readers::whose_at))]
-fn whose(rest: &[u8]) -> Option<((u32, u32, u32), &[u8])>
-    ensures exact { seen result ≡ whose_at (left rest.now) }
-    ensures sound { Spells whose_words FitsWhose (codes "shown" ∷ left rest.now) result }
-{
-    if let Some((number, rest)) = number(rest)
-        && let Some((caller, rest)) = named_place(rest, "caller")
-        && let Some((truck, rest)) = named_place(rest, "truck")
-    {
-        Some(((number, caller, truck), rest))
-    } else {
-        None
-    }
-}
-
-// The versions that a permit was issued at and found at, and how it stands.
-#[tactic(auto, unfolding(crate::specs::Readers::standing_at))]
-fn standing(rest: &[u8]) -> Option<((u32, u32, Status), &[u8])>
-    ensures exact { seen result ≡ standing_at (left rest.now) }
-    ensures sound { Spells stands_words FitsStanding (left rest.now) result }
-{
-    if let Some((version, rest)) = named_number(rest, "at")
-        && let Some((seen, rest)) = named_number(rest, "seen")
-        && let Some((status, rest)) = status(rest)
-    {
-        Some(((version, seen, status), rest))
     } else {
         None
     }

@@ -11,22 +11,11 @@ use road_graph::Numbers;
 use std::alloc::{AllocError, Global};
 use trip_routes::{Routes, RoutesRefusal, SharedRoutes};
 
-/// The routes that a word spells.
+/// The routes that a word spells, if there are eight at most.
+#[tactic(auto, unfolding(crate::specs::Words::routes_spelled))]
 pub fn routes_in(alloc: Global, word: &[u8]) -> Result<Option<SharedRoutes>, AllocError>
     ensures exact { IfOk result (λ found. found ≡ routes_spelled word.now) }
     ensures sound { IfOk result (IsTextOf routes_text FitsRoutes word.now) }
-{
-    let Some(routes) = all_routes(alloc, word)? else {
-        return Ok(None);
-    };
-    let routes = SharedRoutes::of(alloc, routes)?;
-    Ok(Some(routes))
-}
-
-// The lists with slashes between them, if there are eight at most.
-#[tactic(auto, unfolding(crate::specs::Words::routes_spelled))]
-fn all_routes(alloc: Global, word: &[u8]) -> Result<Option<Routes>, AllocError>
-    ensures { IfOk result (λ found. found ≡ routes_spelled word.now) }
 {
     let (first, mut rest) = first_part(word, b'/');
     let Some(route) = indices_in(alloc, first)? else {
@@ -42,7 +31,8 @@ fn all_routes(alloc: Global, word: &[u8]) -> Result<Option<Routes>, AllocError>
         }
         rest = more;
     }
-    Ok(Some(routes))
+    let shared = SharedRoutes::of(alloc, routes)?;
+    Ok(Some(shared))
 }
 
 // Whether there was room for one route more, which is added then.

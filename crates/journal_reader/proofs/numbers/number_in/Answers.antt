@@ -1,9 +1,16 @@
-use Rattle.std.proofs.Common.{lit<}
+use Rattle.std.proofs.Common.{◌≡◌, ◌∙◌, List, ℕ, ap, arith, lit<}
+use Rattle.std.specs.Prelude.{min}
+use Rattle.std.proofs.lemmas.List.{take_all}
+use Rattle.journal_reader.specs.Words.{value_from}
 use Rattle.journal_reader.proofs.Numerals.{number_is}
 use Rattle.journal_reader.proofs.numbers.number_in.Goals as goal
 
 pub returns-then-spells-clause-exact : goal.returns-then-spells-clause-exact
-returns-then-spells-clause-exact c = (number_is 4294967295 c.args.word.now c.value_in-n.result c.spells.result (lit< tt) c.value_in-n.ensures c.spells.ensures).0 c.if-spells.true
+returns-then-spells-clause-exact c =
+    let value : c.digits.value ≡ min (value_from 0 c.args.word.now) 4294967295 = c.digits.invariant ∙ ap (λ (t : List ℕ). min (value_from 0 t) 4294967295) (take_all c.digits.b-index c.args.word.now (omega arith)) in
+    (number_is 4294967295 c.args.word.now c.digits.value c.spells.result (lit< tt) value c.spells.ensures).0 c.if-spells.true
 
 pub returns-else-spells-clause-exact : goal.returns-else-spells-clause-exact
-returns-else-spells-clause-exact c = (number_is 4294967295 c.args.word.now c.value_in-n.result c.spells.result (lit< tt) c.value_in-n.ensures c.spells.ensures).1 c.if-spells.false
+returns-else-spells-clause-exact c =
+    let value : c.digits.value ≡ min (value_from 0 c.args.word.now) 4294967295 = c.digits.invariant ∙ ap (λ (t : List ℕ). min (value_from 0 t) 4294967295) (take_all c.digits.b-index c.args.word.now (omega arith)) in
+    (number_is 4294967295 c.args.word.now c.digits.value c.spells.result (lit< tt) value c.spells.ensures).1 c.if-spells.false

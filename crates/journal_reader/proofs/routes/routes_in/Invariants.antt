@@ -1,6 +1,6 @@
 use Rattle.std.proofs.Common.{◌≡◌, ◌≤◌, ◌++◌, length, option_map}
 use Rattle.journal_reader.specs.Words.{all_of, list_of, parts, parts_left, place_of}
-use Rattle.journal_reader.proofs.routes.all_routes.Given as goal
+use Rattle.journal_reader.proofs.routes.routes_in.Given as goal
 
 abbrev pub invariant-parts : goal.invariant-parts
 invariant-parts l = record {
