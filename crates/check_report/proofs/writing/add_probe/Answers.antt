@@ -5,7 +5,7 @@ use Rattle.span_rating.specs.declared.loading.Effects.{Effects}
 use Rattle.span_rating.specs.declared.judgement.Fit.{Fit}
 use Rattle.span_rating.specs.Judgement.{fit_of}
 use Rattle.check_report.specs.Probes.{AddsOne, rating_line, span_line}
-use Rattle.check_report.specs.Reports.{IsProbeText, design_line, judgement_text, moment_peak_line, peaks_text, probe_text, shear_peak_line}
+use Rattle.check_report.specs.Reports.{IsProbeText, design_line, moment_peak_line, peaks_text, probe_text, shear_peak_line}
 use Rattle.check_report.proofs.Texts.{joined}
 use Rattle.check_report.proofs.writing.add_probe.Goals as goal
 
