@@ -28,7 +28,7 @@ pub record CarriedOutAll {P : Type 0} (v : Calling P) (script : List Command) (o
 
 module _ {C P : Type 0} where
   -- a worker who has not begun, of an office that is about this, with a script that may be carried out
-  pub record IsReady (base : BaseLists) (view : C → Calling P) (w : Worker C) : Type 0 where
+  pub record HasNotBegun (base : BaseLists) (view : C → Calling P) (w : Worker C) : Type 0 where
     pub waits : w.outcome ≡ outcome.Waiting
     pub about : (view w.calls).who.base ≡ base
     pub sound : All (MayCarryOut base) w.script.items

@@ -5,7 +5,7 @@ ghost use Rattle.analyst_pool.specs.declared.worker.Outcome.TheVariants as outco
 ghost use Rattle.analyst_pool.specs.declared.worker.Worker.{Worker};
 ghost use Rattle.office_words.specs.Commands.{MayCarryOut};
 ghost use Rattle.command_calls.specs.Following.{MayFollow};
-ghost use Rattle.analyst_pool.specs.Ran.{CarriedOutAll, IsReady, Ran};
+ghost use Rattle.analyst_pool.specs.Ran.{CarriedOutAll, HasNotBegun, Ran};
 
 use command_calls::{Errand, Finder, Gate, carry_out};
 use fleet::Base;
@@ -77,7 +77,7 @@ impl<C: OfficeCalls> Worker<C> {
     // Carries out the script, up to the first command for which memory is wanting or the history is full. What is tested outside
     // of the office is counted for each worker anew.
     fn work<G: Gate>(&mut self, alloc: Global, base: &Base, gate: &G)
-        requires { IsReady base.now C.view self.old }
+        requires { HasNotBegun base.now C.view self.old }
         ensures { Ran C.view self.old self.new }
     {
         self.work_counted::<Brand, G>(alloc, base, gate, Blank::new(1));
@@ -94,7 +94,7 @@ impl<C: OfficeCalls> Worker<C> {
         requires name { blank.name ≡ L.name }
         requires parts { blank.parts ≡ L.parts }
         requires counter { 0 < blank.parts }
-        requires ready { IsReady base.now C.view self.old }
+        requires ready { HasNotBegun base.now C.view self.old }
         ensures { Ran C.view self.old self.new }
     {
         let mut finder = Finder::<L>::new(blank);
@@ -121,7 +121,7 @@ pub fn run_actors<R: Threads + Sync, C: OfficeCalls + Send, G: Gate + Sync>(
     gate: &G,
 )
     requires ready { (i : ℕ) (d : Worker C) → i < length workers.old
-        → IsReady base.now C.view (slice_index_or workers.old i d) }
+        → HasNotBegun base.now C.view (slice_index_or workers.old i d) }
     ensures length { length workers.new ≡ length workers.old }
     ensures each { (i : ℕ) (d : Worker C) → i < length workers.old
         → Ran C.view (slice_index_or workers.old i d) (slice_index_or workers.new i d) }

@@ -1,7 +1,7 @@
 // The groups over their limits.
 
 ghost use Rattle.std.specs.Prelude.{◌≡◌, ◌<◌, ◌≤◌, ◌++◌, ◌↔◌, ◌∷◌, [], length, IfOk, OnOk};
-ghost use Rattle.axle_limits.specs.Groups.{group_at, groups_from};
+ghost use Rattle.axle_limits.specs.Groups.{group_at};
 ghost use Rattle.axle_limits.specs.Findings.{findings_of, AddsFindings, gross_finding, AreFindings, IsLegalByWeight};
 
 use crate::group::{Rule, group_limit};
@@ -31,21 +31,12 @@ pub fn findings(alloc: Global, train: &Train) -> Result<Vec<Finding>, NoMemory>
 {
     let mut list = Vec::new(alloc);
     for i in 0..train.len() {
-        add_row(train, i, &mut list)?;
+        for j in i..train.len() {
+            add_group(train, i, j, &mut list)?;
+        }
     }
     add_gross(train, &mut list)?;
     Ok(list)
-}
-
-/// Adds the groups over their limits that begin with axle `i`.
-fn add_row(train: &Train, i: usize, list: &mut Vec<Finding>) -> Result<(), NoMemory>
-    requires within { i < length train.now }
-    ensures { OnOk result (AddsFindings train.now (groups_from train.now i) list.old.items list.new.items) }
-{
-    for j in i..train.len() {
-        add_group(train, i, j, list)?;
-    }
-    Ok(())
 }
 
 /// Adds the group from `i` to `j`, where it is over its limit.

@@ -1,8 +1,8 @@
 // The worst group: the one whose weight is the greatest part of its limit.
 
-ghost use Rattle.std.specs.Prelude.{◌≡◌, ◌+◌, ◌*◌, ◌<◌, ◌≤◌, ◌⊎◌, length};
+ghost use Rattle.std.specs.Prelude.{◌≡◌, ◌*◌, ◌<◌, ◌≤◌, ◌⊎◌, length};
 ghost use Rattle.axle_limits.specs.Groups.{group_at};
-ghost use Rattle.axle_limits.specs.Worst.{IsWorst, IsWorstSoFar, IsGroupInRange, worst_of, IsAtLeastAsBad, IsWorseThan};
+ghost use Rattle.axle_limits.specs.Worst.{IsWorst, IsGroupInRange, worst_of, IsAtLeastAsBad, IsWorseThan};
 
 use crate::group::{bounds, group_limit};
 use axle_train::Train;
@@ -28,22 +28,9 @@ pub fn worst(train: &Train) -> WorstGroup
     bounds(train);
     let mut best = group_at(train, 0, 0);
     for i in 0..train.len() {
-        best = worst_in_row(train, i, best);
-    }
-    best
-}
-
-/// The worst of `best` and the groups that begin with axle `i`.
-fn worst_in_row(train: &Train, i: usize, best: WorstGroup) -> WorstGroup
-    requires within { i < length train.now }
-    requires so_far { IsWorstSoFar train.now i i best }
-    requires range { IsGroupInRange best }
-    ensures so_far { IsWorstSoFar train.now (i + 1) (i + 1) result }
-    ensures range { IsGroupInRange result }
-{
-    let mut best = best;
-    for j in i..train.len() {
-        best = worse(best, group_at(train, i, j));
+        for j in i..train.len() {
+            best = worse(best, group_at(train, i, j));
+        }
     }
     best
 }

@@ -8,8 +8,8 @@ use Rattle.span_rating.specs.declared.judgement.Fit.TheVariants.{Fits, Moment, S
 use Rattle.day_text.specs.declared.check_file.Probe.{Probe}
 
 -- a text grew by this
-abbrev pub Grew : {Z : Type 0} → String Z → String Z → List ℕ → Type 0
-Grew old new more = string_bytes new ≡ string_bytes old ++ more
+abbrev pub TextGrew : {Z : Type 0} → String Z → String Z → List ℕ → Type 0
+TextGrew old new more = string_bytes new ≡ string_bytes old ++ more
 
 -- span INCHES
 abbrev pub span_line : Probe → List ℕ

@@ -1,7 +1,7 @@
 // The two lines that the reports on probes have in common.
 
 ghost use Rattle.std.specs.Prelude.{◌≡◌, OnOk};
-ghost use Rattle.check_report.specs.Probes.{Grew, fit_name, rating_line, span_line};
+ghost use Rattle.check_report.specs.Probes.{TextGrew, fit_name, rating_line, span_line};
 
 use day_text::Probe;
 use span_rating::Fit;
@@ -9,7 +9,7 @@ use std::alloc::AllocError;
 
 /// Adds the line of a span.
 pub fn add_span(text: &mut String, probe: &Probe) -> Result<(), AllocError>
-    ensures { OnOk result (Grew text.old text.new (span_line probe.now)) }
+    ensures { OnOk result (TextGrew text.old text.new (span_line probe.now)) }
 {
     let inches = probe.inches;
     write!(text, "span {inches}\n")
@@ -17,7 +17,7 @@ pub fn add_span(text: &mut String, probe: &Probe) -> Result<(), AllocError>
 
 /// Adds the line of a rating, and of the judgement by it.
 pub fn add_rating(text: &mut String, rating: u32, fit: Fit) -> Result<(), AllocError>
-    ensures { OnOk result (Grew text.old text.new (rating_line rating fit)) }
+    ensures { OnOk result (TextGrew text.old text.new (rating_line rating fit)) }
 {
     let name = fit_name(fit);
     write!(text, "rating {rating} {name}\n")

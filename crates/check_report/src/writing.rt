@@ -3,14 +3,13 @@
 ghost use Rattle.std.specs.Prelude.{◌≡◌, IfOk, OnOk};
 ghost use Rattle.std.specs.List.{flat_map};
 ghost use Rattle.std.specs.String.{string_bytes};
-ghost use Rattle.day_text.specs.Spans.{AreSpans, IsProbeSpan};
-ghost use Rattle.check_report.specs.Probes.{AddsOne, AreTexts, Grew};
-ghost use Rattle.check_report.specs.Reports.{IsOnlyReport, IsProbeText, IsReport, ReportIsOne, design_line, end_name, high_line, legal_line, moment_peak_line, over_line, rule_name, shear_peak_line, truck_text, wide_line};
+ghost use Rattle.day_text.specs.Spans.{IsProbeSpan};
+ghost use Rattle.check_report.specs.Probes.{AddsOne, TextGrew};
+ghost use Rattle.check_report.specs.Reports.{IsOnlyReport, IsProbeText, IsReport, ReportIsOne, design_line, end_name, moment_peak_line, over_line, rule_name, shear_peak_line, truck_text};
 
 use crate::probes::{add_rating, add_span};
 use axle_limits::{Finding, LEGAL_HEIGHT, LEGAL_WIDTH, Rule, findings};
 use axle_train::Train;
-use clearance_rules::Load;
 use day_text::{CheckFile, Probe};
 use fleet::Truck;
 use hs20_truck::effects;
@@ -30,7 +29,9 @@ pub fn report(alloc: Global, file: &CheckFile) -> Result<String, NoMemory>
     let probes = file.probes.as_slice();
     report_is_one();
     let mut text = truck_report(alloc, &file.truck)?;
-    add_probes(&mut text, train, probes)?;
+    for probe in probes {
+        add_probe(&mut text, train, probe)?;
+    }
     Ok(text)
 }
 
@@ -52,15 +53,22 @@ fn truck_report(alloc: Global, truck: &Truck) -> Result<String, NoMemory>
     let mut text = String::new(alloc);
     write!(text, "truck {name} axles {axles} gross {gross}\n")?;
     add_findings(&mut text, found.as_slice())?;
-    add_height(&mut text, load)?;
-    add_width(&mut text, load)?;
-    add_legality(&mut text, load)?;
+    let height = load.height();
+    if height > LEGAL_HEIGHT {
+        write!(text, "high {height} {LEGAL_HEIGHT}\n")?;
+    }
+    let width = load.width();
+    if width > LEGAL_WIDTH {
+        write!(text, "wide {width} {LEGAL_WIDTH}\n")?;
+    }
+    let legal = if load.legal() { "yes" } else { "no" };
+    write!(text, "legal {legal}\n")?;
     Ok(text)
 }
 
 // Each group over its limit, and the gross weight where it is over its own, with axles counted from 1.
 fn add_findings(text: &mut String, found: &[Finding]) -> Result<(), AllocError>
-    ensures { OnOk result (Grew text.old text.new (flat_map over_line found.now)) }
+    ensures { OnOk result (TextGrew text.old text.new (flat_map over_line found.now)) }
 {
     for finding in found {
         let first = finding.i as u128 + 1;
@@ -86,50 +94,6 @@ fn rule_name(rule: Rule) -> &'static str
     }
 }
 
-// The height, where it is over its limit.
-fn add_height(text: &mut String, load: &Load) -> Result<(), AllocError>
-    ensures { OnOk result (Grew text.old text.new (high_line load.now)) }
-{
-    let height = load.height();
-    if height > LEGAL_HEIGHT {
-        return write!(text, "high {height} {LEGAL_HEIGHT}\n");
-    }
-    Ok(())
-}
-
-// The width, where it is over its limit.
-fn add_width(text: &mut String, load: &Load) -> Result<(), AllocError>
-    ensures { OnOk result (Grew text.old text.new (wide_line load.now)) }
-{
-    let width = load.width();
-    if width > LEGAL_WIDTH {
-        return write!(text, "wide {width} {LEGAL_WIDTH}\n");
-    }
-    Ok(())
-}
-
-// Whether the load is legal.
-fn add_legality(text: &mut String, load: &Load) -> Result<(), AllocError>
-    ensures { OnOk result (Grew text.old text.new (legal_line load.now)) }
-{
-    if load.legal() {
-        text.push_str("legal yes\n")
-    } else {
-        text.push_str("legal no\n")
-    }
-}
-
-// The truck on each probe.
-fn add_probes(text: &mut String, train: &Train, probes: &[Probe]) -> Result<(), AllocError>
-    requires { AreSpans probes.now }
-    ensures { OnOk result (AddsOne (AreTexts (IsProbeText train.now) probes.now) (string_bytes text.old) (string_bytes text.new)) }
-{
-    for probe in probes {
-        add_probe(text, train, probe)?;
-    }
-    Ok(())
-}
-
 // The truck on one probe: the span and the truck's peaks on it, those of the HS20-44 truck, and the judgement by the rating.
 fn add_probe(text: &mut String, train: &Train, probe: &Probe) -> Result<(), AllocError>
     requires { IsProbeSpan probe.now }
@@ -151,7 +115,7 @@ fn add_probe(text: &mut String, train: &Train, probe: &Probe) -> Result<(), Allo
 
 // A peak moment, with axles counted from 1.
 fn add_moment(text: &mut String, peak: &MomentPeak) -> Result<(), AllocError>
-    ensures { OnOk result (Grew text.old text.new (moment_peak_line peak.now)) }
+    ensures { OnOk result (TextGrew text.old text.new (moment_peak_line peak.now)) }
 {
     let value = peak.value;
     let Place { q, lead, section } = peak.place;
@@ -166,7 +130,7 @@ fn add_moment(text: &mut String, peak: &MomentPeak) -> Result<(), AllocError>
 
 // A peak end shear.
 fn add_shear(text: &mut String, peak: &ShearPeak) -> Result<(), AllocError>
-    ensures { OnOk result (Grew text.old text.new (shear_peak_line peak.now)) }
+    ensures { OnOk result (TextGrew text.old text.new (shear_peak_line peak.now)) }
 {
     let value = peak.value;
     let lead = peak.lead;
@@ -176,7 +140,7 @@ fn add_shear(text: &mut String, peak: &ShearPeak) -> Result<(), AllocError>
 
 // The peaks of the HS20-44 truck.
 fn add_design(text: &mut String, design: &Effects) -> Result<(), AllocError>
-    ensures { OnOk result (Grew text.old text.new (design_line design.now)) }
+    ensures { OnOk result (TextGrew text.old text.new (design_line design.now)) }
 {
     let moment = design.moment;
     let shear = design.shear;

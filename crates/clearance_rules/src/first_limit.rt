@@ -6,7 +6,7 @@ ghost use Rattle.span_rating.specs.Judgement.{fit_of};
 ghost use Rattle.span_rating.specs.Loading.{AreSmall};
 ghost use Rattle.road_graph.specs.Roads.{IsRoads};
 ghost use Rattle.restriction_log.specs.States.{AreOf};
-ghost use Rattle.clearance_rules.specs.Limits.{posted_limit, group_limit, tridem_limit, weights_limit, limit_of_fit, limit_of_span, spans_limit, limit_of, Meets};
+ghost use Rattle.clearance_rules.specs.Limits.{posted_limit, group_limit, tridem_limit, weights_limit, limit_of_fit, limit_of_span, limit_of, Meets};
 
 use crate::crossing::Crossing;
 use crate::limit::Limit;
@@ -63,14 +63,6 @@ impl<E: SpanStudy> Crossing<'_, E> {
         if let Some(limit) = weights_limit(&values, self.load, self.segment) {
             return Some(limit);
         }
-        self.spans_limit()
-    }
-
-    /// The first failing limit of the spans of the segment.
-    fn spans_limit(&self) -> Option<Limit>
-        requires { IsTrain self.now.load.now.train }
-        ensures { result ≡ spans_limit self.now.network.now self.now.state.now self.now.load.now.train self.now.segment }
-    {
         for span in self.network.spans_of(self.segment) {
             if let Some(limit) = self.span_limit(*span) {
                 return Some(limit);

@@ -1,9 +1,9 @@
 // Whether a segment meets a load.
 
-ghost use Rattle.std.specs.Prelude.{◌≡◌, ◌<◌, ◌+◌, ◌↔◌, length, is_none, IsTrue};
+ghost use Rattle.std.specs.Prelude.{◌≡◌, ◌<◌, ◌+◌, ◌↔◌, length, IsTrue};
 ghost use Rattle.axle_train.specs.Bounds.{IsTrain};
 ghost use Rattle.restriction_log.specs.States.{AreOf, base_of};
-ghost use Rattle.clearance_rules.specs.Limits.{spans_limit, meets, Meets};
+ghost use Rattle.clearance_rules.specs.Limits.{meets, Meets};
 
 use crate::crossing::Crossing;
 use crate::first_limit::{bounds, posted_limit, weights_limit};
@@ -85,15 +85,6 @@ impl<E: SpanStudy> Crossing<'_, E> {
         if weights_limit(&values, self.load, self.segment).is_some() {
             return false;
         }
-        self.spans_carry()
-    }
-
-    /// Whether every span of the segment carries the load.
-    fn spans_carry(&self) -> bool
-        requires { IsTrain self.now.load.now.train }
-        ensures { result
-            ≡ is_none (spans_limit self.now.network.now self.now.state.now self.now.load.now.train self.now.segment) }
-    {
         for span in self.network.spans_of(self.segment) {
             let inches = self.network.span(*span).inches;
             let rating = self.state.rating(*span);

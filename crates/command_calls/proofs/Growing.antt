@@ -4,7 +4,7 @@ use Rattle.std.proofs.lemmas.List.{append-nil}
 use Rattle.office_words.specs.declared.entry.Call.{Call}
 use Rattle.office_words.specs.declared.entry.Entry.{Entry}
 use Rattle.office_words.specs.declared.entry.Reply.{Reply}
-use Rattle.office_core.specs.Calls.{Answered, Calling, Sees, Stopped, Who}
+use Rattle.office_core.specs.Calls.{Answered, Calling, Sees, AddedNone, Who}
 use Rattle.office_core.specs.Offices.{entry}
 use Rattle.office_core.specs.Replies.{is_full}
 use Rattle.office_core.proofs.Callings.{full_is}
@@ -21,7 +21,7 @@ module _ {P : Type 0} where
   pub caller_of : (v w : Calling P) → w.who ≡ v.who → w.who.caller ≡ v.who.caller
   caller_of v w same = ap (λ (t : Who P). t.caller) same
 
-  pub grew_none : (v w : Calling P) (most : ℕ) → w.who ≡ v.who → Stopped v most w → Grew v [] w
+  pub grew_none : (v w : Calling P) (most : ℕ) → w.who ≡ v.who → AddedNone v most w → Grew v [] w
   grew_none v w most same s = record {
     who = same;
     own = s.own ∙ sym (append-nil v.own);

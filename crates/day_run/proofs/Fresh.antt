@@ -14,7 +14,7 @@ use Rattle.office_turn.specs.declared.view.Receipt.{Receipt}
 use Rattle.office_desk.specs.Desks.{Terms, calls_with_pass, terms_in}
 use Rattle.fleet.specs.Bases.{BaseLists}
 use Rattle.office_words.specs.Commands.{MayCarryOut}
-use Rattle.analyst_pool.specs.Ran.{AddsEntries, IsReady, Ran}
+use Rattle.analyst_pool.specs.Ran.{AddsEntries, HasNotBegun, Ran}
 use Rattle.analyst_pool.specs.declared.worker.Outcome.TheVariants as outcome
 use Rattle.analyst_pool.specs.declared.worker.Worker.{Worker}
 use Rattle.day_run.specs.declared.ended.Ended.{Ended}
@@ -43,7 +43,7 @@ module _ {C : Type 0} (pass_of : C → Passing Entry Terms) where
   -- the workers of sound scripts can be let work
   pub are_ready : (lock : Lock Terms) (base : BaseLists) (scripts : List (Vec Command Global)) (workers : List (Worker C))
       → (terms_in lock).0 ≡ base → AreSound base scripts → AreShort scripts → AreFresh pass_of lock scripts workers
-      → (i : ℕ) (d : Worker C) → i < length scripts → IsReady base (λ c. calls_with_pass (pass_of c)) (get_or workers i d)
+      → (i : ℕ) (d : Worker C) → i < length scripts → HasNotBegun base (λ c. calls_with_pass (pass_of c)) (get_or workers i d)
   are_ready lock base scripts workers is sound short fresh i d near = let s = item scripts i near in let f = fresh i s d near in record {
     waits = f.waits;
     about = ap (λ (l : Lock Terms). (terms_in l).0) f.ready.lock_is ∙ is;

@@ -8,7 +8,6 @@ use names::NoMemory;
 use office_words::Command;
 use restriction_log::State;
 use std::alloc::Global;
-use trip_applications::Application;
 
 /// The most columns of heights that an analyst makes.
 const COLUMNS: u32 = 16;
@@ -39,7 +38,11 @@ fn learn_applicants(alloc: Global, base: &mut Base, orders: &[Order]) -> Result<
 {
     let count = base.fleet().len() as u32;
     'trucks: for truck in 0..count {
-        if applies(orders, truck) {
+        let applies = orders.iter().any(|order| match &order.command {
+            Command::Apply(application) => application.truck() == truck,
+            _ => false,
+        });
+        if applies {
             base.learn(alloc, truck)?;
         }
     }
@@ -53,7 +56,13 @@ fn learn_seekers(alloc: Global, base: &mut Base, orders: &[Order]) -> Result<(),
     let first = State::base(alloc, base.network())?;
     let count = base.fleet().len() as u32;
     'trucks: for truck in 0..count {
-        if seeks(orders, truck) {
+        let seeks = orders.iter().any(|order| match &order.command {
+            Command::Apply(application) => {
+                application.truck() == truck && application.asked().is_none()
+            }
+            _ => false,
+        });
+        if seeks {
             base.learn_opening(alloc, &first, truck)?;
         }
     }
@@ -70,49 +79,25 @@ fn learn_goals(alloc: Global, base: &mut Base, orders: &[Order]) -> Result<(), N
     base.learn_heights(alloc)
 }
 
-// Whether one of the commands is an application for this truck.
-fn applies(orders: &[Order], truck: u32) -> bool {
-    orders.iter().any(|order| match &order.command {
-        Command::Apply(application) => application.truck() == truck,
-        _ => false,
-    })
-}
-
-// Whether one of them asks for no route.
-fn seeks(orders: &[Order], truck: u32) -> bool {
-    orders.iter().any(|order| match &order.command {
-        Command::Apply(application) => {
-            application.truck() == truck && application.asked().is_none()
-        }
-        _ => false,
-    })
-}
-
 // How many applications without a route have another goal than the one before of the same actor and truck.
 fn changes_of_goal(alloc: Global, orders: &[Order]) -> Result<u32, NoMemory> {
     let mut goals = vec![in alloc; None; MOST_ACTORS * MOST_TRUCKS]?;
     let mut changes: u32 = 0;
     'orders: for order in orders {
-        if let Command::Apply(application) = &order.command {
-            if is_change(goals.as_mut_slice(), order.actor, application) {
+        let Command::Apply(application) = &order.command else {
+            continue;
+        };
+        let place = order.actor as usize * MOST_TRUCKS + application.truck() as usize;
+        if application.asked().is_some() || place >= goals.len() {
+            continue;
+        }
+        let goal = application.to();
+        if let Some(before) = goals[place] {
+            if before != goal {
                 changes = changes.saturating_add(1);
             }
         }
+        goals[place] = Some(goal);
     }
     Ok(changes)
-}
-
-// Whether an application without a route has another goal than is noted for its actor and truck. Its own is noted then.
-fn is_change(goals: &mut [Option<u32>], actor: u32, application: &Application) -> bool {
-    let place = actor as usize * MOST_TRUCKS + application.truck() as usize;
-    if application.asked().is_some() || place >= goals.len() {
-        return false;
-    }
-    let goal = application.to();
-    let before = goals[place];
-    goals[place] = Some(goal);
-    match before {
-        Some(other) => other != goal,
-        None => false,
-    }
 }

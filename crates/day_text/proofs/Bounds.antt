@@ -483,35 +483,35 @@ none_fit = record {
 }
 
 -- what each record keeps
-record IsKept (d : DaySoFar) : Type 0 where
+record KeepsBounds (d : DaySoFar) : Type 0 where
   roads : IsRoads d.network
   fleet : IsFleet d.fleet
   day : is_day_text d.day ≡ true
   commands : All (IsGiven d.network) d.orders
 
-road_keeps : (d : DaySoFar) (kind : RoadKind) (fields : Row) → IsKept d → Gives IsKept (with_road d kind fields)
-road_keeps d kind fields h = then_gives {r = roads_of d.network kind fields} (λ roads e. gives IsKept (record d { network = roads }) (record {
+road_keeps : (d : DaySoFar) (kind : RoadKind) (fields : Row) → KeepsBounds d → Gives KeepsBounds (with_road d kind fields)
+road_keeps d kind fields h = then_gives {r = roads_of d.network kind fields} (λ roads e. gives KeepsBounds (record d { network = roads }) (record {
   roads = (roads_give d.network kind fields h.roads).ok roads e;
   fleet = h.fleet;
   day = h.day;
   commands = All-weaker (IsGiven d.network) (IsGiven roads) (λ o w. still_within d.network roads ((roads_more d.network kind fields).ok roads e) o.command w) d.orders h.commands;
 }))
 
-truck_keeps : (d : DaySoFar) (fields : Row) → IsKept d → Gives IsKept (with_truck d fields)
-truck_keeps d fields h = then_gives {r = fleet_of d.fleet fields} (λ fleet e. gives IsKept (record d { fleet = fleet })
+truck_keeps : (d : DaySoFar) (fields : Row) → KeepsBounds d → Gives KeepsBounds (with_truck d fields)
+truck_keeps d fields h = then_gives {r = fleet_of d.fleet fields} (λ fleet e. gives KeepsBounds (record d { fleet = fleet })
     (record { roads = h.roads; fleet = (fleet_gives d.fleet fields h.fleet).ok fleet e; day = h.day; commands = h.commands }))
 
-actor_keeps : (d : DaySoFar) (fields : Row) → IsKept d → Gives IsKept (with_actor d fields)
-actor_keeps d fields h = then_gives {r = actors_of d.actors fields} (λ actors _. gives IsKept (record d { actors = actors })
+actor_keeps : (d : DaySoFar) (fields : Row) → KeepsBounds d → Gives KeepsBounds (with_actor d fields)
+actor_keeps d fields h = then_gives {r = actors_of d.actors fields} (λ actors _. gives KeepsBounds (record d { actors = actors })
     (record { roads = h.roads; fleet = h.fleet; day = h.day; commands = h.commands }))
 
 one_more : (roads : Roads) (orders : List Order) (order : Order) → All (IsGiven roads) orders → IsGiven roads order → Gives (All (IsGiven roads)) (with_order orders order)
 one_more roads orders order h is = then_gives {r = limit (nat_lt (length orders) 4096) kind.Commands} (λ x _. gives (All (IsGiven roads)) (orders ++ order ∷ []) (All-push (IsGiven roads) orders order h is))
 
-command_keeps : (d : DaySoFar) (kind : CommandKind) (fields : Row) → IsKept d → Gives IsKept (with_command d kind fields)
+command_keeps : (d : DaySoFar) (kind : CommandKind) (fields : Row) → KeepsBounds d → Gives KeepsBounds (with_command d kind fields)
 command_keeps d kind fields h =
     then_gives {r = order_of d kind fields} (λ order e.
-    then_gives {r = with_order d.orders order} (λ orders e'. gives IsKept (record d { orders = orders }) (record {
+    then_gives {r = with_order d.orders order} (λ orders e'. gives KeepsBounds (record d { orders = orders }) (record {
       roads = h.roads;
       fleet = h.fleet;
       day = h.day;
@@ -520,10 +520,10 @@ command_keeps d kind fields h =
 
 abbrev Holds : DayProgress → Type 0
 Holds so_far.Start = Unit {0}
-Holds (so_far.Open d) = IsKept d
-Holds (so_far.Ended d) = IsKept d
+Holds (so_far.Open d) = KeepsBounds d
+Holds (so_far.Ended d) = KeepsBounds d
 
-goes_on : (r : Result DaySoFar Cause) → Gives IsKept r → Gives Holds (going_on r)
+goes_on : (r : Result DaySoFar Cause) → Gives KeepsBounds r → Gives Holds (going_on r)
 goes_on r h = then_gives {r = r} (λ d e. gives Holds (so_far.Open d) (h.ok d e))
 
 opening_gives : (fields : Row) → Gives (λ day. is_day_text day ≡ true) (opening_of fields)
@@ -548,7 +548,7 @@ opening_keeps record_kind.Actor fields = refuses Holds _
 opening_keeps (record_kind.Command kind) fields = refuses Holds _
 opening_keeps record_kind.End fields = refuses Holds _
 
-later_keeps : (d : DaySoFar) (kind : RecordKind) (fields : Row) → IsKept d → Gives Holds (judge_later d kind fields)
+later_keeps : (d : DaySoFar) (kind : RecordKind) (fields : Row) → KeepsBounds d → Gives Holds (judge_later d kind fields)
 later_keeps d record_kind.Day fields h = refuses Holds _
 later_keeps d (record_kind.Road kind) fields h = goes_on (with_road d kind fields) (road_keeps d kind fields h)
 later_keeps d record_kind.Truck fields h = goes_on (with_truck d fields) (truck_keeps d fields h)
@@ -564,7 +564,7 @@ kind_keeps (so_far.Ended d) kind fields h = refuses Holds _
 step_keeps : (p : DayProgress) (fields : Row) → Holds p → Gives Holds (judge_day p fields)
 step_keeps p fields h = then_gives {r = or_bad bad.Kind (kind_of (field_of fields 0))} (λ kind _. kind_keeps p kind fields h)
 
-bounded : (d : DaySoFar) → IsKept d → IsBounded (file_parts_of d)
+bounded : (d : DaySoFar) → KeepsBounds d → IsBounded (file_parts_of d)
 bounded d h = record {
   roads = h.roads;
   base = record { few = h.fleet.few; trains = h.fleet.trains };

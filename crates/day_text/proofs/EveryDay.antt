@@ -32,11 +32,11 @@ use Rattle.record_text.specs.declared.refusal.FileRefusal.{FileRefusal}
 use Rattle.record_text.specs.declared.refusal.RecordCause.TheVariants as bad
 use Rattle.record_text.specs.declared.refusal.Kind.TheVariants as kind
 use Rattle.day_text.proofs.Commanded.{IsGood, base_of, order_good}
-use Rattle.day_text.proofs.Kept.{IsKept, roads_kept, sound_kept}
+use Rattle.day_text.proofs.Kept.{KeepsRoads, roads_kept, sound_kept}
 use Rattle.record_text.proofs.Steps.{Gives, gives, records_keep, refuses, then_gives, was_within}
 
 -- a command that might be given may be given where there is more
-sound_more : (old new : BaseLists) → IsKept old.roads new.roads → length old.fleet ≤ length new.fleet → (c : Command) → MayCarryOut old c → MayCarryOut new c
+sound_more : (old new : BaseLists) → KeepsRoads old.roads new.roads → length old.fleet ≤ length new.fleet → (c : Command) → MayCarryOut old c → MayCarryOut new c
 sound_more old new kept fleet (command.Apply a) s = sound_kept old new kept fleet a s
 sound_more old new kept fleet (command.Post change) s = tt
 sound_more old new kept fleet (command.Day day) s = tt
@@ -46,7 +46,7 @@ sound_more old new kept fleet (command.Show number) s = tt
 abbrev Keeps : DaySoFar → Type 0
 Keeps d = IsDayFile (file_parts_of d)
 
-all_sound : (old new : BaseLists) → IsKept old.roads new.roads → length old.fleet ≤ length new.fleet → (orders : List Order) → All (λ (o : Order). MayCarryOut old o.command) orders → All (λ (o : Order). MayCarryOut new o.command) orders
+all_sound : (old new : BaseLists) → KeepsRoads old.roads new.roads → length old.fleet ≤ length new.fleet → (orders : List Order) → All (λ (o : Order). MayCarryOut old o.command) orders → All (λ (o : Order). MayCarryOut new o.command) orders
 all_sound old new kept fleet orders h = All-weaker (λ (o : Order). MayCarryOut old o.command) (λ (o : Order). MayCarryOut new o.command) (λ o s. sound_more old new kept fleet o.command s) orders h
 
 road_keeps : (d : DaySoFar) (kind : RoadKind) (fields : Row) → Keeps d → Gives Keeps (with_road d kind fields)

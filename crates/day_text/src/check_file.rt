@@ -5,7 +5,7 @@ ghost use Rattle.csv.specs.Records.{fields_of};
 ghost use Rattle.day_text.specs.Refusals.{IsRefusedAs};
 ghost use Rattle.day_text.specs.Spans.{AreSpans, IsProbeSpan};
 ghost use Rattle.record_text.specs.Causes.{Grows, Judges, Tells};
-ghost use Rattle.day_text.specs.Checks.{check_of, ended_check, is_check_kind, judge_check, judge_check_kind, judge_end, judge_later, judge_probe, judge_truck, probes_of};
+ghost use Rattle.day_text.specs.Checks.{check_of, ended_check, is_check_kind, judge_check, judge_check_kind, judge_later, judge_truck, probes_of};
 
 use crate::truck::{load_of, parse_truck};
 use csv::StringRecord;
@@ -170,7 +170,7 @@ fn take_truck(alloc: Global, row: &StringRecord) -> Result<CheckProgress, Record
 }
 
 // Where a record behind the truck leads: it is a probe or the end.
-#[tactic(auto, unfolding(crate::specs::Checks::judge_later))]
+#[tactic(auto, unfolding(crate::specs::Checks::judge_later, crate::specs::Checks::judge_probe, crate::specs::Checks::judge_end))]
 fn take_later(file: CheckFile, row: &StringRecord) -> Result<CheckProgress, RecordRefusal>
     ensures { Judges result (judge_later file (fields_of row.now)) }
 {
@@ -179,22 +179,20 @@ fn take_later(file: CheckFile, row: &StringRecord) -> Result<CheckProgress, Reco
             drop(file);
             Err(RecordRefusal::bad(RecordCause::Order))
         }
-        "probe" => take_probe(file, row),
-        _ => take_end(file, row),
-    }
-}
-
-// Where the record of a probe leads.
-#[tactic(auto, unfolding(crate::specs::Checks::judge_probe))]
-fn take_probe(file: CheckFile, row: &StringRecord) -> Result<CheckProgress, RecordRefusal>
-    ensures { Judges result (judge_probe file (fields_of row.now)) }
-{
-    let mut file = file;
-    match add_probe(&mut file.probes, row) {
-        Ok(()) => Ok(CheckProgress::Open(file)),
-        Err(refusal) => {
+        "probe" => {
+            let mut file = file;
+            match add_probe(&mut file.probes, row) {
+                Ok(()) => Ok(CheckProgress::Open(file)),
+                Err(refusal) => {
+                    drop(file);
+                    Err(refusal)
+                }
+            }
+        }
+        _ if is_blank_from(row, 1) => Ok(CheckProgress::Ended(file)),
+        _ => {
             drop(file);
-            Err(refusal)
+            Err(RecordRefusal::bad(RecordCause::Extra))
         }
     }
 }
@@ -211,17 +209,4 @@ fn add_probe(probes: &mut Probes, row: &StringRecord) -> Result<(), RecordRefusa
     demand(rating <= 100_000, RecordCause::Range(3))?;
     limit(probes.as_slice().len() < 64, Kind::Probes)?;
     probes.push(Probe { inches, rating })
-}
-
-// Where the end leads.
-#[tactic(auto, unfolding(crate::specs::Checks::judge_end))]
-fn take_end(file: CheckFile, row: &StringRecord) -> Result<CheckProgress, RecordRefusal>
-    ensures { Judges result (judge_end file (fields_of row.now)) }
-{
-    if is_blank_from(row, 1) {
-        Ok(CheckProgress::Ended(file))
-    } else {
-        drop(file);
-        Err(RecordRefusal::bad(RecordCause::Extra))
-    }
 }

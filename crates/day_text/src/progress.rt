@@ -124,7 +124,11 @@ fn take_later(
             };
             keep_going(growing, taken)
         }
-        RecordKind::End => take_end(growing, row),
+        RecordKind::End if is_blank_from(row, 1) => Ok(DayProgress::Ended(growing)),
+        RecordKind::End => {
+            drop(growing);
+            Err(RecordRefusal::bad(RecordCause::Extra))
+        }
     }
 }
 
@@ -142,17 +146,5 @@ fn keep_going(
             drop(growing);
             Err(refusal)
         }
-    }
-}
-
-// Where the end leads.
-fn take_end(growing: Growing, row: &StringRecord) -> Result<DayProgress, RecordRefusal>
-    ensures { Judges result (judge_later growing RecordKind.End (fields_of row.now)) }
-{
-    if is_blank_from(row, 1) {
-        Ok(DayProgress::Ended(growing))
-    } else {
-        drop(growing);
-        Err(RecordRefusal::bad(RecordCause::Extra))
     }
 }

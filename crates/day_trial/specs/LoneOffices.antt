@@ -9,6 +9,6 @@ abbrev pub office_in : {F O : Type 0} → Inside F O → Opened
 office_in lone = lone.office.office
 
 -- the office is about the base; and what is known of the trucks is of this base, and of a version that the office has or had
-pub record IsReady {F O : Type 0} (lone : Inside F O) : Type 0 where
+pub record IsAboutBase {F O : Type 0} (lone : Inside F O) : Type 0 where
   pub base : lone.office.office.base ≡ arc_value lone.base
   pub follows : IfSome lone.finder.follower (FollowsOffice lone.office.office)

@@ -36,13 +36,13 @@ pub struct LoneOffice<F: Ledger, O: Ledger> {
 
 impl<F: Ledger, O: Ledger> Model for LoneOffice<F, O> {
     ghost use Rattle.office_core.specs.Offices.{Opened};
-    ghost use Rattle.day_trial.specs.LoneOffices.{IsReady, office_in};
+    ghost use Rattle.day_trial.specs.LoneOffices.{IsAboutBase, office_in};
 
     ghost Value = { Opened };
 
     ghost view = { office_in };
 
-    ghost invariant = { IsReady };
+    ghost invariant = { IsAboutBase };
 }
 
 impl<F: Ledger, O: Ledger> LoneOffice<F, O> {

@@ -109,7 +109,10 @@ impl Base {
         if load.legal() {
             return Ok(());
         }
-        keep_lengths(alloc, &self.network, load)
+        'spans: for span in 0..self.network.spans() {
+            load.keep(alloc, self.network.span(span).inches)?;
+        }
+        Ok(())
     }
 
     /// Keeps which segments a truck may pass before anything is posted. Analysts then copy this, and test only what was posted
@@ -157,16 +160,6 @@ impl Base {
             None => Ok(Heights::none(alloc)),
         }
     }
-}
-
-// Keeps what a load asks of spans of each length on the roads.
-fn keep_lengths(alloc: Global, network: &Network, load: &mut Load) -> Result<(), NoMemory>
-    ensures { load.new ≡ load.old }
-{
-    'spans: for span in 0..network.spans() {
-        load.keep(alloc, network.span(span).inches)?;
-    }
-    Ok(())
 }
 
 // Tells of each truck that its axles are within the bounds of trains, as its load promises. Nothing is done.

@@ -3,7 +3,6 @@
 ghost use Rattle.std.specs.Prelude.{◌≡◌, ◌<◌, length, IfOk};
 ghost use Rattle.snapshot_store.specs.Stores.{state_now};
 ghost use Rattle.fleet.specs.Passing.{TestsAtMost, flags_of};
-ghost use Rattle.fleet.specs.Openings.{flags_at_first};
 
 use crate::base::Base;
 use crate::truck_on::TruckOn;
@@ -35,31 +34,12 @@ impl TruckAt<'_> {
             (λ flags. flags.items ≡ flags_of self.now.base.now (state_now self.now.snapshot.now) self.now.truck) }
         ensures steps { TestsAtMost (length self.now.base.now.roads.segments) steps.old steps.new }
     {
-        match self.base.opening(self.truck) {
-            Some(opening) => self.flags_from(alloc, opening, steps),
-            None => {
-                let (base, state, truck) = (self.base, self.snapshot.state(), self.truck);
-                let on = TruckOn { base, state, truck };
-                on.flags(alloc, steps)
-            }
-        }
-    }
-
-    // The same by what the truck might pass before anything was posted: of the segments, those that postings name are tested.
-    fn flags_from<L: Ledger>(
-        &self,
-        alloc: Global,
-        opening: &[bool],
-        steps: &mut Steps<L>,
-    ) -> Result<Vec<bool>, NoMemory>
-        requires opening { opening.now ≡ flags_at_first self.now.base.now self.now.truck }
-        ensures flags { IfOk result
-            (λ flags. flags.items ≡ flags_of self.now.base.now (state_now self.now.snapshot.now) self.now.truck) }
-        ensures steps { TestsAtMost (length self.now.base.now.roads.segments) steps.old steps.new }
-    {
-        self.base.lists_are_in_order();
         let (base, state, truck) = (self.base, self.snapshot.state(), self.truck);
         let on = TruckOn { base, state, truck };
+        let Some(opening) = base.opening(truck) else {
+            return on.flags(alloc, steps);
+        };
+        base.lists_are_in_order();
         let mut flags = Vec::from_slice(alloc, opening)?;
         let mut from = 0;
         'posted: while let Some(segment) = self.snapshot.next_changed(0, from) {

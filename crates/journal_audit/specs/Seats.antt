@@ -1,5 +1,5 @@
 -- What is known of the trucks for a caller.
-use Rattle.std.specs.Prelude.{Option, Some, None, ℕ, ◌≤◌}
+use Rattle.std.specs.Prelude.{Option, Some, None, ℕ}
 use Rattle.restriction_log.specs.States.{InForce}
 use Rattle.snapshot_store.specs.Stores.{Stored, state_now}
 use Rattle.trip_analysis.specs.declared.analyst.Analyst.{Analyst}
@@ -16,8 +16,3 @@ AreKnownAtVersion base versions (Some at) analyst = (s : Stored) × IsKeptAt ver
 
 abbrev pub IsSeat : BaseLists → Versions → Seat → Type 0
 IsSeat base versions seat = AreKnownAtVersion base versions seat.at seat.analyst
-
--- the version at which the trucks are known, if any, is not above this one
-abbrev pub IsBehind : Option ℕ → ℕ → Type 0
-IsBehind None seen = Unit {0}
-IsBehind (Some at) seen = at ≤ seen

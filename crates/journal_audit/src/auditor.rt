@@ -1,6 +1,6 @@
 // Who judges the entries of a history, one after another.
 
-ghost use Rattle.std.specs.Prelude.{◌≡◌, ◌≢◌, ◌↔◌, ◌≤◌, ◌+◌, All, IfOk, OnOk, false, length, true};
+ghost use Rattle.std.specs.Prelude.{◌≡◌, ◌≢◌, ◌↔◌, ◌≤◌, ◌+◌, All, IfOk, false, length, true};
 ghost use Rattle.office_words.specs.declared.entry.Call.TheVariants as call;
 ghost use Rattle.office_words.specs.declared.entry.Reply.TheVariants as reply;
 ghost use Rattle.journal_audit.specs.declared.versions.Versions.{Versions};
@@ -51,43 +51,15 @@ impl Auditor {
         ensures base { IfOk result (λ a. a.replay.base ≡ arc_value base) }
         ensures opened { IfOk result (λ a. HasOpened a day history.now) }
     {
+        let seats = empty_seats(alloc, &base)?;
         let replay = Replay::open(alloc, Arc::try_clone(&base)?, day)?;
-        match first_versions(alloc, &replay, history) {
-            Ok(versions) => Auditor::with_seats(alloc, base, replay, versions),
-            Err(_) => {
-                drop(replay);
-                Err(NoMemory)
-            }
-        }
-    }
-
-    // An auditor of this replay and these versions, with seats at which nothing is known yet.
-    fn with_seats(
-        alloc: Global,
-        base: Arc<Base, Global>,
-        replay: Replay,
-        versions: Versions,
-    ) -> Result<Auditor, NoMemory>
-        requires base { replay.base ≡ arc_value base }
-        requires versions { AreVersions (stored_now replay) versions }
-        requires all { length versions.kept.items ≡ versions_of (stored_now replay) }
-        ensures replay { IfOk result (λ a. a.replay ≡ replay) }
-        ensures versions { IfOk result (λ a. a.versions ≡ versions) }
-        ensures auditor { IfOk result IsAuditor }
-    {
-        match empty_seats(alloc, &base) {
-            Ok(seats) => Ok(Auditor {
-                base,
-                replay,
-                versions,
-                seats,
-            }),
-            Err(_) => {
-                drop(replay);
-                drop(versions);
-                Err(NoMemory)
-            }
-        }
+        let versions = first_versions(alloc, &replay, history)?;
+        Ok(Auditor {
+            base,
+            replay,
+            versions,
+            seats,
+        })
     }
 
     /// Whether an entry is a step of the office's machine, from what the entries before it leave. If it is, the auditor is behind

@@ -16,7 +16,7 @@ pub(crate) fn are_same_findings(one: &What, other: &What) -> bool
         (What::NotNeeded, What::NotNeeded) => true,
         (What::Route(a), What::Route(b)) => are_same_routes(a, b),
         (What::Fails { segment: a }, What::Fails { segment: b }) => a == b,
-        (What::Cut(a), What::Cut(b)) => are_same_numbers(a, b),
+        (What::Cut(a), What::Cut(b)) => a.as_slice() == b.as_slice(),
         _ => false,
     }
 }

@@ -1,11 +1,11 @@
 // What is found again for the submits of a caller.
 
-ghost use Rattle.std.specs.Prelude.{◌≡◌, ◌↔◌, IfOk, Some, true};
+ghost use Rattle.std.specs.Prelude.{IfOk};
 ghost use Rattle.snapshot_store.specs.Stores.{Stored, state_now};
 ghost use Rattle.trip_applications.specs.Applications.{Sound};
 ghost use Rattle.trip_analysis.specs.Findings.{IsFinding};
 ghost use Rattle.journal_audit.specs.declared.versions.Versions.{Versions};
-ghost use Rattle.journal_audit.specs.Seats.{IsBehind, IsSeat};
+ghost use Rattle.journal_audit.specs.Seats.{IsSeat};
 ghost use Rattle.journal_audit.specs.Versions.{SnapshotsGoOn, HasKept, IsKeptAt};
 
 use crate::versions::Versions;
@@ -58,43 +58,14 @@ impl Seat {
         ensures seat { IsSeat base.now versions.now self.new }
     {
         let snapshot = versions.at(seen);
-        if !self.is_behind(seen) {
-            return find(self.alloc, base, snapshot.state(), application, steps);
-        }
-        self.go_on(base, versions, seen, steps);
-        self.analyst
-            .find(self.alloc, base, snapshot, application, steps)
-    }
-
-    // Whether the version at which the trucks are known, if any, is not above this one. Takes no memory.
-    fn is_behind(&self, seen: u32) -> bool
-        ensures { (result ≡ true) ↔ IsBehind self.now.at seen }
-    {
-        match self.at {
-            Some(at) => at <= seen,
-            None => true,
-        }
-    }
-
-    // Goes on to a version that is kept. Takes no memory.
-    fn go_on<L: Ledger>(
-        &mut self,
-        base: &Base,
-        versions: &Versions,
-        seen: u32,
-        steps: &mut Steps<L>,
-    )
-        requires order { SnapshotsGoOn base.now versions.now }
-        requires kept { HasKept versions.now seen }
-        requires behind { IsBehind self.old.at seen }
-        requires seat { IsSeat base.now versions.now self.old }
-        ensures at { self.new.at ≡ Some seen }
-        ensures seat { IsSeat base.now versions.now self.new }
-    {
-        let next = versions.at(seen);
         if let Some(at) = self.at {
-            self.analyst.turn_to(base, versions.at(at), next, steps);
+            if at > seen {
+                return find(self.alloc, base, snapshot.state(), application, steps);
+            }
+            self.analyst.turn_to(base, versions.at(at), snapshot, steps);
         }
         self.at = Some(seen);
+        self.analyst
+            .find(self.alloc, base, snapshot, application, steps)
     }
 }

@@ -14,6 +14,7 @@ use crate::routes::routes_in;
 use crate::words::{after, day, named_number, named_place, number, place, places, routes, word};
 use office_words::Call;
 use permit_days::Day;
+use road_graph::SharedNumbers;
 use std::alloc::{AllocError, Global};
 use trip_analysis::{Proposal, What};
 use trip_applications::Application;
@@ -186,7 +187,7 @@ fn what(alloc: Global, rest: &[u8]) -> Result<Option<(What, &[u8])>, AllocError>
         let Some((nodes, rest)) = places(alloc, rest)? else {
             return Ok(None);
         };
-        return Ok(Some((What::Cut(nodes), rest)));
+        return Ok(Some((What::Cut(SharedNumbers::of(alloc, nodes)?), rest)));
     }
     Ok(None)
 }

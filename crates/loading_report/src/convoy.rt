@@ -3,7 +3,7 @@
 ghost use Rattle.std.specs.Prelude.{◌≡◌, IfOk, OnOk};
 ghost use Rattle.std.specs.String.{string_bytes};
 ghost use Rattle.day_text.specs.Spans.{AreSpans, IsProbeSpan};
-ghost use Rattle.check_report.specs.Probes.{AddsOne, AreTexts, Grew};
+ghost use Rattle.check_report.specs.Probes.{AddsOne, AreTexts, TextGrew};
 ghost use Rattle.loading_report.specs.Convoys.{IsConvoyReport, IsConvoyText, IsOnlyConvoyReport, convoy_refusal_line, moment_fraction_line, shear_fraction_line};
 
 use check_report::{add_rating, add_span};
@@ -72,14 +72,14 @@ fn add_probe(text: &mut String, convoy: &Convoy, probe: &Probe) -> Result<(), Al
 
 // The convoy's peak moment.
 fn add_moment(text: &mut String, moment: &Frac) -> Result<(), AllocError>
-    ensures { OnOk result (Grew text.old text.new (moment_fraction_line moment.now)) }
+    ensures { OnOk result (TextGrew text.old text.new (moment_fraction_line moment.now)) }
 {
     write!(text, "moment {moment}\n")
 }
 
 // The convoy's peak end shear.
 fn add_shear(text: &mut String, shear: &Frac) -> Result<(), AllocError>
-    ensures { OnOk result (Grew text.old text.new (shear_fraction_line shear.now)) }
+    ensures { OnOk result (TextGrew text.old text.new (shear_fraction_line shear.now)) }
 {
     write!(text, "shear {shear}\n")
 }

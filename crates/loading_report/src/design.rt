@@ -3,7 +3,7 @@
 ghost use Rattle.std.specs.Prelude.{◌≡◌, IfOk, OnOk};
 ghost use Rattle.std.specs.String.{string_bytes};
 ghost use Rattle.day_text.specs.Spans.{AreSpans, IsProbeSpan};
-ghost use Rattle.check_report.specs.Probes.{AddsOne, AreTexts, Grew};
+ghost use Rattle.check_report.specs.Probes.{AddsOne, AreTexts, TextGrew};
 ghost use Rattle.loading_report.specs.Designs.{IsDesignReport, IsDesignText, IsOnlyDesignReport, governing_moment_line, governing_shear_line, load_name};
 
 use axle_train::Train;
@@ -56,7 +56,7 @@ fn add_probe(text: &mut String, train: &Train, probe: &Probe) -> Result<(), Allo
 
 // The greatest moment, and the load that it is of.
 fn add_moment(text: &mut String, moment: &Frac, by: By) -> Result<(), AllocError>
-    ensures { OnOk result (Grew text.old text.new (governing_moment_line moment.now by)) }
+    ensures { OnOk result (TextGrew text.old text.new (governing_moment_line moment.now by)) }
 {
     let name = load_name(by);
     write!(text, "moment {moment} {name}\n")
@@ -64,7 +64,7 @@ fn add_moment(text: &mut String, moment: &Frac, by: By) -> Result<(), AllocError
 
 // The greatest end shear, and the load that it is of.
 fn add_shear(text: &mut String, shear: &Frac, by: By) -> Result<(), AllocError>
-    ensures { OnOk result (Grew text.old text.new (governing_shear_line shear.now by)) }
+    ensures { OnOk result (TextGrew text.old text.new (governing_shear_line shear.now by)) }
 {
     let name = load_name(by);
     write!(text, "shear {shear} {name}\n")

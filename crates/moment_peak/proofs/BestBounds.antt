@@ -10,7 +10,7 @@ use Rattle.axle_train.specs.Trains.{axle_at, no_axle}
 use Rattle.axle_train.proofs.Places.{axle_fits}
 use Rattle.influence_line.specs.Placed.{moment_sum, placed}
 use Rattle.moment_peak.specs.declared.best.Candidate.{Candidate}
-use Rattle.moment_peak.specs.Runs.{run, weight_in, front_in, back_in, run_weight, run_value, vertex_value, IsRun}
+use Rattle.moment_peak.specs.Runs.{run, weight_in, front_in, back_in, run_weight, run_value, vertex_value, IsRunWith}
 use Rattle.moment_peak.specs.Candidates.{IsBest}
 use Rattle.influence_line.proofs.Totals.{total, total_is, under_of}
 use Rattle.moment_peak.proofs.Runs.{weight_of, front_of, back_of, share_all}
@@ -18,7 +18,7 @@ use Rattle.influence_line.proofs.Lines.{moment_under}
 use Rattle.moment_peak.proofs.Bound.{BelowVertex, below_some_vertex}
 
 -- a run has weight
-pub run_loaded : (axles : List Axle) (k first last : ℕ) → EachFits axles → IsRun axles k first last → 0 < run_weight axles first last
+pub run_loaded : (axles : List Axle) (k first last : ℕ) → EachFits axles → IsRunWith axles k first last → 0 < run_weight axles first last
 run_loaded axles k first last fits is_run =
     let short : k - first < last + 1 - first = omega (arith, is_run.to, is_run.from) in
     let here : first + (k - first) ≡ k = omega (arith, is_run.from) in

@@ -9,7 +9,7 @@ use Rattle.moment_peak.specs.declared.pair.Pair.{Pair}
 use Rattle.moment_peak.specs.Candidates.{IsAttained, IsValueOf}
 use Rattle.moment_peak.specs.Centres.{IsNoBetter}
 use Rattle.moment_peak.specs.Pairs.{weight_to, IsTight, IsPair, IsThisPair, IsUpToPair, IsFirstPair, IsNextPair}
-use Rattle.moment_peak.specs.Runs.{run_value, run_weight, run_moment, moment_in, IsRun}
+use Rattle.moment_peak.specs.Runs.{run_value, run_weight, run_moment, moment_in, IsRunWith}
 use Rattle.moment_peak.specs.Sweeps.{IsSummed, IsOnSpan}
 use Rattle.moment_peak.proofs.BestBounds.{run_loaded}
 use Rattle.moment_peak.proofs.OneCentre.{summed_loaded}
@@ -66,7 +66,7 @@ pub start_some : (span : ℕ) (axles : List Axle) (pair : Pair) (found : Candida
 start_some span axles pair found train p v first axle half =
     let f = pair.run.first in
     let l = pair.run.last in
-    let is_run : IsRun axles pair.axle f l = record { from = p.from; to = p.to; within = p.on.can_be.within } in
+    let is_run : IsRunWith axles pair.axle f l = record { from = p.from; to = p.to; within = p.on.can_be.within } in
     let s = parts_of span axles pair.axle f l train is_run p.on.can_be in
     let same : pair.axle ≡ f = omega (arith, first, axle) in
     let none : weight_to axles f pair.axle ≡ 0 = rw same (sum_none weight_of axles f) in

@@ -11,7 +11,7 @@ use Rattle.influence_line.specs.Placed.{moment_line, moment_sum, placed, Load}
 use Rattle.axle_train.specs.declared.axle.Axle.{Axle}
 use Rattle.axle_train.specs.Bounds.{RisesFrom}
 use Rattle.axle_train.specs.Trains.{axle_at, no_axle}
-use Rattle.moment_peak.specs.Runs.{run, IsRun, CanBeOnSpan}
+use Rattle.moment_peak.specs.Runs.{run, IsRunWith, CanBeOnSpan}
 use Rattle.moment_peak.proofs.Vertex.{below_vertex, only_vertex, no_vertex_left, no_vertex_right}
 use Rattle.influence_line.proofs.Totals.{total, total_is, under_of}
 use Rattle.moment_peak.proofs.Runs.{weight_of, front_of, back_of, IsOn, exact_all}
@@ -90,7 +90,7 @@ pub record SomeVertex (q span m x : ℕ) (lead : ℤ) (axles : List Axle) : Type
   pub k : ℕ
   pub first : ℕ
   pub last : ℕ
-  pub is_run : IsRun axles k first last
+  pub is_run : IsRunWith axles k first last
   pub can_be : CanBeOnSpan span axles first last
   pub alone : IsAlone q span lead axles first last
   pub stands : at q lead (axle_at axles k) ≡ pos x

@@ -6,7 +6,7 @@ use Rattle.axle_train.specs.Trains.{axle_at}
 use Rattle.axle_train.proofs.Places.{place_ordered}
 use Rattle.influence_line.proofs.Totals.{total, total_is, total-append}
 use Rattle.moment_peak.specs.declared.run.Sums.{Sums}
-use Rattle.moment_peak.specs.Runs.{run, weight_in, moment_in, front_in, back_in, run_weight, run_moment, run_value, vertex_value, IsRun, CanBeOnSpan}
+use Rattle.moment_peak.specs.Runs.{run, weight_in, moment_in, front_in, back_in, run_weight, run_moment, run_value, vertex_value, IsRunWith, CanBeOnSpan}
 use Rattle.moment_peak.specs.Sweeps.{AreSums}
 use Rattle.moment_peak.specs.Candidates.{value_by_sums}
 use Rattle.moment_peak.proofs.Runs.{weight_of, moment_of, front_of, back_of, balance}
@@ -33,7 +33,7 @@ pub record AreNear (span : ℕ) (axles : List Axle) (k first last : ℕ) : Type 
   pub front : front_in (axle_at axles k).place (run axles first last) ≤ run_weight axles first last * span
   pub back : back_in (axle_at axles k).place (run axles first last) ≤ run_weight axles first last * span
 
-pub are_near : (span : ℕ) (axles : List Axle) (k first last : ℕ) → IsTrain axles → IsRun axles k first last → CanBeOnSpan span axles first last → AreNear span axles k first last
+pub are_near : (span : ℕ) (axles : List Axle) (k first last : ℕ) → IsTrain axles → IsRunWith axles k first last → CanBeOnSpan span axles first last → AreNear span axles k first last
 are_near span axles k first last train is_run can =
     let p = (axle_at axles k).place in
     let middle = run axles first last in
@@ -53,7 +53,7 @@ are_near span axles k first last train is_run can =
     }
 
 -- what the axles in front of one take off, by the sums of those before it
-pub front_by_sums : (axles : List Axle) (k first last : ℕ) → IsTrain axles → IsRun axles k first last → front_in (axle_at axles k).place (run axles first last) + moment_in (take (k - first) (drop first axles)) ≡ weight_in (take (k - first) (drop first axles)) * (axle_at axles k).place
+pub front_by_sums : (axles : List Axle) (k first last : ℕ) → IsTrain axles → IsRunWith axles k first last → front_in (axle_at axles k).place (run axles first last) + moment_in (take (k - first) (drop first axles)) ≡ weight_in (take (k - first) (drop first axles)) * (axle_at axles k).place
 front_by_sums axles k first last train is_run =
     let p = (axle_at axles k).place in
     let before = take (k - first) (drop first axles) in
@@ -78,7 +78,7 @@ pub record BySums (span : ℕ) (axles : List Axle) (k first last : ℕ) (whole b
   pub front : before.moment ≤ before.weight * (axle_at axles k).place
   pub value : value_by_sums span whole before (axle_at axles k).place ≡ run_value span axles k first last
 
-pub value_is : (span : ℕ) (axles : List Axle) (k first last : ℕ) (whole before : Sums) → IsTrain axles → IsRun axles k first last → CanBeOnSpan span axles first last → AreSums axles first (last + 1) whole → AreSums axles first k before → BySums span axles k first last whole before
+pub value_is : (span : ℕ) (axles : List Axle) (k first last : ℕ) (whole before : Sums) → IsTrain axles → IsRunWith axles k first last → CanBeOnSpan span axles first last → AreSums axles first (last + 1) whole → AreSums axles first k before → BySums span axles k first last whole before
 value_is span axles k first last whole before train is_run can w b =
     let p = (axle_at axles k).place in
     let middle = run axles first last in

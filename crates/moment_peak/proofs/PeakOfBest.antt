@@ -7,7 +7,7 @@ use Rattle.axle_train.specs.Trains.{axle_at}
 use Rattle.influence_line.specs.Placed.{placed}
 use Rattle.influence_line.specs.Peaks.{IsPeakMoment, IsTrainPlaced}
 use Rattle.moment_peak.specs.declared.best.Candidate.{Candidate}
-use Rattle.moment_peak.specs.Runs.{run_weight, run_value, IsRun}
+use Rattle.moment_peak.specs.Runs.{run_weight, run_value, IsRunWith}
 use Rattle.moment_peak.specs.Candidates.{IsAttained, IsBest}
 use Rattle.moment_peak.proofs.BestBounds.{greatest, lead_at, run_loaded}
 use Rattle.moment_peak.proofs.SamePlace.{peak_place}
@@ -16,7 +16,7 @@ use Rattle.moment_peak.proofs.SamePlace.{peak_place}
 pub peak_of_best : (span : ℕ) (axles : List Axle) (best : Candidate) → 0 < span → IsTrain axles → IsAttained span axles best → IsBest span axles best → IsPeakMoment (IsTrainPlaced axles) span best.value (4 * best.run.sums.weight * span)
 peak_of_best span axles best some train a is_best =
     let R = run_weight axles best.run.first best.run.last in
-    let is_run : IsRun axles best.axle best.run.first best.run.last = record { from = a.from; to = a.to; within = a.on.can_be.within } in
+    let is_run : IsRunWith axles best.axle best.run.first best.run.last = record { from = a.from; to = a.to; within = a.on.can_be.within } in
     let four : 0 < 4 = omega arith in
     let loaded : 0 < R = run_loaded axles best.axle best.run.first best.run.last train.each is_run in
     let exact : best.value * (4 * R * span) ≡ run_value span axles best.axle best.run.first best.run.last * (4 * best.run.sums.weight * span) = rw (a.value, a.on.sums.weight) refl in

@@ -22,7 +22,7 @@ use Rattle.influence_line.proofs.Members.{All-range, All-flat_map, Contains-rang
 use Rattle.influence_line.proofs.Unique.{moment_unique}
 use Rattle.influence_line.proofs.Values.{moment_by}
 use Rattle.moment_peak.specs.PeakMoment.{moment_at, moments_in, moments_of, peak_moment_of, PeakMomentIsAFunction, NoOtherIsThePeakMoment}
-use Rattle.moment_peak.specs.Runs.{run, run_value, run_weight, front_in, back_in, weight_in, IsRun}
+use Rattle.moment_peak.specs.Runs.{run, run_value, run_weight, front_in, back_in, weight_in, IsRunWith}
 use Rattle.moment_peak.proofs.BestBounds.{below_value, lead_at, run_loaded, vertex_reaches}
 use Rattle.moment_peak.proofs.Bound.{below_some_vertex}
 use Rattle.moment_peak.proofs.RunSums.{sum_part}
@@ -76,7 +76,7 @@ same_value R q m value n d L scale reached under most =
 
 module _ (axles : List Axle) (span : ℕ) (some : 1 ≤ span) (train : IsTrain axles) where
   -- the vertex of a run is among the places
-  vertex_among : (k first last v : ℕ) → IsRun axles k first last → v ≤ 2 * run_weight axles first last * span → Contains (moments_of axles span) (moment_at axles span (2 * run_weight axles first last) v (lead_at (2 * run_weight axles first last) (axle_at axles k).place v))
+  vertex_among : (k first last v : ℕ) → IsRunWith axles k first last → v ≤ 2 * run_weight axles first last * span → Contains (moments_of axles span) (moment_at axles span (2 * run_weight axles first last) v (lead_at (2 * run_weight axles first last) (axle_at axles k).place v))
   vertex_among k first last v is_run on =
       let R = run_weight axles first last in
       let place = (axle_at axles k).place in
@@ -88,7 +88,7 @@ module _ (axles : List Axle) (span : ℕ) (some : 1 ≤ span) (train : IsTrain a
       (among_leads span (2 * R) (lead_at (2 * R) place v) (omega (arith, ints, behind)) (omega (arith, ints, on)))
 
   -- what is no less than each of these moments is no less than a run's value
-  pub value_under : (n d : ℕ) → ((q section : ℕ) (lead : ℤ) → 1 ≤ q → section ≤ q * span → Contains (moments_of axles span) (moment_at axles span q section lead) → moment_sum (q * span) section (placed q lead axles) * d ≤ n * (q * q * span)) → (k first last : ℕ) → IsRun axles k first last → run_value span axles k first last * d ≤ n * (4 * run_weight axles first last * span)
+  pub value_under : (n d : ℕ) → ((q section : ℕ) (lead : ℤ) → 1 ≤ q → section ≤ q * span → Contains (moments_of axles span) (moment_at axles span q section lead) → moment_sum (q * span) section (placed q lead axles) * d ≤ n * (q * q * span)) → (k first last : ℕ) → IsRunWith axles k first last → run_value span axles k first last * d ≤ n * (4 * run_weight axles first last * span)
   value_under n d most k first last is_run =
       let R = run_weight axles first last in
       let value = run_value span axles k first last in
@@ -124,7 +124,7 @@ module _ (axles : List Axle) (span : ℕ) (some : 1 ≤ span) (train : IsTrain a
   -- the train has a moment somewhere
   any_moment : 0 < length (moments_of axles span)
   any_moment =
-      let is_run : IsRun axles 0 0 0 = record { from = omega arith; to = omega arith; within = omega (arith, train.many) } in
+      let is_run : IsRunWith axles 0 0 0 = record { from = omega arith; to = omega arith; within = omega (arith, train.many) } in
       let there = vertex_among 0 0 0 0 is_run (omega arith) in
       omega (arith, there.1)
 

@@ -13,7 +13,7 @@ use Rattle.moment_peak.specs.declared.best.Candidate.{Candidate}
 use Rattle.moment_peak.specs.declared.run.Run.{Run}
 use Rattle.moment_peak.specs.Candidates.{IsAttained}
 use Rattle.moment_peak.specs.Centres.{HaveOneCentre, IsWidest}
-use Rattle.moment_peak.specs.Runs.{run, front_in, back_in, run_weight, run_moment, run_value, IsRun}
+use Rattle.moment_peak.specs.Runs.{run, front_in, back_in, run_weight, run_moment, run_value, IsRunWith}
 use Rattle.moment_peak.specs.Vertices.{IsVertex, HasMomentAt}
 use Rattle.moment_peak.proofs.BestBounds.{lead_at, vertex_reaches, inside_left, run_loaded}
 use Rattle.moment_peak.proofs.BySums.{balance_in}
@@ -38,7 +38,7 @@ pub record PeakPlace (span : ℕ) (axles : List Axle) (num den k first last : �
   pub on : v ≤ 2 * run_weight axles first last * span
   pub reaches : moment_sum (2 * run_weight axles first last * span) v (placed (2 * run_weight axles first last) (lead_at (2 * run_weight axles first last) (axle_at axles k).place v) axles) * den ≡ num * (2 * run_weight axles first last * (2 * run_weight axles first last) * span)
 
-pub peak_place : (span : ℕ) (axles : List Axle) (num den k first last : ℕ) → IsTrain axles → ((q section : ℕ) (lead : ℤ) → 1 ≤ q → section ≤ q * span → moment_sum (q * span) section (placed q lead axles) * den ≤ num * (q * q * span)) → IsRun axles k first last → num * (4 * run_weight axles first last * span) ≡ run_value span axles k first last * den → 0 < run_value span axles k first last → PeakPlace span axles num den k first last
+pub peak_place : (span : ℕ) (axles : List Axle) (num den k first last : ℕ) → IsTrain axles → ((q section : ℕ) (lead : ℤ) → 1 ≤ q → section ≤ q * span → moment_sum (q * span) section (placed q lead axles) * den ≤ num * (q * q * span)) → IsRunWith axles k first last → num * (4 * run_weight axles first last * span) ≡ run_value span axles k first last * den → 0 < run_value span axles k first last → PeakPlace span axles num den k first last
 peak_place span axles num den k first last train most is_run exact value =
     let p = (axle_at axles k).place in
     let R = run_weight axles first last in
@@ -85,7 +85,7 @@ pub record VertexAtPeak (span : ℕ) (axles : List Axle) (num den k first last :
   pub vertex : IsVertex axles span k first last at
   pub reaches : HasMomentAt axles span num den at
 
-pub vertex_at_peak : (span : ℕ) (axles : List Axle) (num den k first last first' last' : ℕ) (at : Place) → IsTrain axles → IsRun axles k first' last' → PeakPlace span axles num den k first' last' → IsRun axles k first last → HaveOneCentre axles first last first' last' → at.q ≡ 2 * run_weight axles first last → at.section + run_moment axles first last ≡ run_weight axles first last * span + run_weight axles first last * (axle_at axles k).place → at.lead +ℤ pos (run_moment axles first last + run_weight axles first last * (axle_at axles k).place) ≡ pos (run_weight axles first last * span) → VertexAtPeak span axles num den k first last at
+pub vertex_at_peak : (span : ℕ) (axles : List Axle) (num den k first last first' last' : ℕ) (at : Place) → IsTrain axles → IsRunWith axles k first' last' → PeakPlace span axles num den k first' last' → IsRunWith axles k first last → HaveOneCentre axles first last first' last' → at.q ≡ 2 * run_weight axles first last → at.section + run_moment axles first last ≡ run_weight axles first last * span + run_weight axles first last * (axle_at axles k).place → at.lead +ℤ pos (run_moment axles first last + run_weight axles first last * (axle_at axles k).place) ≡ pos (run_weight axles first last * span) → VertexAtPeak span axles num den k first last at
 vertex_at_peak span axles num den k first last first' last' at train peak_run place is_run centre scale section lead =
     let p = (axle_at axles k).place in
     let g = run_weight axles first' last' in
@@ -105,19 +105,19 @@ vertex_at_peak span axles num den k first last first' last' at train peak_run pl
 -- the best run is at the peak
 pub best_place : (span : ℕ) (axles : List Axle) (best : Candidate) (num den : ℕ) → IsTrain axles → IsAttained span axles best → IsPeakMoment (IsTrainPlaced axles) span num den → num * (4 * best.run.sums.weight * span) ≡ best.value * den → PeakPlace span axles num den best.axle best.run.first best.run.last
 best_place span axles best num den train a peak e =
-    let is_run : IsRun axles best.axle best.run.first best.run.last = record { from = a.from; to = a.to; within = a.on.can_be.within } in
+    let is_run : IsRunWith axles best.axle best.run.first best.run.last = record { from = a.from; to = a.to; within = a.on.can_be.within } in
     peak_place span axles num den best.axle best.run.first best.run.last train (λ q section lead scale on. peak.greatest q section (placed q lead axles) scale on (lead, refl)) is_run (rw (a.value, a.on.sums.weight) at e) (rw a.value at a.some)
 
 -- the vertex that the program found, by the sums that it carries: its run is the widest with the centre of the best
 module _ (span : ℕ) (axles : List Axle) (best : Candidate) (num den : ℕ) (found : Run) (axle : Axle) (train : IsTrain axles) (a : IsAttained span axles best) (peak : IsPeakMoment (IsTrainPlaced axles) span num den) (e : num * (4 * best.run.sums.weight * span) ≡ best.value * den) (w : IsWidest axles best.run.sums found) (here : axle ≡ axle_at axles best.axle) where
-  best_is_run : IsRun axles best.axle best.run.first best.run.last
+  best_is_run : IsRunWith axles best.axle best.run.first best.run.last
   best_is_run = record { from = a.from; to = a.to; within = a.on.can_be.within }
 
   found_centre : HaveOneCentre axles found.first found.last best.run.first best.run.last
   found_centre = rw (a.on.sums.weight, a.on.sums.moment) at w.same_centre
 
   -- each axle of the best run is in it
-  pub found_is_run : IsRun axles best.axle found.first found.last
+  pub found_is_run : IsRunWith axles best.axle found.first found.last
   found_is_run =
       let inside = w.inside best.run.first best.run.last a.on.can_be.ordered a.on.can_be.within (rw (a.on.sums.weight, a.on.sums.moment) refl) in
       record { from = omega (arith, inside.0, a.from); to = omega (arith, inside.1, a.to); within = w.summed.within }

@@ -16,7 +16,7 @@ use Rattle.moment_peak.specs.Candidates.{IsBest}
 use Rattle.moment_peak.specs.Centres.{IsFirstBestPair}
 use Rattle.moment_peak.specs.Pairs.{far_support, weight_to, IsTight}
 use Rattle.moment_peak.specs.PeakMoment.{peak_moment_of}
-use Rattle.moment_peak.specs.Runs.{run, vertex_value, front_in, back_in, run_weight, run_moment, run_value, weight_in, moment_in, IsRun, CanBeOnSpan}
+use Rattle.moment_peak.specs.Runs.{run, vertex_value, front_in, back_in, run_weight, run_moment, run_value, weight_in, moment_in, IsRunWith, CanBeOnSpan}
 use Rattle.moment_peak.proofs.Bound.{BelowVertex, SomeVertex, below_some_vertex}
 use Rattle.moment_peak.proofs.BestBounds.{below_value, run_loaded, first_value, alone_some}
 use Rattle.moment_peak.proofs.Cross.{cross_trans}
@@ -37,7 +37,7 @@ far_to q R L p x S v y some e only h =
     le_of_mul-le-mul_left {m = R * (L + p) + S} {n = 2 * (R * y)} {k = q} (omega (arith, ap (λ t. q * t) e, only, mul-le-mul_left (2 * R) h)) some
 
 -- no value of a run is above a peak
-value_peak : (axles : List Axle) (span n d : ℕ) → 1 ≤ span → IsTrain axles → IsPeakMoment (IsTrainPlaced axles) span n d → (k first last : ℕ) → IsRun axles k first last → run_value span axles k first last * d ≤ n * (4 * run_weight axles first last * span)
+value_peak : (axles : List Axle) (span n d : ℕ) → 1 ≤ span → IsTrain axles → IsPeakMoment (IsTrainPlaced axles) span n d → (k first last : ℕ) → IsRunWith axles k first last → run_value span axles k first last * d ≤ n * (4 * run_weight axles first last * span)
 value_peak axles span n d some train peak k first last is_run =
     value_under axles span some train n d (λ q section lead scale on _. peak.greatest q section (placed q lead axles) scale on (lead, refl)) k first last is_run
 
@@ -54,7 +54,7 @@ pub record Parts (span : ℕ) (axles : List Axle) (k first last : ℕ) : Type 0 
   pub most : a * a ≤ run_value span axles k first last + 4 * (run_weight axles first last * span) * front
   pub exact : 0 < run_value span axles k first last → run_value span axles k first last + 4 * (run_weight axles first last * span) * front ≡ a * a
 
-pub parts_of : (span : ℕ) (axles : List Axle) (k first last : ℕ) → IsTrain axles → IsRun axles k first last → CanBeOnSpan span axles first last → Parts span axles k first last
+pub parts_of : (span : ℕ) (axles : List Axle) (k first last : ℕ) → IsTrain axles → IsRunWith axles k first last → CanBeOnSpan span axles first last → Parts span axles k first last
 parts_of span axles k first last train is_run can =
     let whole = sums_to axles first (last + 1) in
     let before = sums_to axles first k in
@@ -73,10 +73,10 @@ parts_of span axles k first last train is_run can =
     }
 
 -- where no axle of a run has a greater value, the shear passes 0 under this one
-module _ (span : ℕ) (axles : List Axle) (k first last : ℕ) (train : IsTrain axles) (is_run : IsRun axles k first last) (can : CanBeOnSpan span axles first last) (some : 0 < run_value span axles k first last) where
+module _ (span : ℕ) (axles : List Axle) (k first last : ℕ) (train : IsTrain axles) (is_run : IsRunWith axles k first last) (can : CanBeOnSpan span axles first last) (some : 0 < run_value span axles k first last) where
   to_behind : k < last → run_value span axles (k + 1) first last ≤ run_value span axles k first last → far_support span axles k first last < 2 * (span * weight_to axles first (k + 1) + run_moment axles first last)
   to_behind less h =
-      let behind : IsRun axles (k + 1) first last = record { from = omega (arith, is_run.from); to = omega arith; within = is_run.within } in
+      let behind : IsRunWith axles (k + 1) first last = record { from = omega (arith, is_run.from); to = omega arith; within = is_run.within } in
       let here = parts_of span axles k first last train is_run can in
       let there = parts_of span axles (k + 1) first last train behind can in
       let within : k < length axles = omega (arith, is_run.within) in
@@ -92,7 +92,7 @@ module _ (span : ℕ) (axles : List Axle) (k first last : ℕ) (train : IsTrain 
 
   to_front : first < k → run_value span axles (k - 1) first last ≤ run_value span axles k first last → 2 * (span * weight_to axles first k + run_moment axles first last) ≤ far_support span axles k first last
   to_front more h =
-      let front : IsRun axles (k - 1) first last = record { from = omega arith; to = omega (arith, is_run.to); within = is_run.within } in
+      let front : IsRunWith axles (k - 1) first last = record { from = omega arith; to = omega (arith, is_run.to); within = is_run.within } in
       let here = parts_of span axles k first last train is_run can in
       let there = parts_of span axles (k - 1) first last train front can in
       let within : k - 1 < length axles = omega (arith, is_run.to, is_run.within) in
@@ -142,15 +142,15 @@ pub record PeakAt (span : ℕ) (axles : List Axle) (num den q x k first last : �
 
 module _ (axles : List Axle) (span num den : ℕ) (some : 1 ≤ span) (train : IsTrain axles) (peak : IsPeakMoment (IsTrainPlaced axles) span num den) where
   -- a run's value under another axle is no greater than one that is the peak
-  no_greater : (k first last : ℕ) → IsRun axles k first last → (v : ℕ) → num * (4 * run_weight axles first last * span) ≡ v * den → run_value span axles k first last ≤ v
+  no_greater : (k first last : ℕ) → IsRunWith axles k first last → (v : ℕ) → num * (4 * run_weight axles first last * span) ≡ v * den → run_value span axles k first last ≤ v
   no_greater k first last is_run v exact =
       le_of_mul-le-mul_right {m = run_value span axles k first last} {n = v} {k = den} (omega (arith, value_peak axles span num den some train peak k first last is_run, exact)) peak.some
 
-  shear_from_of : (k first last : ℕ) → IsRun axles k first last → CanBeOnSpan span axles first last → 0 < run_value span axles k first last → num * (4 * run_weight axles first last * span) ≡ run_value span axles k first last * den → 2 * (span * weight_to axles first k + run_moment axles first last) ≤ far_support span axles k first last
+  shear_from_of : (k first last : ℕ) → IsRunWith axles k first last → CanBeOnSpan span axles first last → 0 < run_value span axles k first last → num * (4 * run_weight axles first last * span) ≡ run_value span axles k first last * den → 2 * (span * weight_to axles first k + run_moment axles first last) ≤ far_support span axles k first last
   shear_from_of k first last is_run can high exact =
       elim (cases_lt first k) [
         | inl behind ↦
-            let front : IsRun axles (k - 1) first last = record { from = omega arith; to = omega (arith, is_run.to); within = is_run.within } in
+            let front : IsRunWith axles (k - 1) first last = record { from = omega arith; to = omega (arith, is_run.to); within = is_run.within } in
             to_front span axles k first last train is_run can high behind (no_greater (k - 1) first last front (run_value span axles k first last) exact)
         | inr begin ↦
             let same : k ≡ first = omega (arith, is_run.from) in
@@ -158,9 +158,9 @@ module _ (axles : List Axle) (span num den : ℕ) (some : 1 ≤ span) (train : I
             rw none (omega (arith, (parts_of span axles k first last train is_run can).place))
       ]
 
-  shear_to_of : (k first last : ℕ) → IsRun axles k first last → CanBeOnSpan span axles first last → 0 < run_value span axles k first last → num * (4 * run_weight axles first last * span) ≡ run_value span axles k first last * den → k < last → far_support span axles k first last < 2 * (span * weight_to axles first (k + 1) + run_moment axles first last)
+  shear_to_of : (k first last : ℕ) → IsRunWith axles k first last → CanBeOnSpan span axles first last → 0 < run_value span axles k first last → num * (4 * run_weight axles first last * span) ≡ run_value span axles k first last * den → k < last → far_support span axles k first last < 2 * (span * weight_to axles first (k + 1) + run_moment axles first last)
   shear_to_of k first last is_run can high exact less =
-      let behind : IsRun axles (k + 1) first last = record { from = omega (arith, is_run.from); to = omega arith; within = is_run.within } in
+      let behind : IsRunWith axles (k + 1) first last = record { from = omega (arith, is_run.from); to = omega arith; within = is_run.within } in
       to_behind span axles k first last train is_run can high less (no_greater (k + 1) first last behind (run_value span axles k first last) exact)
 
   pub peak_at : (q m x : ℕ) (lead : ℤ) → 1 ≤ q → 0 < m → m * den ≡ num * (q * q * span) → (s : SomeVertex q span m x lead axles) → PeakAt span axles num den q x s.k s.first s.last
@@ -203,7 +203,7 @@ module _ (axles : List Axle) (span num den : ℕ) (some : 1 ≤ span) (train : I
   peak_some : 0 < num
   peak_some =
       let any : 0 < length axles = omega (arith, train.many) in
-      let is_run : IsRun axles 0 0 0 = record { from = omega arith; to = omega arith; within = any } in
+      let is_run : IsRunWith axles 0 0 0 = record { from = omega arith; to = omega arith; within = any } in
       let heavy : 1 ≤ (axle_at axles 0).weight = (axle_fits axles 0 train.each any).1 in
       let alone : 0 < run_value span axles 0 0 0 = rw (first_value span axles any) (alone_some span (axle_at axles 0).weight heavy some) in
       elim (cases_lt 0 num) [

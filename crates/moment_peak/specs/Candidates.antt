@@ -4,7 +4,7 @@ use Rattle.axle_train.specs.declared.axle.Axle.{Axle}
 use Rattle.moment_peak.specs.declared.best.Candidate.{Candidate}
 use Rattle.moment_peak.specs.declared.pair.Pair.{Pair}
 use Rattle.moment_peak.specs.declared.run.Sums.{Sums}
-use Rattle.moment_peak.specs.Runs.{run_value, run_weight, IsRun, CanBeOnSpan}
+use Rattle.moment_peak.specs.Runs.{run_value, run_weight, IsRunWith, CanBeOnSpan}
 use Rattle.moment_peak.specs.Sweeps.{IsOnSpan}
 
 -- the value of a run by its sums and by those of the axles before the one at a place: the square of where that axle stands at its vertex, less four times the weight, the span and what the axles in front of it take off
@@ -34,4 +34,4 @@ IsAtMost value weight best = value * best.run.sums.weight ≤ best.value * weigh
 
 -- all axles and runs that can be on the span are at most the candidate
 abbrev pub IsBest : ℕ → List Axle → Candidate → Type 0
-IsBest span axles best = (k first last : ℕ) → IsRun axles k first last → CanBeOnSpan span axles first last → IsAtMost (run_value span axles k first last) (run_weight axles first last) best
+IsBest span axles best = (k first last : ℕ) → IsRunWith axles k first last → CanBeOnSpan span axles first last → IsAtMost (run_value span axles k first last) (run_weight axles first last) best

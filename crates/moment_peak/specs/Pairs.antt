@@ -4,7 +4,7 @@ use Rattle.axle_train.specs.declared.axle.Axle.{Axle}
 use Rattle.axle_train.specs.Trains.{axle_at}
 use Rattle.moment_peak.specs.declared.pair.Pair.{Pair}
 use Rattle.moment_peak.specs.declared.run.Run.{Run}
-use Rattle.moment_peak.specs.Runs.{run_weight, run_moment, weight_in, IsRun, CanBeOnSpan}
+use Rattle.moment_peak.specs.Runs.{run_weight, run_moment, weight_in, IsRunWith, CanBeOnSpan}
 use Rattle.moment_peak.specs.Sweeps.{AreSums, IsOnSpan}
 
 -- where the far support meets the train when axle k stands at its vertex with a run, in inches behind the first axle, times twice the run's weight
@@ -17,7 +17,7 @@ weight_to axles first k = weight_in (take (k - first) (drop first axles))
 
 -- axle k and the run make a peak only so: at their vertex the run alone is on the span, and the shear, which the left reaction less the weight on the left of a section is, passes 0 under the axle
 pub record IsTight (span : ℕ) (axles : List Axle) (k first last : ℕ) : Type 0 where
-  pub is_run : IsRun axles k first last
+  pub is_run : IsRunWith axles k first last
   pub can_be : CanBeOnSpan span axles first last
   pub last_on : 2 * (run_weight axles first last * (axle_at axles last).place) ≤ far_support span axles k first last
   pub front_off : 0 < first → 2 * (run_weight axles first last * ((axle_at axles (first - 1)).place + span)) ≤ far_support span axles k first last

@@ -43,7 +43,7 @@ run_value span axles k first last =
     vertex_value span (run_weight axles first last) (front_in (axle_at axles k).place (run axles first last)) (back_in (axle_at axles k).place (run axles first last))
 
 -- an axle and a run with it
-pub record IsRun (axles : List Axle) (k first last : ℕ) : Type 0 where
+pub record IsRunWith (axles : List Axle) (k first last : ℕ) : Type 0 where
   pub from : first ≤ k
   pub to : k ≤ last
   pub within : last < length axles

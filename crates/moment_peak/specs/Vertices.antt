@@ -5,11 +5,11 @@ use Rattle.axle_train.specs.declared.axle.Axle.{Axle}
 use Rattle.axle_train.specs.Trains.{axle_at}
 use Rattle.influence_line.specs.Placed.{moment_sum, placed}
 use Rattle.influence_line.specs.declared.placing.Place.{Place}
-use Rattle.moment_peak.specs.Runs.{run_weight, run_moment, IsRun}
+use Rattle.moment_peak.specs.Runs.{run_weight, run_moment, IsRunWith}
 
 -- the place of the vertex of axle k and the axles first to last; it counts where its section is on the span
 pub record IsVertex (axles : List Axle) (span k first last : ℕ) (at : Place) : Type 0 where
-  pub is_run : IsRun axles k first last
+  pub is_run : IsRunWith axles k first last
   pub scale : at.q ≡ 2 * run_weight axles first last
   pub section : at.section + run_moment axles first last ≡ run_weight axles first last * span + run_weight axles first last * (axle_at axles k).place
   pub lead : at.lead +ℤ pos (run_moment axles first last + run_weight axles first last * (axle_at axles k).place) ≡ pos (run_weight axles first last * span)

@@ -1,5 +1,5 @@
 -- What the calls of one caller leave to the next.
-use Rattle.std.proofs.Common.{◌≡◌, ◌∷◌, ◌++◌, inl, inr, [], List, ℕ, Bool, true, false, ap, sym, subst, refl, ◌∙◌, append_assoc, arith}
+use Rattle.std.proofs.Common.{◌≡◌, ◌≢◌, ◌∷◌, ◌++◌, inl, inr, [], List, ℕ, Bool, true, false, ap, sym, subst, refl, ◌∙◌, append_assoc, arith}
 use Rattle.std.proofs.lemmas.List.{append-nil}
 use Rattle.road_graph.specs.Roads.{IsRoads}
 use Rattle.trip_applications.specs.declared.application.Application.{Application}
@@ -24,6 +24,10 @@ bool_cases false f g = g refl
 pub full_is : (r : Reply) → is_full r ≡ true → (most : ℕ) × (r ≡ reply.Full most)
 full_is (reply.Full most) is = (most, refl)
 full_is _ is = absurd (grind (arith, is))
+
+-- an answer that does not say so is none of a full history
+pub has_room : (r : Reply) → ((most : ℕ) → r ≢ reply.Full most) → is_full r ≡ false
+has_room r other = bool_cases (is_full r) (λ full. let (most, is) = full_is r full in absurd (other most is)) (λ room. room)
 
 module _ {P : Type 0} where
   -- the machine from which the entry is a step: what was seen goes on by what others entered meanwhile

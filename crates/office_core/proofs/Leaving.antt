@@ -9,7 +9,7 @@ use Rattle.std.proofs.lemmas.List.Elements.{All-cons, All-nil, All-weaker}
 use Rattle.permit_book.specs.declared.permit.Permit.{Permit}
 use Rattle.permit_book.specs.declared.permit.Mark.{Mark}
 use Rattle.permit_book.specs.Permits.{AreNumbered, is_issued, is_live, marked, no_permit, permit_of}
-use Rattle.recall_index.specs.Uses.{AreRemoved, AreThere, IsThere, Lists}
+use Rattle.recall_index.specs.Uses.{AreRemoved, AreAllThere, IsThere, Lists}
 use Rattle.recall_index.proofs.Lists.{still_there}
 use Rattle.office_core.specs.Recalls.{AreLive, IsLiveIn, segments_of}
 use Rattle.office_core.specs.Users.{IsIndexed}
@@ -43,7 +43,7 @@ module _ (segments : ℕ) (ps : List Permit) (index : Lists) (is : IsIndexed seg
         (index_inside segments ps index is h last (live (end - 1) 0 low).issued (permit_of ps last) refl))
 
     -- and so are those of each permit with the same segments
-    pub run_there : IsStrictlyIncreasing ns → AllWithin (λ n. segments_of ps n ≡ route) ns start (end - 1) → AreThere mid (between start end ns) route
+    pub run_there : IsStrictlyIncreasing ns → AllWithin (λ n. segments_of ps n ≡ route) ns start (end - 1) → AreAllThere mid (between start end ns) route
     run_there rising alike = still_there index mid ns route start end rising few out (λ k from before.
         let one = live k 0 (omega (arith, before, few)) in
         subst (IsThere index (get_or ns k 0)) (by k from before (cases_lt k (end - 1)))

@@ -12,7 +12,7 @@ use Rattle.office_words.specs.declared.entry.Reply.TheVariants as reply
 use Rattle.office_core.specs.Replies.{is_full}
 use Rattle.office_core.specs.Machine.{IsLegal, entries_by}
 use Rattle.office_core.specs.Offices.{HasPlace, IsFull, Opened, entry, grown}
-use Rattle.office_core.specs.Calls.{Added, Answered, Calling, Stopped, full_in, one_seat}
+use Rattle.office_core.specs.Calls.{Added, Answered, Calling, AddedNone, full_in, one_seat}
 
 entries_by-push : (es : List Entry) (e : Entry) → entries_by e.caller (es ++ e ∷ []) ≡ entries_by e.caller es ++ e ∷ []
 entries_by-push es e = filter-append (λ x. eqb x.caller e.caller) es (e ∷ []) ∙ ap (λ b. entries_by e.caller es ++ cond b (e ∷ []) []) (eq-eqb e.caller e.caller refl)
@@ -41,7 +41,7 @@ module _ {P : Type 0} (reference : GName) (caller : ℕ) (o next : Opened) (c : 
     full = λ most full. absurd (place_of o most place full);
   }
 
-  stopped : IsFull o → next ≡ o → (most : ℕ) → o.most ≡ most → Stopped {P = P} (one_seat reference caller o) most (one_seat reference caller next)
+  stopped : IsFull o → next ≡ o → (most : ℕ) → o.most ≡ most → AddedNone {P = P} (one_seat reference caller o) most (one_seat reference caller next)
   stopped full same most is = record {
     seen = ap (λ (n : Opened). n.history) same;
     own = ap (λ (n : Opened). entries_by caller n.history) same;

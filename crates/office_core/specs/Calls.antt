@@ -55,7 +55,7 @@ module _ {P : Type 0} where
     pub full : (most : ℕ) → v.full ≡ Some most → w.full ≡ Some most
 
   -- No entry was added, since the history holds the most that it may.
-  pub record Stopped (v : Calling P) (most : ℕ) (w : Calling P) : Type 0 where
+  pub record AddedNone (v : Calling P) (most : ℕ) (w : Calling P) : Type 0 where
     pub seen : w.seen ≡ v.seen
     pub own : w.own ≡ v.own
     pub full : w.full ≡ Some most
@@ -63,7 +63,7 @@ module _ {P : Type 0} where
   -- A call was answered: by an entry with this caller, this call and this reply, or by `Full` and no entry.
   pub record Answered (v : Calling P) (c : Call) (r : Reply) (w : Calling P) : Type 0 where
     pub who : w.who ≡ v.who
-    pub full : (most : ℕ) → r ≡ reply.Full most → Stopped v most w
+    pub full : (most : ℕ) → r ≡ reply.Full most → AddedNone v most w
     pub entry : is_full r ≡ false → Added v (entry v.who.caller c r) w
 
   -- what the history seen has posted on the roads of the office

@@ -21,7 +21,7 @@ use names::NoMemory;
 use office_words::{Cause, Reply};
 use permit_book::Trip;
 use permit_days::Day;
-use road_graph::Numbers;
+use road_graph::SharedNumbers;
 use std::sync::ledger::Ledger;
 use trip_analysis::{NodeSet, Proposal, What};
 use trip_applications::Application;
@@ -219,7 +219,7 @@ impl Register {
         &self,
         truck: u32,
         seen: u32,
-        nodes: &Numbers,
+        nodes: &SharedNumbers,
         steps: &mut Steps<L>,
     ) -> Answer
         requires truck { truck < length self.now.base.fleet }
@@ -228,7 +228,7 @@ impl Register {
         ensures steps { IsRetested self.now seen (what.Cut nodes.now) steps.old steps.new }
     {
         let nodes = NodeSet::of(nodes);
-        let Some(first) = nodes.next_leaving(self.base().network(), 0) else {
+        let Some(first) = nodes.first_leaving(self.base().network()) else {
             return Answer::plain(Reply::NoRoad);
         };
         if let Some(segment) = self.first_meeting(truck, seen, &nodes, steps) {

@@ -2,14 +2,13 @@
 
 ghost use Rattle.std.specs.Prelude.{◌≡◌};
 ghost use Rattle.office_words.specs.declared.entry.Call.TheVariants as call;
-ghost use Rattle.office_core.specs.Replies.{day_reply, show_reply, shown};
+ghost use Rattle.office_core.specs.Replies.{day_reply, show_reply};
 ghost use Rattle.office_core.specs.Machine.{with_day};
 ghost use Rattle.office_core.specs.Registers.{Gives, LeavesParts};
 
 use crate::answer::Answer;
 use crate::register::Register;
 use office_words::Reply;
-use permit_book::Permit;
 use permit_days::Day;
 
 impl Register {
@@ -31,10 +30,19 @@ impl Register {
     pub(crate) fn show(&self, number: u32) -> Answer
         ensures { result ≡ show_reply self.now.machine.permits self.now.machine.day number }
     {
-        match self.permit(number) {
-            Some(permit) => Answer::plain(shown(permit, number, self.today())),
-            None => Answer::plain(Reply::Unknown),
-        }
+        let Some(permit) = self.permit(number) else {
+            return Answer::plain(Reply::Unknown);
+        };
+        Answer::plain(Reply::Shown {
+            number,
+            caller: permit.trip.caller,
+            truck: permit.trip.truck,
+            first: permit.trip.first,
+            last: permit.trip.last,
+            version: permit.version,
+            seen: permit.seen,
+            status: permit.status(self.today()),
+        })
     }
 
     /// Takes back a permit in force of this caller. Takes no memory.
@@ -56,21 +64,5 @@ impl Register {
         }
         self.take_back(number);
         Answer::plain(Reply::Surrendered)
-    }
-}
-
-// What the permit of a number says on a day.
-fn shown(permit: &Permit, number: u32, day: Day) -> Reply
-    ensures { result ≡ shown permit.now number day }
-{
-    Reply::Shown {
-        number,
-        caller: permit.trip.caller,
-        truck: permit.trip.truck,
-        first: permit.trip.first,
-        last: permit.trip.last,
-        version: permit.version,
-        seen: permit.seen,
-        status: permit.status(day),
     }
 }

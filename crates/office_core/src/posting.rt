@@ -1,6 +1,6 @@
 // The answer to a posting.
 
-ghost use Rattle.std.specs.Prelude.{◌≡◌, ◌+◌, ◌<◌, ◌≤◌, ◌++◌, ◌∷◌, [], length, IfOk, OnOk, OnErr, None, replicate, true, if◌then◌else◌};
+ghost use Rattle.std.specs.Prelude.{◌≡◌, ◌+◌, ◌<◌, ◌≤◌, length, IfOk, OnErr, true};
 ghost use Rattle.restriction_log.specs.Changes.{takes};
 ghost use Rattle.restriction_log.specs.States.{AreOf};
 ghost use Rattle.fleet.specs.Passing.{is_passable};
@@ -18,7 +18,7 @@ use names::NoMemory;
 use office_words::Reply;
 use restriction_log::{Change, PostRefusal, State, touched};
 use road_graph::Numbers;
-use std::alloc::{AllocError, Global};
+use std::alloc::AllocError;
 use std::sync::ledger::Ledger;
 
 impl Register {
@@ -69,10 +69,12 @@ impl Register {
         if users.is_empty() {
             return Ok(numbers);
         }
-        let mut verdicts = none_judged(self.alloc(), self.base().fleet().len())?;
+        let trucks = self.base().fleet().len();
+        let mut verdicts = vec![in self.alloc(); None; trucks]?;
         for i in 0..users.len() {
-            let is_one = self.is_recalled(state, segment, users[i], &mut verdicts, steps);
-            push_if(&mut numbers, is_one, users[i])?;
+            if self.is_recalled(state, segment, users[i], &mut verdicts, steps) {
+                numbers.push(users[i])?;
+            }
         }
         Ok(numbers)
     }
@@ -126,21 +128,4 @@ impl Register {
         verdicts[truck as usize] = Some(meets);
         meets
     }
-}
-
-// That no truck of so many is judged yet.
-fn none_judged(alloc: Global, trucks: usize) -> Result<Vec<Option<bool>>, AllocError>
-    ensures { IfOk result (λ verdicts. verdicts.items ≡ replicate trucks None) }
-{
-    vec![in alloc; None; trucks]
-}
-
-// A number more, where it is one of those.
-fn push_if(numbers: &mut Vec<u32>, is_one: bool, number: u32) -> Result<(), AllocError>
-    ensures { OnOk result (numbers.new.items ≡ numbers.old.items ++ (if is_one then number ∷ [] else [])) }
-{
-    if is_one {
-        numbers.push(number)?;
-    }
-    Ok(())
 }

@@ -1,8 +1,6 @@
 // The calls of one caller, of an office on one thread.
 
-ghost use Rattle.std.specs.Prelude.{◌≡◌, ◌<◌, MatchOption, false};
-ghost use Rattle.office_words.specs.declared.entry.Reply.TheVariants as reply;
-ghost use Rattle.office_core.specs.Replies.{is_full};
+ghost use Rattle.std.specs.Prelude.{◌≡◌, ◌<◌};
 
 use crate::calls::{Looked, OfficeCalls};
 use crate::counted::CountedOffice;
@@ -21,9 +19,7 @@ pub struct OneSeat<'a, L: Ledger> {
 }
 
 impl<'a, L: Ledger> OneSeat<'a, L> {
-    ghost use Rattle.std.specs.Prelude.{IfErr, OnOk};
-    ghost use Rattle.office_words.specs.declared.entry.Call.TheVariants as call;
-    ghost use Rattle.office_core.specs.Machine.{MayAsk, version_of};
+    ghost use Rattle.office_core.specs.Machine.{MayAsk};
     ghost use Rattle.office_core.specs.Offices.{machine_in};
     ghost use Rattle.office_core.specs.Calls.{Answered};
     ghost use Rattle.office_core.specs.Seats.{IsCostOf, calls_of};
@@ -46,31 +42,6 @@ impl<'a, L: Ledger> OneSeat<'a, L> {
     {
         self.office.step(self.caller, call)
     }
-
-    // Looks at the office: that there is an entry of it, or how many the history holds.
-    fn look(&mut self) -> Result<(), u32>
-        ensures at { OnOk result (Answered (calls_of self.old) call.Snapshot
-            (reply.SnapshotAt (version_of (machine_in self.new.office.now.office))) (calls_of self.new)) }
-        ensures full { IfErr result (λ most.
-            Answered (calls_of self.old) call.Snapshot (reply.Full most) (calls_of self.new)) }
-        ensures cost { IsCostOf self.old call.Snapshot self.new }
-    {
-        let reply = self.step(Call::Snapshot);
-        match full_entries(&reply) {
-            Some(entries) => Err(entries),
-            None => Ok(()),
-        }
-    }
-}
-
-// How many entries the history holds, where the answer is that it is full.
-fn full_entries(answer: &Reply) -> Option<u32>
-    ensures { MatchOption result (is_full answer.now ≡ false) (λ most. answer.now ≡ reply.Full most) }
-{
-    match answer {
-        Reply::Full { entries } => Some(*entries),
-        _ => None,
-    }
 }
 
 impl<'a, L: Ledger> OfficeCalls for OneSeat<'a, L> {
@@ -87,12 +58,12 @@ impl<'a, L: Ledger> OfficeCalls for OneSeat<'a, L> {
         ensures looks { Looks (calls_of self.old) result (calls_of self.new) }
         ensures cost { IsCostOf self.old call.Snapshot self.new }
     {
-        match self.look() {
-            Ok(()) => match self.office.office().snapshot() {
-                Ok(snapshot) => Looked::At(snapshot),
-                Err(NoMemory) => Looked::NoMemory,
-            },
-            Err(entries) => Looked::Full { entries },
+        if let Reply::Full { entries } = self.step(Call::Snapshot) {
+            return Looked::Full { entries };
+        }
+        match self.office.office().snapshot() {
+            Ok(snapshot) => Looked::At(snapshot),
+            Err(NoMemory) => Looked::NoMemory,
         }
     }
 

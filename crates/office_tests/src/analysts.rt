@@ -4,7 +4,7 @@ ghost use Rattle.office_core.specs.Replies.{is_full};
 ghost use Rattle.office_core.specs.Seats.{calls_of};
 ghost use Rattle.command_calls.specs.Interrupted.{Interrupts};
 ghost use Rattle.office_words.specs.Commands.{MayCarryOut};
-ghost use Rattle.analyst_pool.specs.Ran.{IsReady};
+ghost use Rattle.analyst_pool.specs.Ran.{HasNotBegun};
 
 use crate::fixtures::{ALONE, AROUND, application, base, day, full_at, journal_ends, office};
 use analyst_pool::{Outcome, Worker, run_actors};
@@ -455,7 +455,7 @@ fn worker<'a, L: Ledger>(
     kinds: &[u32],
 ) -> Worker<OneSeat<'a, L>>
     requires base { office.old.office.base ≡ base.now }
-    ensures { IsReady base.now calls_of result }
+    ensures { HasNotBegun base.now calls_of result }
 {
     let script = script(rt, alloc, base, kinds).expect(rt, "memory");
     Worker::new(OneSeat::new(office, 0), actor, script)
@@ -469,7 +469,7 @@ fn run_worker<R: Threads + Abort + Sync, C: OfficeCalls + Send + Drop>(
     worker: Worker<C>,
     wanted: Outcome,
 ) -> Result<(), AllocError>
-    requires { IsReady base.now C.view worker }
+    requires { HasNotBegun base.now C.view worker }
 {
     let mut workers = Vec::new(alloc);
     workers.push(worker)?;

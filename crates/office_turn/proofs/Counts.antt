@@ -8,7 +8,7 @@ use Rattle.atomic_table.specs.Table.{State, Me, step, keeps, Allows}
 use Rattle.atomic_table.proofs.Lists.{set_here, set_else}
 use Rattle.office_turn.specs.declared.view.View.{View}
 use Rattle.office_turn.specs.Rule.{Turned, Fits}
-use Rattle.office_turn.specs.Steps.{with_worn, counted}
+use Rattle.office_turn.specs.Steps.{with_worn, marked_worn}
 use Rattle.office_turn.proofs.Cases.{bool_cases}
 use Rattle.office_turn.proofs.Places.{one_at, within}
 use Rattle.office_turn.proofs.Seats.{seats_stay, tickets_stay, numbers_stay}
@@ -52,7 +52,7 @@ module _ {V E T : Type 0} (caller : E → ℕ) (story : V → List E) (terms : V
     numbers = numbers_stay _ _ s.views me v w at live live r.numbers;
   }
 
-  pub counts : (slots id : ℕ) (m : Mine) → m.0.is_spent ≡ false → Allows Rule slots id m 0 (λ x. x) (counted (step slots 0 0 0 none) m)
+  pub counts : (slots id : ℕ) (m : Mine) → m.0.is_spent ≡ false → Allows Rule slots id m 0 (λ x. x) (marked_worn (step slots 0 0 0 none) m)
   counts slots id m live s r _ at _ = let f = r.fits id m.0 at live in let x : ℕ = (next caller story terms first most s) in let now = next_is caller story terms first most s r in let cap : m.0.most ≡ most = f.most ∙ r.most_is in dite (ℕ_discrete x m.0.most)
       (λ full. (
         with_worn m.0,

@@ -7,7 +7,7 @@ use lib.ListN.{get_elem?}
 use Rattle.atomic_table.proofs.Lists.{at_set, set_here, set_else, at_longer}
 use Rattle.office_turn.specs.declared.view.View.{View}
 use Rattle.office_turn.specs.declared.view.Receipt.{Receipt}
-use Rattle.office_turn.specs.Rule.{Tickets, Numbers, IsBlank, spent_count, one_if}
+use Rattle.office_turn.specs.Rule.{Tickets, HaveNumbers, IsBlank, spent_count, one_if}
 use Rattle.office_turn.specs.Steps.{spent}
 use Rattle.office_turn.proofs.Cases.{false_not_true, bool_cases, some_not_none}
 use Rattle.office_turn.proofs.Places.{one_at, at_end, within}
@@ -92,7 +92,7 @@ module _ {E T : Type 0} where
       (g.0, set_else vs me (r.number + 1) w (λ e. false_not_true (sym live ∙ (ap (λ (y : View E T). y.is_spent) (one_at vs me (r.number + 1) v g.0 at g.1 (sym e)) ∙ g.2))) ∙ g.1, g.2)
 
   -- a seat that is not spent keeps what is said of the numbers
-  pub numbers_stay : (n : ℕ) (rs : List (Receipt E)) (vs : List (View E T)) (me : ℕ) (v w : View E T) → get_elem? vs me ≡ some v → v.is_spent ≡ false → w.is_spent ≡ false → Numbers n rs vs → Numbers n rs (set vs me w)
+  pub numbers_stay : (n : ℕ) (rs : List (Receipt E)) (vs : List (View E T)) (me : ℕ) (v w : View E T) → get_elem? vs me ≡ some v → v.is_spent ≡ false → w.is_spent ≡ false → HaveNumbers n rs vs → HaveNumbers n rs (set vs me w)
   numbers_stay n rs vs me v w at live still t = record {
     places = length-set vs me w ∙ t.places;
     blank = seats_stay (λ j u. u.is_spent ≡ true → IsBlank u) vs me w (λ e. absurd (false_not_true (sym still ∙ e))) (λ j u _. t.blank j u);
@@ -102,7 +102,7 @@ module _ {E T : Type 0} where
   }
 
   -- one more seat that is not spent has the next number
-  pub numbers_more : (n : ℕ) (rs : List (Receipt E)) (vs : List (View E T)) (w : View E T) → w.is_spent ≡ false → Numbers n rs vs → Numbers (n + 1) rs (vs ++ w ∷ [])
+  pub numbers_more : (n : ℕ) (rs : List (Receipt E)) (vs : List (View E T)) (w : View E T) → w.is_spent ≡ false → HaveNumbers n rs vs → HaveNumbers (n + 1) rs (vs ++ w ∷ [])
   numbers_more n rs vs w live t = record {
     places = length-append vs (w ∷ []) ∙ ap (λ (k : ℕ). k + 1) t.places;
     blank = seats_more (λ j u. u.is_spent ≡ true → IsBlank u) vs w (λ e. absurd (false_not_true (sym live ∙ e))) t.blank;

@@ -64,7 +64,7 @@ pub record Tickets {E T : Type 0} (serving next : ℕ) (views : List (View E T))
   pub waiting : (k : ℕ) → serving ≤ k → k < next → (j : ℕ) × (v : View E T) × (get_elem? views j ≡ some v) × (v.ticket ≡ Some k)
 
 -- six: each number below the count of passes admitted is that of one view that is not spent, or of one receipt, and there are as many receipts as spent views
-pub record Numbers {E T : Type 0} (admitted : ℕ) (receipts : List (Receipt E)) (views : List (View E T)) : Type 0 where
+pub record HaveNumbers {E T : Type 0} (admitted : ℕ) (receipts : List (Receipt E)) (views : List (View E T)) : Type 0 where
   pub places : length views ≡ admitted + 1
   pub blank : (j : ℕ) (v : View E T) → get_elem? views j ≡ some v → v.is_spent ≡ true → IsBlank v
   pub gone : (i : ℕ) (r : Receipt E) → get_elem? receipts i ≡ some r → (v : View E T) × (get_elem? views (r.number + 1) ≡ some v) × (v.is_spent ≡ true)
@@ -93,7 +93,7 @@ pub record Turned {V E T : Type 0} (caller : E → ℕ) (story : V → List E) (
   pub receipts : (i : ℕ) (r : Receipt E) → get_elem? moment.receipts i ≡ some r → FitsReceipt caller moment r
   pub unheard : (n : ℕ) → moment.admitted ≤ n → entries_of caller n moment.history ≡ []
   -- six
-  pub numbers : Numbers moment.admitted moment.receipts s.views
+  pub numbers : HaveNumbers moment.admitted moment.receipts s.views
 
 -- the view of the first seat, which is the root's
 abbrev pub opening_view : {E T : Type 0} → T → ℕ → View E T

@@ -39,8 +39,8 @@ module _ {E T : Type 0} where
   spent = record { is_root = false; is_spent = true; number = 0; ticket = None; looked = false; worn = false; seen = []; own = []; admitted = 0; receipts = []; passed_over = []; most = 0; terms = None }
 
   -- where all tickets have been drawn, the seat is marked. Where not, it was not marked before.
-  abbrev pub counted : {S : Type 0} → Step S → Me S (View E T) → ℕ → Me S (View E T) → Type 0
-  counted st m found n = (found ≡ m.0.most → n ≡ (with_worn m.0, m.1)) × (found ≢ m.0.most → (found < m.0.most) × (m.0.worn ≡ false) × (n ≡ m))
+  abbrev pub marked_worn : {S : Type 0} → Step S → Me S (View E T) → ℕ → Me S (View E T) → Type 0
+  marked_worn st m found n = (found ≡ m.0.most → n ≡ (with_worn m.0, m.1)) × (found ≢ m.0.most → (found < m.0.most) × (m.0.worn ≡ false) × (n ≡ m))
 
   -- where the next ticket is still the one that was looked at, the seat has it
   abbrev pub drew : {S : Type 0} → Step S → Me S (View E T) → ℕ → Me S (View E T) → Type 0
@@ -56,7 +56,7 @@ module _ {E T : Type 0} where
 
 module _ {V E T : Type 0} (caller : E → ℕ) (story : V → List E) (terms : V → T) where
   -- the value that the seat with the ticket k finds: its story goes on from what the seat has seen and has as many entries as tickets were served, the seat's own entries are those of its number, and the terms are those of the start
-  pub record IsFound (m : Me (Option V) (View E T)) (k : ℕ) (x : V) : Type 0 where
+  pub record IsValueFound (m : Me (Option V) (View E T)) (k : ℕ) (x : V) : Type 0 where
     pub extends : StartsWith (story x) m.0.seen
     pub served : length (story x) ≡ k
     pub room : k < m.0.most
@@ -65,7 +65,7 @@ module _ {V E T : Type 0} (caller : E → ℕ) (story : V → List E) (terms : V
 
   -- where the ticket now served is the seat's, it has taken the slot. Where not, the seat's is a later one.
   abbrev pub looked : Step (Option V) → Me (Option V) (View E T) → ℕ → Me (Option V) (View E T) → Type 0
-  looked st m found n = (k : ℕ) → m.0.ticket ≡ Some k → (found ≡ k → (x : V) × (n ≡ (with_story m.0 (story x), (0, Some x) ∷ m.1)) × IsFound m k x) × (found ≢ k → (found < k) × (n ≡ m))
+  looked st m found n = (k : ℕ) → m.0.ticket ≡ Some k → (found ≡ k → (x : V) × (n ≡ (with_story m.0 (story x), (0, Some x) ∷ m.1)) × IsValueFound m k x) × (found ≢ k → (found < k) × (n ≡ m))
 
 module _ {V E T : Type 0} (caller : E → ℕ) (story : V → List E) where
   -- a ticket below the most was served, the slot is given back, and the seat has seen the value's story, in which the entries of its number are its own

@@ -1,5 +1,5 @@
 //! What each kind of step on the table tells the seat that makes it.
-ghost use Rattle.office_turn.specs.Steps.{drew, counted, looked, passed, stayed, tallied, after_admitting, newcomer, after_receiving, spent};
+ghost use Rattle.office_turn.specs.Steps.{drew, marked_worn, looked, passed, stayed, tallied, after_admitting, newcomer, after_receiving, spent};
 
 use crate::story::Storied;
 use crate::view::View;
@@ -9,7 +9,7 @@ use atomic_table::{Join, Play, Split};
 pub struct Count;
 
 impl<S, E, T> Play<S, View<E, T>> for Count {
-    ghost then = { counted };
+    ghost then = { marked_worn };
 }
 
 // A compare and exchange on the next ticket.

@@ -1,6 +1,6 @@
 // Runs of `audit`: journals that are legal for their day files, and each way in which something is not.
 
-use crate::days::{DAYS, ISSUED, MEETING, MET, TWO_RECALLS};
+use crate::days::{DAYS, ISSUED, MEETING, MET};
 use crate::runs::ends;
 use std::alloc::Global;
 use std::process::Abort;
@@ -57,7 +57,6 @@ fn audits_each_legal<R: Abort + Threads + Wait + AllocGlobal + Sync>(
 #[test]
 fn calls_journals_of_days_legal(rt: HostRuntime) {
     audits_each_legal(&rt, &DAYS);
-    audits_legal(&rt, TWO_RECALLS.1, TWO_RECALLS.0);
     audits_legal(&rt, MET, MEETING);
 }
 

@@ -1,6 +1,6 @@
 // Day files as they come in: marked, with other ends of lines, cut off anywhere, and with as many commands as are allowed and one more.
 
-use crate::days::{DAYS, GIVEN_BACK, ISSUED, NO_ROAD, OVER_ALLOWANCE, RATED, RECALLING};
+use crate::days::{ANNUAL, DAYS, GIVEN_BACK, ISSUED, OVER_ALLOWANCE, RATED, RECALLING};
 use crate::runs::{ends, run_words};
 use day_text::{Order, read_day};
 use office_words::Command;
@@ -32,10 +32,10 @@ fn kinds(rt: &impl Abort, alloc: Global, orders: &[Order]) -> String {
 // Which of the days, how many nodes, segments, spans, trucks and actors it has, and the kinds of its commands.
 const READ: [(usize, [usize; 5], &str); 5] = [
     (RECALLING, [2, 1, 0, 2, 1], "aapsp"),
-    (NO_ROAD, [3, 1, 0, 1, 1], "aaa"),
     (GIVEN_BACK, [2, 1, 0, 1, 1], "adggs"),
     (OVER_ALLOWANCE, [2, 1, 0, 1, 1], "a"),
     (RATED, [2, 1, 1, 1, 1], "apa"),
+    (ANNUAL, [3, 3, 0, 1, 1], "ap"),
 ];
 
 // A day file of 2 March 2026 is read as a row says.

@@ -3,8 +3,9 @@
 ghost use Rattle.std.specs.Prelude.{◌≡◌, ◌<◌};
 ghost use Rattle.notice_desk.specs.Standings.{AreNew, standings};
 
-use crate::days::{DAYS, ISSUED, MEETING, NO_LEAP_DAY, RECALLING, TWO_RECALLS};
+use crate::days::{DAYS, ISSUED, MEETING, NO_LEAP_DAY, RECALLING};
 use command_calls::{Gate, OpenGate};
+use names::Name;
 use notice_desk::{MemoryNotice, Notice, Recall, Subscribers};
 use office_io::{MemorySink, MemorySource};
 use permit_program::{Alone, Ended, LineNotice, add_listener, run, run_alone};
@@ -432,10 +433,10 @@ fn tells_later_what_was_not_heard(rt: HostRuntime) {
     assert!(rt; heard.as_slice() == recalls.as_slice());
 }
 
-// Tells an object that writes lines each recall of a day, up to the first that fails, and gives what the sink then holds.
-fn lines_of(rt: &impl Abort, alloc: Global, heard: &[Recall], writes: &[u32]) -> Vec<u8> {
+// Tells an object that writes lines each of some recalls, up to the first that fails, and gives what the sink then holds.
+fn lines_of(rt: &impl Abort, alloc: Global, recalls: &[Recall], writes: &[u32]) -> Vec<u8> {
     let mut lines = LineNotice::new(sink_of(rt, alloc, writes));
-    for recall in heard {
+    for recall in recalls {
         if lines.tell(recall).is_err() {
             break;
         }
@@ -443,8 +444,18 @@ fn lines_of(rt: &impl Abort, alloc: Global, heard: &[Recall], writes: &[u32]) ->
     bytes_of(rt, alloc, lines.sink())
 }
 
-// Which write fails, where 0 is none, and the lines of a day that recalls permit 2 by posting 1, and then permit 1 by posting
-// 2. Each line is one write: none stands in half.
+// A recall of this permit, by the posting of this version.
+fn recall(rt: &impl Abort, permit: u32, version: u32, carrier: &[u8]) -> Recall {
+    let carrier = Name::new(carrier).expect(rt, "a name");
+    Recall {
+        permit,
+        version,
+        carrier,
+    }
+}
+
+// Which write fails, where 0 is none, and the lines of the recall of permit 2 by posting 1, and then of permit 1 by posting 2.
+// Each line is one write: none stands in half.
 const LINES: [(u32, &str); 3] = [
     (0, "recall 2 1\nrecall 1 2\n"),
     (1, ""),
@@ -453,11 +464,9 @@ const LINES: [(u32, &str); 3] = [
 
 #[test]
 fn writes_a_line_for_each_recall(rt: HostRuntime) {
-    let (input, output) = TWO_RECALLS;
-    let (ran, heard) = hear(&rt, input, &[], &[]);
-    same(&rt, &ran, 0, output);
+    let recalls = [recall(&rt, 2, 1, b"ACME"), recall(&rt, 1, 2, b"BOLT")];
     for &(write, text) in &LINES {
-        let lines = lines_of(&rt, rt.alloc(), &heard, &[write]);
+        let lines = lines_of(&rt, rt.alloc(), &recalls, &[write]);
         assert!(rt; lines.as_slice() == text.as_bytes(), "write {write}");
     }
 }

@@ -7,7 +7,7 @@ use Rattle.std.proofs.lemmas.List.Edits.{get_or-between, length-between}
 use Rattle.std.specs.List.Sorted.{IsStrictlyIncreasing}
 use Rattle.std.proofs.lemmas.List.Elements.{All-cons, All-nil, filter-append}
 use Rattle.std.proofs.lemmas.List.Folds.{drop_split, list_any-append, list_any_more}
-use Rattle.recall_index.specs.Uses.{AreAllOrNone, AreBelow, AreRemoved, AreTakenOut, AreThere, IsAdded, IsRemoved, IsThere, Lists, is_in, using_in, with_last, without, without_each}
+use Rattle.recall_index.specs.Uses.{AreAllOrNone, AreBelow, AreRemoved, AreTakenOut, AreAllThere, IsAdded, IsRemoved, IsThere, Lists, is_in, using_in, with_last, without, without_each}
 use Rattle.recall_index.proofs.Rising.{absent, either, none_left, not_behind, other_stays, without_absent, without_both, without_none, without_one}
 
 -- a place more is in the front of a list
@@ -115,11 +115,11 @@ undone old lists new n route below had out = ext_get_or [] new old (out.many ∙
     by s within false = append-nil (using_in old s)
 
 -- numbers that are there with a route are all at a segment of it, or none is
-pub there_among : (old : Lists) (ns route : List ℕ) → AreThere old ns route → (s : ℕ) → s < length old → AreAllOrNone ns (using_in old s)
+pub there_among : (old : Lists) (ns route : List ℕ) → AreAllThere old ns route → (s : ℕ) → s < length old → AreAllOrNone ns (using_in old s)
 there_among old ns route there s low = (is_in s route, λ k d h. there k d h s low)
 
 -- taken out of their own segments they are gone from each
-pub gone_from_all : (old new : Lists) (ns route : List ℕ) → AreThere old ns route → AreTakenOut old ns route new → AreRemoved old ns new
+pub gone_from_all : (old new : Lists) (ns route : List ℕ) → AreAllThere old ns route → AreTakenOut old ns route new → AreRemoved old ns new
 gone_from_all old new ns route there out = record {
   many = out.many;
   using = λ s low. out.using s low ∙ by s low (is_in s route) refl;
@@ -149,7 +149,7 @@ none_removed lists = record { many = refl; using = λ s low. sym (without_none [
 
 -- where numbers from a place on are removed, those before it are still there with their route
 pub still_there : (old mid : Lists) (ns route : List ℕ) (start end : ℕ) → IsStrictlyIncreasing ns → end ≤ length ns → AreRemoved old (drop end ns) mid
-    → ((k : ℕ) → start ≤ k → k < end → IsThere old (get_or ns k 0) route) → AreThere mid (between start end ns) route
+    → ((k : ℕ) → start ≤ k → k < end → IsThere old (get_or ns k 0) route) → AreAllThere mid (between start end ns) route
 still_there old mid ns route start end rising within out there = λ j d low s h.
     let long = length-between ns start end within in
     let before : start + j < end = omega (arith, low, long) in

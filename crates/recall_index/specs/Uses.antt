@@ -48,8 +48,8 @@ abbrev pub IsThere : Lists → ℕ → List ℕ → Type 0
 IsThere lists number route = (s : ℕ) → s < length lists → is_in number (using_in lists s) ≡ is_in s route
 
 -- each of these numbers uses just the segments that the route holds
-abbrev pub AreThere : Lists → List ℕ → List ℕ → Type 0
-AreThere lists numbers route = All (λ n. IsThere lists n route) numbers
+abbrev pub AreAllThere : Lists → List ℕ → List ℕ → Type 0
+AreAllThere lists numbers route = All (λ n. IsThere lists n route) numbers
 
 -- the number stands behind the others, once, at each segment that the route holds
 pub record IsAdded (old : Lists) (number : ℕ) (route : List ℕ) (new : Lists) : Type 0 where

@@ -2,7 +2,7 @@
 
 ghost use Rattle.std.specs.Prelude.{◌≡◌, ◌<◌, length, All, IfOk, OnOk, OnErr};
 ghost use Rattle.std.specs.List.Sorted.{IsStrictlyIncreasing};
-ghost use Rattle.recall_index.specs.Uses.{AreAllOrNone, AreBelow, AreRemoved, AreTakenOut, AreThere, IsAdded, IsRemoved, IsThere, unused, using_in};
+ghost use Rattle.recall_index.specs.Uses.{AreAllOrNone, AreBelow, AreRemoved, AreTakenOut, AreAllThere, IsAdded, IsRemoved, IsThere, unused, using_in};
 
 use crate::users::Users;
 use names::NoMemory;
@@ -46,7 +46,8 @@ impl Index {
         ensures unchanged { OnErr result (self.new ≡ self.old) }
     {
         for i in 0..route.len() {
-            if let Err(NoMemory) = self.users[route[i] as usize].add(number) {
+            let place = route[i] as usize;
+            if let Err(NoMemory) = self.users[place].add(number, first_room(place)) {
                 self.take_out(&[number], &route[..i]);
                 return Err(NoMemory);
             }
@@ -67,7 +68,7 @@ impl Index {
     pub fn remove_each(&mut self, numbers: &[u32], route: &[u32])
         requires segments { All (λ s. s < length self.old) route.now }
         requires rising { IsStrictlyIncreasing numbers.now }
-        requires there { AreThere self.old numbers.now route.now }
+        requires there { AreAllThere self.old numbers.now route.now }
         ensures { AreRemoved self.old numbers.now self.new }
     {
         self.take_out(numbers, route);
@@ -93,4 +94,10 @@ impl Index {
             self.users[segments[i] as usize].remove_each(numbers);
         }
     }
+}
+
+// For how many numbers a segment takes room at first. Many permits may have the same route, so the lists of its segments grow
+// together. Their rooms differ, so that not all of them have to be moved in one turn, where they double.
+fn first_room(segment: usize) -> usize {
+    8 + segment % 8
 }

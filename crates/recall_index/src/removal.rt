@@ -17,7 +17,9 @@ pub(crate) fn take_out(all: &mut Vec<u32>, these: &[u32])
     }
     let at = place_of(all.as_slice(), these);
     if is_block(all.as_slice(), at, these) {
-        take_block(all, at, these);
+        let rest = all.len() - these.len();
+        all.copy_within(at + these.len().., at);
+        all.truncate(rest);
     } else {
         sift(all, at, these);
     }
@@ -59,16 +61,6 @@ fn is_block(all: &[u32], at: usize, these: &[u32]) -> bool
     all[at] == these[0] && all[at + last] == these[last]
 }
 
-// Takes out the block of these numbers, which begins at a place.
-fn take_block(all: &mut Vec<u32>, at: usize, these: &[u32])
-    requires { IsBlock these.now all.old.items at }
-    ensures { all.new.items ≡ take at all.old.items ++ drop (at + length these.now) all.old.items }
-{
-    let rest = all.len() - these.len();
-    all.copy_within(at + these.len().., at);
-    all.truncate(rest);
-}
-
 // Takes rising numbers out of rising ones, of which those before a place are below the first of them.
 fn sift(all: &mut Vec<u32>, from: usize, these: &[u32])
     requires rising { IsStrictlyIncreasing all.old.items }
@@ -82,8 +74,10 @@ fn sift(all: &mut Vec<u32>, from: usize, these: &[u32])
     for i in from..all.len() {
         let number = all[i];
         next = place_from(these, next, number);
-        let stays = !is_at(these, next, number);
-        kept = keep_if(all, kept, number, stays);
+        if next == these.len() || these[next] != number {
+            all[kept] = number;
+            kept += 1;
+        }
     }
     all.truncate(kept);
 }
@@ -102,27 +96,4 @@ fn place_from(these: &[u32], from: usize, number: u32) -> usize
         }
     }
     these.len()
-}
-
-// Whether a number is among rising ones, where the first that is not below it is known.
-fn is_at(these: &[u32], place: usize, number: u32) -> bool
-    requires these { IsStrictlyIncreasing these.now }
-    requires below { All (λ n. n < number) (take place these.now) }
-    requires next { place < length these.now → number ≤ slice_index these.now place }
-    ensures { result ≡ is_in number these.now }
-{
-    place < these.len() && these[place] == number
-}
-
-// Puts a number behind the first so many, where it stays, and answers how many they are then.
-fn keep_if(all: &mut Vec<u32>, kept: usize, number: u32, stays: bool) -> usize
-    requires { kept < length all.old.items }
-    ensures kept { result ≡ (if stays then kept + 1 else kept) }
-    ensures items { all.new.items ≡ (if stays then slice_set all.old.items kept number else all.old.items) }
-{
-    if !stays {
-        return kept;
-    }
-    all[kept] = number;
-    kept + 1
 }

@@ -44,15 +44,20 @@ impl Users {
         self.numbers.as_slice()
     }
 
-    /// Adds a number behind those that are there, which are below it, unless it is there itself.
-    pub(crate) fn add(&mut self, number: u32) -> Result<(), NoMemory>
+    /// Adds a number behind those that are there, which are below it, unless it is there itself. The first of all takes room
+    /// for so many.
+    pub(crate) fn add(&mut self, number: u32, room: usize) -> Result<(), NoMemory>
         requires { All (λ n. n ≤ number) self.old }
         ensures added { OnOk result (self.new ≡ with_last number self.old) }
         ensures unchanged { OnErr result (self.new ≡ self.old) }
     {
-        if !is_among(&self.numbers, number) {
-            self.numbers.push(number)?;
+        if is_among(&self.numbers, number) {
+            return Ok(());
         }
+        if self.numbers.capacity() == 0 {
+            self.numbers.reserve(room)?;
+        }
+        self.numbers.push(number)?;
         Ok(())
     }
 

@@ -1,11 +1,10 @@
 // The recalls of a history, for those who are told of them.
 
-ghost use Rattle.std.specs.Prelude.{◌≡◌, ◌++◌, ℕ, All, IfOk, OnOk, map, option_map};
+ghost use Rattle.std.specs.Prelude.{◌≡◌, ◌++◌, ℕ, All, IfOk, OnOk};
 ghost use Rattle.std.specs.BTreeMap.{get};
 ghost use Rattle.std.specs.List.{flat_map};
 ghost use Rattle.std.specs.Option.{option_or};
 ghost use Rattle.std.specs.Ordering.{nat_cmp};
-ghost use Rattle.office_core.specs.Happened.{application_in};
 ghost use Rattle.office_core.specs.Recalled.{RecalledWereIssued};
 ghost use Rattle.recall_list.specs.RecallLists.{HasTrucks, HasTruck, recall_of, recalls_by, recalls_in, truck_by, truck_in};
 
@@ -15,7 +14,6 @@ use notice_desk::Recall;
 use office_words::{Call, Entry, Reply};
 use std::alloc::Global;
 use std::collections::BTreeMap;
-use trip_applications::Application;
 
 /// Every number that a posting of the history recalled, in order, with the version of that posting and the carrier of the
 /// permit's truck.
@@ -46,20 +44,12 @@ fn keep_truck(trucks: &mut BTreeMap<u32, u32>, entry: &Entry) -> Result<(), NoMe
     let Reply::Issued { number, .. } = &entry.reply else {
         return Ok(());
     };
-    let Some(application) = application_of(&entry.call) else {
-        return Ok(());
-    };
-    trucks.insert(*number, application.truck())?;
-    Ok(())
-}
-
-// The application that a call is about.
-fn application_of(call: &Call) -> Option<&Application>
-    ensures { option_map (λ a. a.now) result ≡ application_in call.now }
-{
-    match call {
-        Call::Submit { application, .. } | Call::Held { application } => Some(application),
-        _ => None,
+    match &entry.call {
+        Call::Submit { application, .. } | Call::Held { application } => {
+            trucks.insert(*number, application.truck())?;
+            Ok(())
+        }
+        _ => Ok(()),
     }
 }
 
@@ -95,23 +85,8 @@ fn push_recalls(
     let Reply::Posted { version, recalled } = reply else {
         return Ok(());
     };
-    push_each(recalls, base, trucks, *version, recalled.as_slice())
-}
-
-// Adds the recalls of these permits by the posting of this version.
-fn push_each(
-    recalls: &mut Vec<Recall>,
-    base: &Base,
-    trucks: &BTreeMap<u32, u32>,
-    version: u32,
-    numbers: &[u32],
-) -> Result<(), NoMemory>
-    requires { All (λ n. HasTruck base.now (get nat_cmp trucks.now n)) numbers.now }
-    ensures { OnOk result (recalls.new.items
-        ≡ recalls.old.items ++ map (recall_of base.now (get nat_cmp trucks.now) version) numbers.now) }
-{
-    for number in numbers {
-        recalls.push(recall_of(base, trucks, version, *number))?;
+    for number in recalled.as_slice() {
+        recalls.push(recall_of(base, trucks, *version, *number))?;
     }
     Ok(())
 }

@@ -20,7 +20,7 @@ use Rattle.reroute_desk.specs.declared.handled.HandledAs.{HandledAs}
 use Rattle.reroute_desk.specs.declared.handled.HandledAs.TheVariants.{Ended, Refused, Replaced}
 use Rattle.reroute_desk.specs.declared.refusal.RerouteRefusal.{RerouteRefusal}
 use Rattle.reroute_desk.specs.declared.refusal.RerouteRefusal.TheVariants as refusal
-use Rattle.reroute_desk.specs.Desks.{AnswersRenewal, Desk, HasGoneOn, IsLeft, IsNext, IsRerouteCause, KeepsUp, office_day, is_ended, kept_reply, olds_of, refusal_reply}
+use Rattle.reroute_desk.specs.Desks.{AnswersRenewal, Desk, HasGoneOn, IsFirstLeft, IsNext, IsRerouteCause, KeepsUp, office_day, is_ended, kept_reply, olds_of, refusal_reply}
 use Rattle.reroute_desk.specs.Replacements.{again_behind, renewed}
 use Rattle.reroute_desk.proofs.Going.{gone_answered, gone_lacked, gone_nowhere, kept_plain, with_entries, with_item}
 use Rattle.reroute_desk.proofs.Recalls.{IsKnown, in_seam, known, told_whole, was_issued}
@@ -50,7 +50,7 @@ module _ (d : Desk) (o : Opened) (promises : KeepsPromises o.base o.opening o.hi
   may_ask = subst (λ (t : Application). Sound o.base t) (sym same) (sound_again o.base (office_day o) k.trip want.sound k_in_time)
 
   -- it has not expired
-  pub is_left : IsLeft d o old
+  pub is_left : IsFirstLeft d o old
   is_left = record { next = next; trip = k.trip; routes = k.routes; issued = was_issued k; in_time = k_in_time }
 
   module _ (caller : ℕ) (r : Reply) (now : Opened) (full : IsFull o → r ≡ reply.Full o.most) (unchanged : IsFull o → now ≡ o) (not_full : HasPlace o → is_full r ≡ false) (grows : HasPlace o → now ≡ grown o (entry caller (call.Held trip) r)) (legal : IsLegal now.base now.opening now.history) where

@@ -146,7 +146,7 @@ abbrev pub IsNext : Desk → Opened → ℕ → Type 0
 IsNext desk o old = (rest : Numbers) × AreFirst desk.handled o.history (old ∷ rest)
 
 -- this permit is the first that is left, and its last day is not before the day
-pub record IsLeft (desk : Desk) (o : Opened) (old : ℕ) : Type 0 where
+pub record IsFirstLeft (desk : Desk) (o : Opened) (old : ℕ) : Type 0 where
   pub next : IsNext desk o old
   pub trip : Application
   pub routes : Routes
@@ -156,7 +156,7 @@ pub record IsLeft (desk : Desk) (o : Opened) (old : ℕ) : Type 0 where
 -- The cause of a refusal: the history holds the most entries that it may, and a permit is left that has not expired. Want of
 -- memory may come wherever memory is taken.
 abbrev pub IsRerouteCause : Desk → Opened → RerouteRefusal → Type 0
-IsRerouteCause desk o (Full entries) = (entries ≡ o.most) × IsFull o × ((old : ℕ) × IsLeft desk o old)
+IsRerouteCause desk o (Full entries) = (entries ≡ o.most) × IsFull o × ((old : ℕ) × IsFirstLeft desk o old)
 IsRerouteCause desk o NoMemory = Unit {0}
 
 -- the answer may come where a permit is applied for again

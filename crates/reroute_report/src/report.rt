@@ -1,9 +1,8 @@
 // A line for each permit that was recalled.
 
-ghost use Rattle.std.specs.Prelude.{◌≡◌, ◌++◌, ◌∷◌, List, IfOk, OnOk};
+ghost use Rattle.std.specs.Prelude.{◌≡◌, ◌++◌, IfOk, OnOk};
 ghost use Rattle.std.specs.Fmt.{decimal};
-ghost use Rattle.office_words.specs.declared.entry.Reply.{Reply};
-ghost use Rattle.recall_list.specs.Issues.{recalled_in, recalled_numbers};
+ghost use Rattle.recall_list.specs.Issues.{recalled_in};
 ghost use Rattle.reroute_report.specs.Lines.{line_for, permit_lines, refused_line, replaced_line, replies_to, reroute_text};
 
 use clearance_rules::Limit;
@@ -31,19 +30,12 @@ fn recalled(alloc: Global, history: &[Entry]) -> Result<Vec<u32>, NoMemory>
 {
     let mut numbers = Vec::new(alloc);
     'entries: for entry in history {
-        add_recalled(&mut numbers, &entry.reply)?;
+        let Reply::Posted { recalled, .. } = &entry.reply else {
+            continue;
+        };
+        numbers.extend_from_slice(recalled.as_slice())?;
     }
     Ok(numbers)
-}
-
-// The numbers that an answer recalls.
-fn add_recalled(numbers: &mut Vec<u32>, reply: &Reply) -> Result<(), AllocError>
-    ensures { OnOk result (numbers.new.items ≡ numbers.old.items ++ recalled_numbers reply.now) }
-{
-    match reply {
-        Reply::Posted { recalled, .. } => numbers.extend_from_slice(recalled.as_slice()),
-        _ => Ok(()),
-    }
 }
 
 // A line for each of these permits, with the answers to the caller.
@@ -58,27 +50,16 @@ fn add_lines(
 {
     let mut left = permits;
     'entries: for entry in history {
-        if entry.caller == caller {
-            left = add_first(text, left, &entry.reply)?;
+        if entry.caller != caller {
+            continue;
         }
+        let Some((permit, others)) = left.split_first() else {
+            return Ok(());
+        };
+        add_line(text, *permit, &entry.reply)?;
+        left = others;
     }
     Ok(())
-}
-
-// The line of the first of these permits, if there is one, by the next answer; and the permits that are left.
-fn add_first<'a>(
-    text: &mut Vec<u8>,
-    permits: &'a [u32],
-    reply: &Reply,
-) -> Result<&'a [u32], NoMemory>
-    ensures { IfOk result (λ left. (replies : List Reply) → text.new.items ++ permit_lines left.now replies
-        ≡ text.old.items ++ permit_lines permits.now (reply.now ∷ replies)) }
-{
-    let Some((permit, left)) = permits.split_first() else {
-        return Ok(permits);
-    };
-    add_line(text, *permit, reply)?;
-    Ok(left)
 }
 
 // The line of a permit.

@@ -4,7 +4,7 @@ use crate::change::{Change, Replaced};
 use crate::lists::{base_ratings, base_values};
 use crate::pages::Pages;
 use names::NoMemory;
-use road_graph::{Network, Values, What};
+use road_graph::{Network, Values};
 use std::alloc::Global;
 use std::marker::Model;
 
@@ -27,8 +27,7 @@ impl Model for State {
 
 impl State {
     ghost use Rattle.std.specs.Prelude.{◌≡◌, ◌<◌, length, true, IfOk};
-    ghost use Rattle.restriction_log.specs.States.{InForce, base_of, state_after, is_named, values_at, rating_at, with_limit, with_replaced};
-    ghost use Rattle.restriction_log.specs.declared.change.Replaced.TheVariants.{Rating};
+    ghost use Rattle.restriction_log.specs.States.{InForce, base_of, state_after, is_named, values_at, rating_at};
 
     /// The state before anything is posted.
     pub fn base(alloc: Global, network: &Network) -> Result<State, NoMemory>
@@ -72,37 +71,17 @@ impl State {
                 segment,
                 what,
                 value,
-            } => self.with_limit(alloc, segment, what, value),
-            Replaced::Rating { span, permille } => self.with_rating(alloc, span, permille),
+            } => {
+                let limits = self.segment(segment).with(what, value);
+                Ok(State {
+                    values: self.values.with(alloc, segment as usize, limits)?,
+                    ratings: self.ratings.again()?,
+                })
+            }
+            Replaced::Rating { span, permille } => Ok(State {
+                values: self.values.again()?,
+                ratings: self.ratings.with(alloc, span as usize, permille)?,
+            }),
         }
-    }
-
-    // This state with another value of one limit of the segment.
-    fn with_limit(
-        &self,
-        alloc: Global,
-        segment: u32,
-        what: What,
-        value: u32,
-    ) -> Result<State, NoMemory>
-        requires { segment < length self.now.values }
-        ensures { IfOk result (λ state. state ≡ with_limit self.now segment what value) }
-    {
-        let limits = self.segment(segment).with(what, value);
-        Ok(State {
-            values: self.values.with(alloc, segment as usize, limits)?,
-            ratings: self.ratings.again()?,
-        })
-    }
-
-    // This state with another rating of the span.
-    fn with_rating(&self, alloc: Global, span: u32, permille: u32) -> Result<State, NoMemory>
-        requires { span < length self.now.ratings }
-        ensures { IfOk result (λ state. state ≡ with_replaced self.now (Rating span permille)) }
-    {
-        Ok(State {
-            values: self.values.again()?,
-            ratings: self.ratings.with(alloc, span as usize, permille)?,
-        })
     }
 }

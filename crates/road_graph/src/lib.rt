@@ -19,7 +19,7 @@ mod segment;
 mod values;
 
 pub use network::Network;
-pub use numbers::Numbers;
+pub use numbers::{Numbers, SharedNumbers};
 pub use refusal::AddRefusal;
 pub use segment::{Arrival, Segment, Span};
 pub use values::{Values, What};

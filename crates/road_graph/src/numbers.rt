@@ -1,10 +1,11 @@
-// A list of numbers.
+// Lists of numbers, of one owner and of several.
 
 ghost use Rattle.std.specs.Prelude.{◌≡◌, IfOk};
 
 use names::NoMemory;
 use std::alloc::{AllocError, Global};
 use std::marker::Model;
+use std::sync::Arc;
 
 /// A list of numbers, as the segments of a route or the nodes that were reached.
 #[derive(Debug, Drop)]
@@ -61,5 +62,52 @@ impl Numbers {
         ensures { result.items ≡ self }
     {
         self.list
+    }
+}
+
+/// A list of numbers that its owners have in common.
+///
+/// Where many trips lead to a goal that is shut, the same nodes are reached from each of their starts. The findings of these
+/// trips hold one list together, which never changes, and a further owner copies nothing.
+///
+/// Contracts see the list.
+#[derive(Debug, Drop)]
+pub struct SharedNumbers {
+    numbers: Arc<Numbers, Global>,
+}
+
+impl Model for SharedNumbers {
+    ghost use Rattle.std.specs.Prelude.{List, ℕ};
+    ghost use Rattle.std.specs.Arc.{arc_value};
+
+    ghost Value = { List ℕ };
+
+    ghost view = { λ shared. arc_value shared.numbers };
+}
+
+/// One more owner of the same list. Copies nothing, and is refused only where no further owner can be had.
+impl Clone for SharedNumbers {
+    ghost is_clone = { λ shared owner. owner ≡ shared };
+
+    fn clone(&self) -> Result<SharedNumbers, AllocError> {
+        let numbers = Arc::try_clone(&self.numbers)?;
+        Ok(SharedNumbers { numbers })
+    }
+}
+
+impl SharedNumbers {
+    /// These numbers, with one owner.
+    pub fn of(alloc: Global, numbers: Numbers) -> Result<SharedNumbers, AllocError>
+        ensures { IfOk result (λ shared. shared ≡ numbers) }
+    {
+        let numbers = Arc::new(alloc, numbers)?;
+        Ok(SharedNumbers { numbers })
+    }
+
+    /// The numbers. Takes no memory.
+    pub fn as_slice(&self) -> &[u32]
+        ensures { result.now ≡ self.now }
+    {
+        self.numbers.as_slice()
     }
 }

@@ -4,12 +4,11 @@ ghost use Rattle.trip_applications.specs.Applications.{AreAskedThere, Sound};
 ghost use Rattle.snapshot_store.specs.Stores.{IsLater};
 ghost use Rattle.trip_analysis.specs.Followers.{GoesOn, followed};
 
-use crate::fixtures::{day, named, network, number, part};
-use axle_train::{Axle, Train};
+use crate::fixtures::{after, base_state, day, holds, named, network, number, part, same, train};
 use clearance_rules::{Limit, Load, Steps};
 use fleet::{Base, Failing, Truck, TruckOn};
-use restriction_log::{Change, State, takes};
-use road_graph::{Network, Numbers};
+use restriction_log::{Change, State};
+use road_graph::{Network, Numbers, SharedNumbers};
 use snapshot_store::Store;
 use span_rating::SpanStudy;
 use std::alloc::{AllocError, Global};
@@ -48,12 +47,13 @@ span s 0 360 2000
 span t 0 360 2000
 ";
 
-// A truck of 102 in by 720 in whose axles are within the limits of 23 CFR 658.17: 20,000 lb an axle, 34,000 lb for the
-// tandem of 48 in, and by the formula 45,000 lb for the first two axles and 50,000 lb for all three.
-fn truck(rt: &impl Abort, name: &[u8], height: u32) -> Truck {
-    let axles = [(0, 12_000), (180, 17_000), (228, 17_000)];
-    let axles = axles.map(|(place, weight)| Axle { place, weight });
-    let train = Train::new(axles.as_slice()).expect(rt, "a train");
+// Axles within the limits of 23 CFR 658.17: 20,000 lb an axle, 34,000 lb for the tandem of 48 in, and by the formula 45,000 lb
+// for the first two axles and 50,000 lb for all three.
+const AXLES: [(u32, u32); 3] = [(0, 12_000), (180, 17_000), (228, 17_000)];
+
+// A truck of these axles, 102 in by 720 in.
+fn truck(rt: &impl Abort, alloc: Global, name: &[u8], height: u32) -> Truck {
+    let train = train(rt, alloc, &AXLES);
     Truck {
         name: named(rt, name),
         carrier: named(rt, b"carrier"),
@@ -64,8 +64,12 @@ fn truck(rt: &impl Abort, name: &[u8], height: u32) -> Truck {
 // Roads with truck 0, which at 168 in is higher than 162 in and needs a permit, and truck 1, which is legal.
 fn base(rt: &impl Abort, alloc: Global) -> Base {
     let mut fleet = Vec::new(alloc);
-    fleet.push(truck(rt, b"high", 168)).expect(rt, "memory");
-    fleet.push(truck(rt, b"legal", 160)).expect(rt, "memory");
+    fleet
+        .push(truck(rt, alloc, b"high", 168))
+        .expect(rt, "memory");
+    fleet
+        .push(truck(rt, alloc, b"legal", 160))
+        .expect(rt, "memory");
     Base::new(network(rt, alloc, WAYS), fleet)
 }
 
@@ -199,9 +203,9 @@ const ANSWERS: [(&str, Option<ApplicationRefusal>); 19] = [
 #[test]
 fn refuses_an_application_for_its_first_cause(rt: HostRuntime) {
     let base = base(&rt, rt.alloc());
-    for (text, wanted) in ANSWERS {
+    for &(text, wanted) in &ANSWERS {
         let refusal = applied(&rt, rt.alloc(), &base, text).err();
-        assert!(rt; refusal == wanted, "{text}");
+        holds(&rt, refusal == wanted, text);
     }
     drop(base);
 }
@@ -214,29 +218,39 @@ const ABSENT: [&str; 4] = [
     "0,0,1,0|3,2026-03-02,2026-03-02",
 ];
 
+// Whether what a text asks for, of which nothing is tested, is sound.
+fn is_sound(rt: &impl Abort, alloc: Global, base: &Base, text: &str) -> bool {
+    let application = untested(rt, alloc, text);
+    let is_sound = application.is_sound(base);
+    drop(application);
+    is_sound
+}
+
 // An application of which nothing was tested is sound exactly where it is taken.
 #[test]
 fn tells_sound_applications(rt: HostRuntime) {
     let base = base(&rt, rt.alloc());
-    for (text, wanted) in ANSWERS {
-        let application = untested(&rt, rt.alloc(), text);
-        assert!(rt; application.is_sound(&base) == wanted.is_none(), "{text}");
+    for &(text, wanted) in &ANSWERS {
+        holds(
+            &rt,
+            is_sound(&rt, rt.alloc(), &base, text) == wanted.is_none(),
+            text,
+        );
     }
-    for text in ABSENT {
-        let application = untested(&rt, rt.alloc(), text);
-        assert!(rt; !application.is_sound(&base), "{text}");
+    for &text in &ABSENT {
+        holds(&rt, !is_sound(&rt, rt.alloc(), &base, text), text);
     }
     drop(base);
 }
 
 // Whether these are the fields of the application of the test below.
 fn check_fields(rt: &impl Abort, a: &Application) {
-    assert_eq!(rt; (a.truck(), a.from(), a.to()), (1, 0, 1));
+    same(rt, 0, &(a.truck(), a.from(), a.to()), &(1, 0, 1));
     let asked = a.asked().expect(rt, "routes");
     assert!(rt; asked.len() == 2);
     assert!(rt; asked.route(0) == [1, 2].as_slice() && asked.route(1) == [0].as_slice());
-    assert!(rt; a.first() == day(rt, "2026-03-02"));
-    assert!(rt; a.last() == day(rt, "2026-03-05"));
+    let days = (a.first(), a.last());
+    assert!(rt; days == (day(rt, "2026-03-02"), day(rt, "2026-03-05")));
 }
 
 // An application and a copy of it.
@@ -253,19 +267,16 @@ fn keeps_what_is_asked_for(rt: HostRuntime) {
 }
 
 // The state of the roads where the segments of a text are posted at 167 in, an inch less than truck 0 is high.
-#[tactic(auto, using(restriction_log::proofs::Standing::base_is_of))]
 fn lowered(rt: &impl Abort, alloc: Global, network: &Network, text: &str) -> State
     ensures { AreOf network.now result }
 {
-    assert!(rt; network.segments() == 3);
-    let mut state = State::base(alloc, network).expect(rt, "memory");
+    let mut state = base_state(rt, alloc, network);
     'low: for part in text.split_whitespace() {
         let change = Change::Height {
             segment: number(part),
             inches: 167,
         };
-        assert!(rt; takes(network, &change));
-        state = state.with(alloc, &change).expect(rt, "memory");
+        state = after(rt, alloc, network, &state, &change);
     }
     state
 }
@@ -528,10 +539,10 @@ fn tell_limits<L: Ledger>(rt: &impl Abort, base: &Base, state: &State, steps: &m
         state,
         truck: 1,
     };
-    assert!(rt; too_high.failing_limit(1, steps) == Some(TOO_LOW));
-    assert!(rt; low.failing_limit(1, steps).is_none());
-    assert!(rt; !too_high.is_passable(1, steps));
-    assert!(rt; low.is_passable(1, steps));
+    same(rt, 0, &too_high.failing_limit(1, steps), &Some(TOO_LOW));
+    same(rt, 1, &low.failing_limit(1, steps), &None);
+    let passable = (too_high.is_passable(1, steps), low.is_passable(1, steps));
+    same(rt, 2, &passable, &(false, true));
 }
 
 // On segments 2, 1 and 0 the first that fails truck 0 is segment 1.
@@ -550,13 +561,35 @@ fn tell_first<L: Ledger>(rt: &impl Abort, base: &Base, state: &State, steps: &mu
     assert!(rt; first == Some(Failing { segment, limit }));
 }
 
-// The set of one node.
-fn only(rt: &impl Abort, alloc: Global, node: u32) -> NodeSet {
-    let list = Vec::from_slice(alloc, &[node]).expect(rt, "memory");
-    let nodes = Numbers::of(list);
+// The set of some nodes.
+fn set_of(rt: &impl Abort, alloc: Global, nodes: &[u32]) -> NodeSet {
+    let list = Vec::from_slice(alloc, nodes).expect(rt, "memory");
+    let nodes = SharedNumbers::of(alloc, Numbers::of(list)).expect(rt, "memory");
     let set = NodeSet::of(&nodes);
     drop(nodes);
     set
+}
+
+// The first segment that leaves some nodes of the network of three: segments lead from node 0 to 1 and 2, and from 2 to 1.
+const LEAVING: [(&[u32], Option<u32>); 5] = [
+    (&[], None),
+    (&[0], Some(0)),
+    (&[1], None),
+    (&[0, 1], Some(1)),
+    (&[2], Some(2)),
+];
+
+// The first segment that leaves some nodes.
+fn first_leaving_of(
+    rt: &impl Abort,
+    alloc: Global,
+    network: &Network,
+    nodes: &[u32],
+) -> Option<u32> {
+    let set = set_of(rt, alloc, nodes);
+    let first = set.first_leaving(network);
+    drop(set);
+    first
 }
 
 // The segments that leave a node, where segments 0 and 1 are too low for truck 0.
@@ -569,14 +602,29 @@ fn tell_leaving<L: Ledger>(
 )
     requires { AreOf base.now.roads state.now }
 {
-    let (first, last) = (only(rt, alloc, 0), only(rt, alloc, 2));
+    let (first, last) = (set_of(rt, alloc, &[0]), set_of(rt, alloc, &[2]));
     let network = base.network();
     assert!(rt; base.fleet().len() == 2 && network.segments() == 3);
-    assert!(rt; first.is_left_by(network, 1) && !last.is_left_by(network, 1));
-    assert!(rt; first.next_leaving(network, 1) == Some(1));
-    assert!(rt; first.next_leaving(network, 2).is_none());
-    assert!(rt; first_meeting_out(base, state, 0, &first, steps).is_none());
-    assert!(rt; first_meeting_out(base, state, 0, &last, steps) == Some(2));
+    let is_left = (first.is_left_by(network, 1), last.is_left_by(network, 1));
+    let next = (
+        first.next_leaving(network, 1),
+        first.next_leaving(network, 2),
+    );
+    let of_first = first_meeting_out(base, state, 0, &first, steps);
+    let of_last = first_meeting_out(base, state, 0, &last, steps);
+    drop(first);
+    drop(last);
+    same(rt, 0, &is_left, &(true, false));
+    same(rt, 1, &next, &(Some(1), None));
+    same(rt, 2, &(of_first, of_last), &(None, Some(2)));
+    for (i, (nodes, leaving)) in LEAVING.iter().enumerate() {
+        same(
+            rt,
+            3 + i,
+            &first_leaving_of(rt, alloc, network, nodes),
+            leaving,
+        );
+    }
 }
 
 // Both with one counter.

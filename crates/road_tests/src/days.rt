@@ -1,4 +1,4 @@
-use crate::fixtures::day;
+use crate::fixtures::{day, holds, same};
 use permit_days::{Day, DayRefusal};
 use std::alloc::Global;
 use std::process::Abort;
@@ -35,17 +35,19 @@ const REFUSED: [(&str, DayRefusal); 14] = [
 fn is_written(rt: &impl Abort, alloc: Global, text: &str) {
     let day = day(rt, text);
     let written = day.to_string(alloc).expect(rt, "memory");
-    assert!(rt; written.as_str() == text, "{text}");
-    assert!(rt; day.text().as_slice() == text.as_bytes(), "{text}");
+    let is_text = written.as_str() == text;
+    drop(written);
+    let is_same = is_text && day.text().as_slice() == text.as_bytes();
+    holds(rt, is_same, text);
 }
 
 #[test]
 fn reads_a_day_or_says_why_not(rt: HostRuntime) {
-    for text in DAYS {
+    for &text in &DAYS {
         is_written(&rt, rt.alloc(), text);
     }
-    for (text, refusal) in REFUSED {
-        assert!(rt; Day::read(text.as_bytes()).err() == Some(refusal), "{text}");
+    for &(text, refusal) in &REFUSED {
+        holds(&rt, Day::read(text.as_bytes()).err() == Some(refusal), text);
     }
 }
 
@@ -61,9 +63,8 @@ const RISING: [&str; 6] = [
 // Of two days of that list.
 fn are_in_order(rt: &impl Abort, i: usize, j: usize) {
     let (a, b) = (day(rt, RISING[i % 6]), day(rt, RISING[j % 6]));
-    assert!(rt; (a < b) == (i < j), "{i} {j}");
-    assert!(rt; (a == b) == (i == j), "{i} {j}");
-    assert!(rt; (a.number() < b.number()) == (i < j), "{i} {j}");
+    let orders = (a < b, a == b, a.number() < b.number());
+    assert!(rt; orders == (i < j, i == j, i < j), "{i} {j}");
 }
 
 #[test]
@@ -87,8 +88,8 @@ const NUMBERED: [(&str, i32); 6] = [
 
 #[test]
 fn numbers_days_from_1970(rt: HostRuntime) {
-    for (text, number) in NUMBERED {
-        assert!(rt; day(&rt, text).number() == number, "{text}");
+    for &(text, number) in &NUMBERED {
+        holds(&rt, day(&rt, text).number() == number, text);
     }
 }
 
@@ -128,22 +129,25 @@ fn read(year: u16, month: u16, day: u16) -> Result<Day, DayRefusal> {
     ])
 }
 
+// That what was read is the day after the one of this number, or that there is no such day. The number of the last day then.
+fn goes_on(rt: &impl Abort, found: Result<Day, DayRefusal>, is_there: bool, before: i32) -> i32 {
+    let (last, is_right) = match found {
+        Ok(day) => (
+            day.number(),
+            is_there && Some(day.number()) == before.checked_add(1),
+        ),
+        Err(refusal) => (before, !is_there && refusal == DayRefusal::NoSuchDay),
+    };
+    assert!(rt; is_right, "after {before}");
+    last
+}
+
 // That a month of the year has just its days, whose numbers go on after this one, and gives the last.
 fn month_goes_on(rt: &impl Abort, year: u16, month: u16, before: i32) -> i32 {
     let mut last = before;
     for day in 0..33 {
         let is_there = 1 <= day && day <= month_length(year, month);
-        match read(year, month, day) {
-            Ok(day) => {
-                assert!(rt; is_there);
-                assert_eq!(rt; Some(day.number()), last.checked_add(1));
-                last = day.number();
-            }
-            Err(refusal) => {
-                assert!(rt; !is_there);
-                assert!(rt; refusal == DayRefusal::NoSuchDay);
-            }
-        }
+        last = goes_on(rt, read(year, month, day), is_there, last);
     }
     last
 }
@@ -175,8 +179,8 @@ const BETWEEN: [(&str, &str, u32); 7] = [
 
 #[test]
 fn counts_the_days_between_two(rt: HostRuntime) {
-    for (first, last, days) in BETWEEN {
+    for (row, &(first, last, days)) in BETWEEN.iter().enumerate() {
         let since = day(&rt, last).days_since(day(&rt, first));
-        assert!(rt; since == days, "{first} to {last}");
+        same(&rt, row, &since, &days);
     }
 }

@@ -2,6 +2,7 @@
 
 ghost use Rattle.restriction_log.specs.States.{AreOf};
 
+use axle_train::{Axle, Train};
 use names::Name;
 use permit_days::Day;
 use restriction_log::{Change, State, takes};
@@ -44,6 +45,17 @@ pub fn named(rt: &impl Abort, bytes: &[u8]) -> Name {
 // The day of a text, which writes one.
 pub fn day(rt: &impl Abort, text: &str) -> Day {
     Day::read(text.as_bytes()).expect(rt, text)
+}
+
+// A train of axles at these places, in inches, with these weights in pounds.
+pub fn train(rt: &impl Abort, alloc: Global, pairs: &[(u32, u32)]) -> Train {
+    let mut axles = Vec::new(alloc);
+    for &(place, weight) in pairs {
+        axles.push(Axle { place, weight }).expect(rt, "memory");
+    }
+    let train = Train::new(axles.as_slice()).expect(rt, "a train");
+    drop(axles);
+    train
 }
 
 // Adds what a line says: `node NAME`, `segment NAME FROM TO FEET`, or `span NAME SEGMENT INCHES RATING`. Nodes and segments

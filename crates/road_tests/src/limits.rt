@@ -3,10 +3,9 @@ ghost use Rattle.restriction_log.specs.States.{AreOf};
 
 use crate::fixtures::{
     ALLOWANCE, CLOSED, GROSS, HEIGHT, LENGTH, Posted, RATING, TRIDEM, WIDTH, after, base_state,
-    change, network, same, says,
+    change, network, same, says, train,
 };
 use axle_limits::WorstGroup;
-use axle_train::{Axle, Train};
 use clearance_rules::{
     Limit, Load, Range, Steps, first_failing, limits_are_of_their_segment, meets,
 };
@@ -61,22 +60,10 @@ span u 0 240 100000
 // What was built is let go by a call of `drop`: where a scope lets it go, the proof of the whole function
 // goes through its parts. For the same reason no function both builds and goes through a table.
 
-// A load of this size with axles of these places and weights.
-fn loaded(
-    rt: &impl Abort,
-    alloc: Global,
-    height: u32,
-    width: u32,
-    length: u32,
-    pairs: &[(u32, u32)],
-) -> Load {
-    let mut axles = Vec::new(alloc);
-    for &(place, weight) in pairs {
-        axles.push(Axle { place, weight }).expect(rt, "memory");
-    }
-    let train = Train::new(axles.as_slice()).expect(rt, "a train");
-    drop(axles);
-    Load::new(height, width, length, train).expect(rt, "a load")
+// A load of this height, width and length with axles of these places and weights.
+fn loaded(rt: &impl Abort, alloc: Global, sizes: (u32, u32, u32), pairs: &[(u32, u32)]) -> Load {
+    let train = train(rt, alloc, pairs);
+    Load::new(sizes.0, sizes.1, sizes.2, train).expect(rt, "a load")
 }
 
 // What fails a load: nothing, a limit, or on a span of segment 0 a moment or a shear, each a whole number, over what the span
@@ -130,8 +117,9 @@ fn state_after(rt: &impl Abort, alloc: Global, network: &Network, rows: &[Row]) 
     state
 }
 
-// The first limit of a segment that fails a load, counted by a counter of its own.
+// The first limit of a segment that fails a load. By what the load keeps, the segment meets it exactly where there is none.
 fn limit_on<L: Ledger>(
+    rt: &impl Abort,
     network: &Network,
     state: &State,
     load: &Load,
@@ -148,29 +136,13 @@ fn limit_on<L: Ledger>(
     let study = Live {
         train: load.train(),
     };
-    first_failing(network, state, load, &study, segment, &mut steps)
+    let limit = first_failing(network, state, load, &study, segment, &mut steps);
+    let is_met = meets(network, state, load, load.study(), segment, &mut steps);
+    assert!(rt; is_met == limit.is_none());
+    limit
 }
 
-// Whether a segment meets a load, by what the load keeps, counted by a counter of its own.
-fn is_met_on<L: Ledger>(
-    network: &Network,
-    state: &State,
-    load: &Load,
-    segment: u32,
-    blank: Blank,
-) -> bool
-    requires segment { segment < length network.now.segments }
-    requires state { AreOf network.now state.now }
-    requires name { blank.name ≡ L.name }
-    requires parts { blank.parts ≡ L.parts }
-    requires some { 0 < blank.parts }
-{
-    let mut steps = Steps::<L>::new(blank);
-    meets(network, state, load, load.study(), segment, &mut steps)
-}
-
-// The first limit of segment 0 that fails a load, after the changes of these rows. The segment meets the load
-// exactly where there is none.
+// The same of segment 0 after the changes of these rows.
 fn limit_after(
     rt: &impl Abort,
     alloc: Global,
@@ -180,10 +152,8 @@ fn limit_after(
 ) -> Option<Limit> {
     let state = state_after(rt, alloc, network, rows);
     assert!(rt; network.segments() > 0);
-    let limit = limit_on::<Brand>(network, &state, load, 0, Blank::new(1));
-    let is_met = is_met_on::<Brand>(network, &state, load, 0, Blank::new(1));
+    let limit = limit_on::<Brand>(rt, network, &state, load, 0, Blank::new(1));
     drop(state);
-    assert!(rt; is_met == limit.is_none());
     limit
 }
 
@@ -276,7 +246,7 @@ const AT_EQUALITY: [Row; 10] = [
 
 #[test]
 fn passes_at_equality(rt: HostRuntime) {
-    let load = loaded(&rt, rt.alloc(), 168, 144, 720, &OVER_THE_FORMULA);
+    let load = loaded(&rt, rt.alloc(), (168, 144, 720), &OVER_THE_FORMULA);
     judge(&rt, rt.alloc(), load, Standing::Its, &AT_EQUALITY);
 }
 
@@ -338,7 +308,7 @@ const IN_ORDER: [Row; 9] = [
 // Of all changes the first fails the load; of those after it the next one does, and so on.
 #[test]
 fn names_the_first_limit(rt: HostRuntime) {
-    let load = loaded(&rt, rt.alloc(), 168, 144, 720, &HS20);
+    let load = loaded(&rt, rt.alloc(), (168, 144, 720), &HS20);
     judge(
         &rt,
         rt.alloc(),
@@ -384,9 +354,9 @@ const AROUND_TRIDEMS: [Row; 3] = [
 // the greatest here, does not scale it.
 #[test]
 fn weighs_tridem_groups(rt: HostRuntime) {
-    let load = loaded(&rt, rt.alloc(), 168, 102, 720, &THREE_AXLES);
+    let load = loaded(&rt, rt.alloc(), (168, 102, 720), &THREE_AXLES);
     judge(&rt, rt.alloc(), load, Standing::Its, &TRIDEMS);
-    let load = loaded(&rt, rt.alloc(), 168, 102, 720, &THREE_AXLES);
+    let load = loaded(&rt, rt.alloc(), (168, 102, 720), &THREE_AXLES);
     judge(
         &rt,
         rt.alloc(),
@@ -409,7 +379,7 @@ const RATINGS: [Row; 4] = [
 // By what the load keeps of what its axles ask of spans of 20 ft.
 #[test]
 fn judges_spans_by_both_effects(rt: HostRuntime) {
-    let mut load = loaded(&rt, rt.alloc(), 168, 144, 720, &TWO_AXLES);
+    let mut load = loaded(&rt, rt.alloc(), (168, 144, 720), &TWO_AXLES);
     load.keep(rt.alloc(), 240).expect(&rt, "memory");
     judge(&rt, rt.alloc(), load, Standing::Its, &RATINGS);
 }
@@ -418,31 +388,38 @@ const DESIGN: [Row; 1] = [((RATING, 0, 1_000), Fails::No)];
 
 #[test]
 fn carries_the_design_truck_at_a_rating_of_1000(rt: HostRuntime) {
-    let load = loaded(&rt, rt.alloc(), 168, 144, 720, &HS20);
+    let load = loaded(&rt, rt.alloc(), (168, 144, 720), &HS20);
     judge(&rt, rt.alloc(), load, Standing::Its, &DESIGN);
     limits_are_of_their_segment();
 }
 
 // Whether a load of this height and width is legal.
 fn is_legal(rt: &impl Abort, alloc: Global, height: u32, width: u32, pairs: &[(u32, u32)]) -> bool {
-    let load = loaded(rt, alloc, height, width, 720, pairs);
+    let load = loaded(rt, alloc, (height, width, 720), pairs);
     let legal = load.legal();
     drop(load);
     legal
 }
 
+// A height and a width, axles, and whether a load of them is legal.
+const LEGAL: [(u32, u32, &[(u32, u32)], bool); 4] = [
+    (162, 102, &TWO_TANDEMS, true),
+    (163, 102, &TWO_TANDEMS, false),
+    (162, 103, &TWO_TANDEMS, false),
+    (162, 102, &OVER_THE_FORMULA, false),
+];
+
 #[test]
 fn tells_which_loads_are_legal(rt: HostRuntime) {
-    let alloc = rt.alloc();
-    assert!(rt; is_legal(&rt, alloc, 162, 102, &TWO_TANDEMS));
-    assert!(rt; !is_legal(&rt, alloc, 163, 102, &TWO_TANDEMS));
-    assert!(rt; !is_legal(&rt, alloc, 162, 103, &TWO_TANDEMS));
-    assert!(rt; !is_legal(&rt, alloc, 162, 102, &OVER_THE_FORMULA));
+    for (row, &(height, width, pairs, legal)) in LEGAL.iter().enumerate() {
+        let found = is_legal(&rt, rt.alloc(), height, width, pairs);
+        same(&rt, row, &found, &legal);
+    }
 }
 
 #[test]
 fn tells_the_parts_of_a_load(rt: HostRuntime) {
-    let load = loaded(&rt, rt.alloc(), 162, 102, 720, &OVER_THE_FORMULA);
+    let load = loaded(&rt, rt.alloc(), (162, 102, 720), &OVER_THE_FORMULA);
     let sizes = (load.height(), load.width(), load.length());
     let (gross, found) = (load.train().gross(), load.worst());
     drop(load);
@@ -461,9 +438,8 @@ fn tells_the_parts_of_a_load(rt: HostRuntime) {
 const LEAST: [(u32, u32); 2] = [(0, 1), (1, 1)];
 
 // Whether a load of this height, width and length can be made.
-fn is_taken(rt: &impl Abort, sizes: (u32, u32, u32)) -> bool {
-    let axles = LEAST.map(|(place, weight)| Axle { place, weight });
-    let train = Train::new(&axles).expect(rt, "a train");
+fn is_taken(rt: &impl Abort, alloc: Global, sizes: (u32, u32, u32)) -> bool {
+    let train = train(rt, alloc, &LEAST);
     let load = Load::new(sizes.0, sizes.1, sizes.2, train);
     let taken = load.is_ok();
     drop(load);
@@ -485,7 +461,7 @@ const SIZES: [((u32, u32, u32), bool); 8] = [
 #[test]
 fn takes_numbers_in_range(rt: HostRuntime) {
     for (row, &(sizes, taken)) in SIZES.iter().enumerate() {
-        same(&rt, row, &is_taken(&rt, sizes), &taken);
+        same(&rt, row, &is_taken(&rt, rt.alloc(), sizes), &taken);
     }
     says(&rt, rt.alloc(), &Range, "a number is out of its range");
 }

@@ -3,7 +3,6 @@ use names::Name;
 use road_graph::{AddRefusal, Arrival, Network, Numbers, Segment, Span, Values, What};
 use std::alloc::Global;
 use std::process::Abort;
-use std::test::Fail;
 
 // Each table goes to a function that takes the network by reference, and each network is let go by a call of
 // `drop`: where a scope lets it go, the proof of the whole function goes through its parts.
@@ -193,9 +192,7 @@ fn tell_span(rt: &impl Abort, span: Span, name: &[u8], numbers: (u32, u32, u32))
 }
 
 fn tell(rt: &impl Abort, network: &Network) {
-    assert!(rt; network.nodes() == 2);
-    assert!(rt; network.segments() == 4);
-    assert!(rt; network.spans() == 3);
+    assert!(rt; network.nodes() == 2 && network.segments() == 4 && network.spans() == 3);
     tell_segment(rt, network.segment(3), b"loop", (1, 1), 300);
     tell_span(rt, network.span(1), b"t", (2, 480, 900));
 }
@@ -292,12 +289,16 @@ const NODES_BEYOND: [Added; 2] = [
     ("node a", Err(AddRefusal::SameName)),
 ];
 
+fn add_numbered_nodes(rt: &impl Abort, network: &mut Network, first: u32, end: u32) {
+    for number in first..end {
+        assert!(rt; network.add_node(numbered(rt, number)) == Ok(number));
+    }
+}
+
 #[test]
 fn has_room_for_4096_nodes(rt: HostRuntime) {
     let mut network = network(&rt, rt.alloc(), SMALL);
-    for number in 2..4_096 {
-        assert!(rt; network.add_node(numbered(&rt, number)) == Ok(number));
-    }
+    add_numbered_nodes(&rt, &mut network, 2, 4_096);
     add_each(&rt, &mut network, &NODES_BEYOND);
     same(
         &rt,
@@ -313,13 +314,18 @@ const SEGMENTS_BEYOND: [Added; 2] = [
     ("segment c 0 0 0", Err(AddRefusal::Range)),
 ];
 
+// Adds the segments of these numbers, from one node and the other in turns.
+fn add_numbered_segments(rt: &impl Abort, network: &mut Network, first: u32, end: u32) {
+    for number in first..end {
+        let added = network.add_segment(numbered(rt, number), number % 2, 0, 1);
+        assert!(rt; added == Ok(number));
+    }
+}
+
 #[test]
 fn has_room_for_16384_segments(rt: HostRuntime) {
     let mut network = network(&rt, rt.alloc(), SMALL);
-    for number in 1..16_384 {
-        let added = network.add_segment(numbered(&rt, number), number % 2, 0, 1);
-        assert!(rt; added == Ok(number));
-    }
+    add_numbered_segments(&rt, &mut network, 1, 16_384);
     add_each(&rt, &mut network, &SEGMENTS_BEYOND);
     same(
         &rt,
@@ -338,19 +344,18 @@ fn add_numbered_spans(rt: &impl Abort, network: &mut Network, first: u32, end: u
     }
 }
 
+const SPANS_BEYOND_16: [Added; 1] = [("span t 0 1 0", Err(AddRefusal::TooMany))];
+
+const SPANS_BEYOND_2048: [Added; 1] = [("span t 129 1 0", Err(AddRefusal::TooMany))];
+
 #[test]
 fn has_room_for_2048_spans_and_16_on_a_segment(rt: HostRuntime) {
     let mut network = network(&rt, rt.alloc(), SMALL);
-    for number in 1..130 {
-        let added = network.add_segment(numbered(&rt, number), 0, 0, 1);
-        assert!(rt; added == Ok(number));
-    }
+    add_numbered_segments(&rt, &mut network, 1, 130);
     add_numbered_spans(&rt, &mut network, 1, 16);
-    let added = add(&rt, &mut network, "span t 0 1 0");
-    assert!(rt; added == Err(AddRefusal::TooMany));
+    add_each(&rt, &mut network, &SPANS_BEYOND_16);
     add_numbered_spans(&rt, &mut network, 16, 2_048);
-    let added = add(&rt, &mut network, "span t 129 1 0");
-    assert!(rt; added == Err(AddRefusal::TooMany));
+    add_each(&rt, &mut network, &SPANS_BEYOND_2048);
     same(
         &rt,
         2,
@@ -360,19 +365,23 @@ fn has_room_for_2048_spans_and_16_on_a_segment(rt: HostRuntime) {
     drop(network);
 }
 
-fn hands_back(rt: &impl Abort, alloc: Global, list: &[u32]) -> Result<(), Fail> {
-    let numbers = Numbers::of(list.to_vec(alloc)?);
-    let copy = numbers.try_clone(alloc)?;
+fn hands_back(rt: &impl Abort, alloc: Global, list: &[u32]) {
+    let numbers = Numbers::of(list.to_vec(alloc).expect(rt, "memory"));
+    let copy = numbers.try_clone(alloc).expect(rt, "memory");
     same(rt, 0, &copy.as_slice(), &list);
-    same(rt, 1, &numbers.into_vec().as_slice(), &list);
-    Ok(())
+    drop(copy);
+    let back = numbers.into_vec();
+    same(rt, 1, &back.as_slice(), &list);
+    drop(back);
 }
 
+const LISTS: [&[u32]; 3] = [&[], &[7], &[3, 3, 4_294_967_295]];
+
 #[test]
-fn hands_numbers_back_as_they_were(rt: HostRuntime) -> Result<(), Fail> {
-    hands_back(&rt, rt.alloc(), &[])?;
-    hands_back(&rt, rt.alloc(), &[7])?;
-    hands_back(&rt, rt.alloc(), &[3, 3, 4_294_967_295])
+fn hands_numbers_back_as_they_were(rt: HostRuntime) {
+    for &list in &LISTS {
+        hands_back(&rt, rt.alloc(), list);
+    }
 }
 
 const CAUSES: [(AddRefusal, &str); 6] = [

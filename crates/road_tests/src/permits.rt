@@ -1,12 +1,11 @@
 ghost use Rattle.std.specs.Prelude.{◌≡◌, true};
 ghost use Rattle.permit_book.specs.Permits.{is_issued, is_live, permit_of};
 
-use crate::fixtures::day;
+use crate::fixtures::{day, same};
 use permit_book::{Book, Mark, Status, Trip};
 use road_graph::Numbers;
 use std::alloc::Global;
 use std::process::Abort;
-use std::test::Fail;
 use trip_routes::SharedRoutes;
 
 // A trip along no segment, from the second day of a month to this one.
@@ -31,31 +30,25 @@ fn two(rt: &impl Abort, alloc: Global) -> Book {
     book
 }
 
+// A permit's number, a day, and how it stands then, or none where there is no such permit.
+const STANDINGS: [(u32, &str, Option<Status>); 7] = [
+    (0, "2026-03-02", None),
+    (1, "2026-03-01", Some(Status::InForce)),
+    (1, "2026-03-10", Some(Status::InForce)),
+    (1, "2026-03-11", Some(Status::Expired)),
+    (2, "2026-03-11", Some(Status::InForce)),
+    (2, "2027-01-01", Some(Status::Expired)),
+    (3, "2026-03-02", None),
+];
+
 #[test]
-fn expires_after_its_last_day(rt: HostRuntime) -> Result<(), Fail> {
+fn expires_after_its_last_day(rt: HostRuntime) {
     let book = two(&rt, rt.alloc());
-    let cases = [
-        (0, "2026-03-02", None),
-        (1, "2026-03-01", Some(Status::InForce)),
-        (1, "2026-03-10", Some(Status::InForce)),
-        (1, "2026-03-11", Some(Status::Expired)),
-        (2, "2026-03-11", Some(Status::InForce)),
-        (2, "2027-01-01", Some(Status::Expired)),
-        (3, "2026-03-02", None),
-    ];
-    'cases: for (number, text, status) in cases {
-        assert_eq!(rt;
-            book.status(number, day(&rt, text)),
-            status,
-            "permit {number}"
-        );
-        assert_eq!(rt;
-            book.get(number).is_some(),
-            status.is_some(),
-            "permit {number}"
-        );
+    for (row, &(number, text, status)) in STANDINGS.iter().enumerate() {
+        same(&rt, row, &book.status(number, day(&rt, text)), &status);
+        same(&rt, row, &book.get(number).is_some(), &status.is_some());
     }
-    Ok(())
+    drop(book);
 }
 
 // Whether there is a permit of this number, and it is live.
@@ -85,16 +78,26 @@ fn surrender(rt: &impl Abort, book: &mut Book, number: u32) {
     book.surrender(number);
 }
 
+// Permit 1 is recalled and permit 2 surrendered, also after their days.
+fn keeps_marks(rt: &impl Abort, book: &Book) {
+    let late = day(rt, "2027-01-01");
+    let recalled = Status::Recalled { version: 5 };
+    same(rt, 1, &book.status(1, late), &Some(recalled));
+    same(rt, 2, &book.status(2, late), &Some(Status::Surrendered));
+    assert!(rt; book.len() == 2 && !book.is_empty());
+    same(
+        rt,
+        0,
+        &book.permits()[0].mark,
+        &Mark::Recalled { version: 5 },
+    );
+}
+
 #[test]
-fn keeps_a_mark_after_the_last_day(rt: HostRuntime) -> Result<(), Fail> {
+fn keeps_a_mark_after_the_last_day(rt: HostRuntime) {
     let mut book = two(&rt, rt.alloc());
     recall_by_5(&rt, &mut book, 1);
     surrender(&rt, &mut book, 2);
-    let late = day(&rt, "2027-01-01");
-    assert_eq!(rt; book.status(1, late), Some(Status::Recalled { version: 5 }));
-    assert_eq!(rt; book.status(2, late), Some(Status::Surrendered));
-    assert_eq!(rt; book.permits()[0].mark, Mark::Recalled { version: 5 });
-    assert_eq!(rt; book.len(), 2);
-    assert!(rt; !book.is_empty());
-    Ok(())
+    keeps_marks(&rt, &book);
+    drop(book);
 }

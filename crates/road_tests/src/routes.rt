@@ -22,10 +22,19 @@ fn listed(rt: &impl Abort, alloc: Global, count: usize) -> Routes {
 fn takes_eight_routes_and_no_ninth(rt: HostRuntime) {
     let mut routes = listed(&rt, rt.alloc(), 8);
     let ninth = along(&rt, rt.alloc(), 3);
-    assert!(rt; routes.push(&ninth) == Err(RoutesRefusal::Full));
-    assert!(rt; routes.len() == 8);
-    assert!(rt; routes.all() == [7, 5, 5, 5, 5, 5, 5, 5].as_slice());
+    let answer = routes.push(&ninth);
+    drop(ninth);
+    let is_kept = routes.len() == 8 && routes.all() == [7, 5, 5, 5, 5, 5, 5, 5].as_slice();
     drop(routes);
+    assert!(rt; answer == Err(RoutesRefusal::Full) && is_kept);
+}
+
+// Whether there are two routes, along segment 7 and along segment 5.
+fn are_two(routes: &SharedRoutes) -> bool {
+    if routes.len() != 2 {
+        return false;
+    }
+    routes.route(0) == [7].as_slice() && routes.route(1) == [5].as_slice()
 }
 
 #[test]
@@ -34,7 +43,7 @@ fn shares_routes_with_a_further_owner(rt: HostRuntime) {
     let owner = SharedRoutes::of(rt.alloc(), routes).expect(&rt, "memory");
     let other = owner.clone().expect(&rt, "memory");
     drop(owner);
-    assert!(rt; other.len() == 2);
-    assert!(rt; other.route(0) == [7].as_slice() && other.route(1) == [5].as_slice());
+    let are_two = are_two(&other);
     drop(other);
+    assert!(rt; are_two);
 }

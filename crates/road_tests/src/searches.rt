@@ -31,13 +31,18 @@ fn add_segment(rt: &impl Abort, network: &mut Network, segment: &str) {
     assert!(rt; added.is_ok());
 }
 
-// A network of so many nodes and these segments.
-fn network(rt: &impl Abort, alloc: Global, nodes: u32, segments: &str) -> Network {
-    let mut network = Network::new(alloc);
+// Adds so many nodes.
+fn add_nodes(rt: &impl Abort, network: &mut Network, nodes: u32) {
     for i in 0..nodes {
         let added = network.add_node(numbered(rt, i));
         assert!(rt; added.is_ok());
     }
+}
+
+// A network of so many nodes and these segments.
+fn network(rt: &impl Abort, alloc: Global, nodes: u32, segments: &str) -> Network {
+    let mut network = Network::new(alloc);
+    add_nodes(rt, &mut network, nodes);
     for segment in segments.split_whitespace() {
         add_segment(rt, &mut network, segment);
     }
@@ -144,20 +149,20 @@ fn ends_of(line: &str) -> (u32, u32) {
 // Searches from one node to another, as a line says.
 fn find(rt: &impl Abort, alloc: Global, network: &Network, passable: &[bool], line: &str) {
     let (from, to) = ends_of(line);
-    assert!(rt; passable.len() == network.segments() as usize);
-    assert!(rt; from < network.nodes() && to < network.nodes());
+    let are_there = from < network.nodes() && to < network.nodes();
+    assert!(rt; passable.len() == network.segments() as usize && are_there);
     let found = search(alloc, network, passable, from, to).expect(rt, "memory");
-    holds(rt, is_told(parts_of(&found), line), line);
-    let told = has_potentials(network, passable, (from, to), &found, line);
-    holds(rt, told, line);
+    let is_so = is_told(parts_of(&found), line)
+        & has_potentials(network, passable, (from, to), &found, line);
     drop(found);
+    holds(rt, is_so, line);
 }
 
 // The same by potentials that are known.
 fn find_by(rt: &impl Abort, alloc: Global, network: &Network, passable: &[bool], line: &str) {
     let (from, to) = ends_of(line);
-    assert!(rt; passable.len() == network.segments() as usize);
-    assert!(rt; from < network.nodes() && to < network.nodes());
+    let are_there = from < network.nodes() && to < network.nodes();
+    assert!(rt; passable.len() == network.segments() as usize && are_there);
     let roads = Passable {
         network,
         flags: passable,
@@ -166,8 +171,9 @@ fn find_by(rt: &impl Abort, alloc: Global, network: &Network, passable: &[bool],
     let known = potentials(alloc, &trip.roads, to).expect(rt, "memory");
     let found = shortest_walk_by(alloc, &trip, &known).expect(rt, "memory");
     drop(known);
-    holds(rt, is_told(parts_of_shortest(&found), line), line);
+    let is_so = is_told(parts_of_shortest(&found), line);
     drop(found);
+    holds(rt, is_so, line);
 }
 
 // The same for one start alone, by heights.
@@ -182,16 +188,17 @@ fn find_near(
     requires { AreHeights network.now.segments heights.now }
 {
     let (from, to) = ends_of(line);
-    assert!(rt; passable.len() == network.segments() as usize);
-    assert!(rt; from < network.nodes() && to < network.nodes());
+    let are_there = from < network.nodes() && to < network.nodes();
+    assert!(rt; passable.len() == network.segments() as usize && are_there);
     let roads = Passable {
         network,
         flags: passable,
     };
     let trip = TripEnds { roads, from, to };
     let found = shortest_walk(alloc, &trip, heights).expect(rt, "memory");
-    holds(rt, is_told(parts_of_shortest(&found), line), line);
+    let is_so = is_told(parts_of_shortest(&found), line);
     drop(found);
+    holds(rt, is_so, line);
 }
 
 // Searches as a line says, in each way, and makes a column of heights more.
@@ -343,7 +350,7 @@ fn tells(
 {
     let (from, to) = ends_of(line);
     assert!(rt; from < network.nodes() && to < network.nodes());
-    let told = region.tell(alloc, from, to).expect(rt, "memory");
+    let told = region.tell(from, to).expect(rt, "memory");
     let is_so = match &told {
         Some(found) => is_told(parts_of_shortest(found), line),
         None => part(line, '/', 2).is_empty(),
@@ -418,8 +425,7 @@ fn is_walk(parts: Parts, walk: Option<&str>) -> bool {
 // Searches over the grid with two segments closed.
 fn close_both(rt: &impl Abort, alloc: Global, network: &Network, closed: &str) {
     let passable = flags(rt, alloc, network, closed);
-    assert!(rt; passable.len() == network.segments() as usize);
-    assert!(rt; network.nodes() == 9);
+    assert!(rt; passable.len() == network.segments() as usize && network.nodes() == 9);
     let found = search(alloc, network, &passable, 0, 8).expect(rt, "memory");
     drop(passable);
     holds(rt, is_walk(parts_of(&found), first_without(closed)), closed);

@@ -12,7 +12,7 @@ use crate::region::{Reached, Region};
 use crate::shortest::Shortest;
 use crate::walks::{Walks, Way};
 use names::NoMemory;
-use road_graph::Numbers;
+use road_graph::{Numbers, SharedNumbers};
 use std::alloc::{AllocError, Global};
 
 impl Region {
@@ -42,8 +42,8 @@ impl Region {
     }
 
     /// What `shortest_walk` answers, where the start is joined to the root and no passable walk leads to the goal; else
-    /// `None`. `NoMemory` where no memory was left.
-    pub fn tell(&self, alloc: Global, from: u32, to: u32) -> Result<Option<Shortest>, NoMemory>
+    /// `None`. The answer is one more owner of the list of nodes. `NoMemory` where it cannot be had.
+    pub fn tell(&self, from: u32, to: u32) -> Result<Option<Shortest>, NoMemory>
         requires from { from < length self.now.leading_in.items }
         requires to { to < length self.now.leading_in.items }
         ensures told { (roads : Roads) (passable : List Bool) (root : ℕ) → IsRegion roads passable root self.now
@@ -52,7 +52,7 @@ impl Region {
             → IfOk result (IsToldAll roads passable root from to) }
     {
         if self.is_cut_off(from, to) {
-            let found = self.why(alloc, to)?;
+            let found = self.why(to)?;
             Ok(Some(found))
         } else {
             Ok(None)
@@ -60,17 +60,17 @@ impl Region {
     }
 
     /// What `shortest_walk` answers where no passable walk leads to the goal from a node that is joined to the root.
-    /// `NoMemory` where no memory was left.
-    pub fn why(&self, alloc: Global, to: u32) -> Result<Shortest, NoMemory>
+    /// The answer is one more owner of the list of nodes. `NoMemory` where it cannot be had.
+    pub fn why(&self, to: u32) -> Result<Shortest, NoMemory>
         requires to { to < length self.now.leading_in.items }
         ensures { (roads : Roads) (passable : List Bool) (root from : ℕ) → IsRegion roads passable root self.now
             → IsCutOff roads passable root from to → IfOk result (IsShortest roads passable from to) }
     {
         if self.any.marks[to as usize] {
-            let reached = self.passable.numbers.try_clone(alloc)?;
+            let reached = self.passable.numbers.clone()?;
             Ok(Shortest::Cut { reached })
         } else {
-            let reached = self.any.numbers.try_clone(alloc)?;
+            let reached = self.any.numbers.clone()?;
             Ok(Shortest::NoRoad { reached })
         }
     }
@@ -100,6 +100,6 @@ fn reach_from(alloc: Global, roads: &Passable, root: u32) -> Result<Reached, All
     let numbers = listed(alloc, &walks, &marks)?;
     Ok(Reached {
         marks,
-        numbers: Numbers::of(numbers),
+        numbers: SharedNumbers::of(alloc, Numbers::of(numbers))?,
     })
 }

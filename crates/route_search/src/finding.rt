@@ -17,7 +17,7 @@ use crate::table::Table;
 use crate::trip_ends::TripEnds;
 use crate::walks::{Walks, Way};
 use names::NoMemory;
-use road_graph::{Network, Numbers};
+use road_graph::{Network, Numbers, SharedNumbers};
 use std::alloc::{AllocError, Global};
 
 /// The shortest passable walk from one node to another, ties going to the list of segment numbers that comes first in
@@ -187,12 +187,12 @@ fn no_route(alloc: Global, trip: &TripEnds) -> Result<Shortest, AllocError>
         let marked = reach(alloc, &passable)?;
         let reached = listed(alloc, &passable, marked.as_slice())?;
         Ok(Shortest::Cut {
-            reached: Numbers::of(reached),
+            reached: SharedNumbers::of(alloc, Numbers::of(reached))?,
         })
     } else {
         let reached = listed(alloc, &any, all.as_slice())?;
         Ok(Shortest::NoRoad {
-            reached: Numbers::of(reached),
+            reached: SharedNumbers::of(alloc, Numbers::of(reached))?,
         })
     }
 }

@@ -3,7 +3,7 @@
 ghost use Rattle.std.specs.Prelude.{◌≡◌};
 ghost use Rattle.route_search.specs.Staying.{is_slack_by};
 
-use road_graph::{Network, Numbers};
+use road_graph::{Network, Numbers, SharedNumbers};
 use std::alloc::Global;
 use std::marker::Model;
 
@@ -84,12 +84,12 @@ pub enum Found {
     /// There are walks, and none is passable.
     Cut {
         /// The nodes that passable walks reach, rising.
-        reached: Numbers,
+        reached: SharedNumbers,
     },
     /// There is no walk.
     NoRoad {
         /// The nodes that walks reach, rising.
-        reached: Numbers,
+        reached: SharedNumbers,
     },
 }
 

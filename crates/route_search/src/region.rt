@@ -2,13 +2,13 @@
 
 ghost use Rattle.std.specs.Prelude.{◌≡◌, length};
 
-use road_graph::Numbers;
+use road_graph::SharedNumbers;
 
 // The nodes that walks from the root reach: a mark for each node, and the numbers of those that are marked.
 #[derive(Drop)]
 pub(crate) struct Reached {
     pub marks: Vec<bool>,
-    pub numbers: Numbers,
+    pub numbers: SharedNumbers,
 }
 
 /// What is reached from one node, the root, and the nodes that are joined to it: passable walks lead to them and back. From

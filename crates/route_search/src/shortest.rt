@@ -1,6 +1,6 @@
 // What is answered for one start alone.
 
-use road_graph::Numbers;
+use road_graph::{Numbers, SharedNumbers};
 
 /// The shortest passable walk, or why there is none.
 #[derive(Debug, Drop)]
@@ -15,11 +15,11 @@ pub enum Shortest {
     /// There are walks, and none is passable.
     Cut {
         /// The nodes that passable walks reach, rising.
-        reached: Numbers,
+        reached: SharedNumbers,
     },
     /// There is no walk.
     NoRoad {
         /// The nodes that walks reach, rising.
-        reached: Numbers,
+        reached: SharedNumbers,
     },
 }

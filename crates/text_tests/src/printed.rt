@@ -9,7 +9,7 @@ use office_words::{Call, Cause, Entry, Reply};
 use permit_book::Status;
 use permit_days::Day;
 use restriction_log::Change;
-use road_graph::Numbers;
+use road_graph::{Numbers, SharedNumbers};
 use std::alloc::Global;
 use std::process::Abort;
 use trip_analysis::{Proposal, What};
@@ -79,7 +79,9 @@ enum Found {
 fn what(rt: &impl Abort, alloc: Global, found: Found) -> What {
     match found {
         Found::Routes(count) => What::Route(routes(rt, alloc, count)),
-        Found::Cut => What::Cut(one(rt, alloc, 0)),
+        Found::Cut => {
+            What::Cut(SharedNumbers::of(alloc, one(rt, alloc, 0)).expect(rt, "memory"))
+        }
         Found::Fails => What::Fails { segment: 0 },
         Found::NotNeeded => What::NotNeeded,
     }

@@ -9,10 +9,10 @@ use Rattle.trip_analysis.specs.declared.analyst.Analyst.{Analyst}
 use Rattle.trip_analysis.specs.declared.kept.Kept.{Kept}
 use Rattle.trip_analysis.specs.declared.known.Known.{Known}
 use Rattle.fleet.specs.Bases.{BaseLists}
-use Rattle.trip_analysis.specs.Known.{AreKnown, IsKept, IsKnown}
+use Rattle.trip_analysis.specs.Known.{AreKnown, IsKeptOver, IsKnown}
 
 -- what is known of a truck stays known while it may pass the same segments, and what is kept beside them is over these
-pub known_after : (base : BaseLists) (state : InForce) (truck : ℕ) (known : Known) (kept : Kept) → IsKnown base state truck known → IsKept base.roads known.passable.items kept
+pub known_after : (base : BaseLists) (state : InForce) (truck : ℕ) (known : Known) (kept : Kept) → IsKnown base state truck known → IsKeptOver base.roads known.passable.items kept
     → IsKnown base state truck (record { passable = known.passable; kept = kept })
 known_after base state truck known kept is are = record { passable = is.passable; of_roads = record { many = is.of_roads.many; kept = are } }
 

@@ -1,4 +1,5 @@
 pub mod Crossing
+pub mod Leaving
 pub mod Marked
 pub mod Found
 pub mod OneFinding

@@ -23,7 +23,7 @@ abbrev pub IsRegionOver : Roads → List Bool → Region → Type 0
 IsRegionOver roads passable region = (root : ℕ) × IsRegion roads passable root region
 
 -- what is kept of searches, if anything is, is over the segments that may be passed
-pub record IsKept (roads : Roads) (passable : List Bool) (kept : Kept) : Type 0 where
+pub record IsKeptOver (roads : Roads) (passable : List Bool) (kept : Kept) : Type 0 where
   pub settled : IfSome kept.settled (IsSettled roads passable)
   pub region : IfSome kept.region (IsRegionOver roads passable)
 
@@ -31,7 +31,7 @@ pub record IsKept (roads : Roads) (passable : List Bool) (kept : Kept) : Type 0 
 -- what is kept beside this is over the segments that it may pass
 pub record IsOfRoads (roads : Roads) (known : Known) : Type 0 where
   pub many : length known.passable.items ≡ length roads.segments
-  pub kept : IsKept roads known.passable.items known.kept
+  pub kept : IsKeptOver roads known.passable.items known.kept
 
 -- what is known of a truck in a state: which segments it may pass there, and what is kept beside this
 pub record IsKnown (base : BaseLists) (state : InForce) (truck : ℕ) (known : Known) : Type 0 where

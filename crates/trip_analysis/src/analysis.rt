@@ -6,15 +6,16 @@ ghost use Rattle.restriction_log.specs.States.{AreOf};
 ghost use Rattle.snapshot_store.specs.Stores.{store_version_of};
 ghost use Rattle.trip_applications.specs.Applications.{Sound};
 ghost use Rattle.fleet.specs.Passing.{TestsAtMost, first_on as first_in, needs_none};
-ghost use Rattle.trip_analysis.specs.Findings.{IsFinding, IsFoundAt, IsFoundBy, IsSearched, asked_finding, proposed_of};
+ghost use Rattle.trip_analysis.specs.Findings.{IsFinding, IsFoundAt, IsFoundBy, IsSearched, asked_finding};
 ghost use Rattle.trip_analysis.specs.Tests.{tests_for};
 
 use crate::finding::{Proposal, What};
+use crate::last_route::LastRoute;
 use clearance_rules::Steps;
 use fleet::{Base, TruckOn};
 use names::NoMemory;
 use restriction_log::State;
-use route_search::{Heights, Passable, Shortest, TripEnds, shortest_walk};
+use route_search::{Heights, Passable, TripEnds, shortest_walk};
 use snapshot_store::Snapshot;
 use std::alloc::Global;
 use std::sync::ledger::Ledger;
@@ -129,18 +130,5 @@ fn search_along(alloc: Global, trip: &TripEnds) -> Result<What, NoMemory>
 {
     let heights = Heights::none(alloc);
     let found = shortest_walk(alloc, trip, &heights)?;
-    proposed(alloc, found)
-}
-
-// What a search finds, as it is proposed.
-pub(crate) fn proposed(alloc: Global, found: Shortest) -> Result<What, NoMemory>
-    ensures { IfOk result (λ w. w ≡ proposed_of found) }
-{
-    match found {
-        Shortest::Route { segments, .. } => {
-            Ok(What::Route(SharedRoutes::along(alloc, segments)?))
-        }
-        Shortest::Cut { reached } => Ok(What::Cut(reached)),
-        Shortest::NoRoad { reached } => Ok(What::Cut(reached)),
-    }
+    LastRoute::none().proposed(alloc, found)
 }

@@ -10,10 +10,11 @@ ghost use Rattle.trip_analysis.specs.Findings.{IsFinding, IsFoundBy};
 ghost use Rattle.trip_analysis.specs.Tests.{tests_for, tests_to_go_on};
 ghost use Rattle.trip_analysis.specs.Known.{AreJudged, AreKnown, AreOfFleet};
 
-use crate::analysis::{find_asked, proposed};
+use crate::analysis::find_asked;
 use crate::finding::What;
 use crate::kept::Tables;
 use crate::known::Known;
+use crate::last_route::LastRoute;
 use clearance_rules::Steps;
 use fleet::{Base, TruckOn};
 use names::NoMemory;
@@ -26,11 +27,12 @@ use std::sync::ledger::Ledger;
 use trip_applications::Application;
 
 /// What is known of the trucks of a base, in order, in a state of its roads: something once a truck was needed. Beside it heights
-/// of its nodes, which stay whatever is posted, and the table that searches write.
+/// of its nodes, which stay whatever is posted, the table that searches write, and the route that was found last.
 #[derive(Drop)]
 pub struct Analyst {
     known: Vec<Option<Known>>,
     tables: Tables,
+    last: LastRoute,
 }
 
 impl Analyst {
@@ -47,7 +49,12 @@ impl Analyst {
             heights: base.own_heights(alloc)?,
             table: Table::new(alloc),
         };
-        Ok(Analyst { known, tables })
+        let last = LastRoute::none();
+        Ok(Analyst {
+            known,
+            tables,
+            last,
+        })
     }
 
     /// What is found for the application in the state of the snapshot, as `find` says it, by what is known. This is known in
@@ -108,7 +115,7 @@ impl Analyst {
         let trip = TripEnds { roads, from, to };
         let found = known.kept.search(alloc, &trip, &mut self.tables);
         *slot = Some(known);
-        proposed(alloc, found?)
+        self.last.proposed(alloc, found?)
     }
 
     /// Goes on from the state of a snapshot, in which the trucks are known, to that of a later one: of the segments that

@@ -1,6 +1,6 @@
 // What is found for an application.
 
-use road_graph::Numbers;
+use road_graph::SharedNumbers;
 use trip_routes::SharedRoutes;
 
 /// What is found for an application in a state of the roads.
@@ -14,7 +14,7 @@ pub enum What {
     Fails { segment: u32 },
     /// No passable walk leads there: the nodes that passable walks reach, or, where no walk leads there at all, those that
     /// any walk reaches, rising.
-    Cut(Numbers),
+    Cut(SharedNumbers),
 }
 
 /// What was found at a version.

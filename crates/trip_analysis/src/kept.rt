@@ -3,7 +3,7 @@
 ghost use Rattle.std.specs.Prelude.{◌≡◌, ◌<◌, None, length, IfOk};
 ghost use Rattle.route_search.specs.Founds.{IsRouteOrNone, IsShortest};
 ghost use Rattle.route_search.specs.Heights.{AreHeights};
-ghost use Rattle.trip_analysis.specs.Known.{IsKept, IsSettled};
+ghost use Rattle.trip_analysis.specs.Known.{IsKeptOver, IsSettled};
 
 use names::NoMemory;
 use road_graph::Network;
@@ -47,14 +47,14 @@ impl Kept {
         trip: &TripEnds,
         tables: &mut Tables,
     ) -> Result<Shortest, NoMemory>
-        requires kept { IsKept trip.now.roads.network.now trip.now.roads.flags.now self.old }
+        requires kept { IsKeptOver trip.now.roads.network.now trip.now.roads.flags.now self.old }
         requires heights { AreHeights trip.now.roads.network.now.segments tables.old.heights }
         ensures found { IfOk result (IsShortest trip.now.roads.network.now trip.now.roads.flags.now trip.now.from trip.now.to) }
-        ensures kept { IsKept trip.now.roads.network.now trip.now.roads.flags.now self.new }
+        ensures kept { IsKeptOver trip.now.roads.network.now trip.now.roads.flags.now self.new }
         ensures heights { AreHeights trip.now.roads.network.now.segments tables.new.heights }
     {
         if let Some(region) = &self.region {
-            if let Some(found) = region.tell(alloc, trip.from, trip.to)? {
+            if let Some(found) = region.tell(trip.from, trip.to)? {
                 return Ok(found);
             }
         }
@@ -72,11 +72,11 @@ impl Kept {
         trip: &TripEnds,
         tables: &mut Tables,
     ) -> Result<Option<Shortest>, NoMemory>
-        requires kept { IsKept trip.now.roads.network.now trip.now.roads.flags.now self.old }
+        requires kept { IsKeptOver trip.now.roads.network.now trip.now.roads.flags.now self.old }
         requires heights { AreHeights trip.now.roads.network.now.segments tables.old.heights }
         ensures found { IfOk result
             (IsRouteOrNone trip.now.roads.network.now trip.now.roads.flags.now trip.now.from trip.now.to) }
-        ensures kept { IsKept trip.now.roads.network.now trip.now.roads.flags.now self.new }
+        ensures kept { IsKeptOver trip.now.roads.network.now trip.now.roads.flags.now self.new }
         ensures heights { AreHeights trip.now.roads.network.now.segments tables.new.heights }
     {
         if self.comes_again(trip.to) {
@@ -109,11 +109,11 @@ impl Kept {
         roads: &Passable,
         goal: u32,
     ) -> Result<Settled, NoMemory>
-        requires kept { IsKept roads.now.network.now roads.now.flags.now self.old }
+        requires kept { IsKeptOver roads.now.network.now roads.now.flags.now self.old }
         requires goal { goal < length roads.now.network.now.nodes }
         ensures goal { IfOk result (λ settled. settled.goal ≡ goal) }
         ensures settled { IfOk result (IsSettled roads.now.network.now roads.now.flags.now) }
-        ensures kept { IsKept roads.now.network.now roads.now.flags.now self.new }
+        ensures kept { IsKeptOver roads.now.network.now roads.now.flags.now self.new }
     {
         if let Some(settled) = self.settled.take() {
             if settled.goal == goal {
@@ -126,13 +126,13 @@ impl Kept {
 
     // Keeps the region around the start of a trip that has no route, and answers why.
     fn learn_region(&mut self, alloc: Global, trip: &TripEnds) -> Result<Shortest, NoMemory>
-        requires kept { IsKept trip.now.roads.network.now trip.now.roads.flags.now self.old }
+        requires kept { IsKeptOver trip.now.roads.network.now trip.now.roads.flags.now self.old }
         requires none { IsRouteOrNone trip.now.roads.network.now trip.now.roads.flags.now trip.now.from trip.now.to None }
         ensures found { IfOk result (IsShortest trip.now.roads.network.now trip.now.roads.flags.now trip.now.from trip.now.to) }
-        ensures kept { IsKept trip.now.roads.network.now trip.now.roads.flags.now self.new }
+        ensures kept { IsKeptOver trip.now.roads.network.now trip.now.roads.flags.now self.new }
     {
         let region = Region::around(alloc, &trip.roads, trip.from)?;
-        let found = region.why(alloc, trip.to)?;
+        let found = region.why(trip.to)?;
         self.region = Some(region);
         Ok(found)
     }

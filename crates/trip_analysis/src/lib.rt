@@ -15,6 +15,7 @@ mod finding;
 mod follower;
 mod kept;
 mod known;
+mod last_route;
 mod laws;
 mod node_set;
 

@@ -1,14 +1,14 @@
 // A set of nodes, and the segments that leave it.
 
-ghost use Rattle.std.specs.Prelude.{◌≡◌, ◌+◌, ◌<◌, ◌≤◌, ◌∷◌, [], length, MatchOption};
+ghost use Rattle.std.specs.Prelude.{◌≡◌, ◌+◌, ◌<◌, ◌≤◌, ◌∷◌, [], length, true, MatchOption};
 ghost use Rattle.restriction_log.specs.States.{AreOf};
-ghost use Rattle.trip_analysis.specs.NodeSets.{AreMarks};
-ghost use Rattle.trip_analysis.specs.Findings.{IsNextLeaving, first_meeting, leaves, leaving, leaving_from};
+ghost use Rattle.trip_analysis.specs.NodeSets.{AreMarks, IsLeastInto};
+ghost use Rattle.trip_analysis.specs.Findings.{IsNextLeaving, first_meeting, is_number_among, leaves, leaving, leaving_from};
 
 use clearance_rules::Steps;
 use fleet::{Base, TruckOn};
 use restriction_log::State;
-use road_graph::{Network, Numbers};
+use road_graph::{Network, SharedNumbers};
 use std::marker::Model;
 use std::snapshot::Snapshot as Told;
 use std::sync::ledger::Ledger;
@@ -22,9 +22,11 @@ const MOST_NODES: usize = 4096;
 #[derive(Drop)]
 pub struct NodeSet {
     // has no bytes: it tells contracts of which list the set is
-    nodes: Told<Numbers>,
+    nodes: Told<SharedNumbers>,
     // for each number that a node can have, whether it is one of these
     marks: [bool; MOST_NODES],
+    // how many there are, by which a way to look is chosen
+    count: usize,
 }
 
 impl Model for NodeSet {
@@ -40,12 +42,13 @@ impl Model for NodeSet {
 
 impl NodeSet {
     /// The set of these nodes. Takes no memory.
-    pub fn of(nodes: &Numbers) -> NodeSet
+    pub fn of(nodes: &SharedNumbers) -> NodeSet
         ensures { result ≡ nodes.now }
     {
         NodeSet {
             nodes: Told::of(nodes),
             marks: marks_of(nodes.as_slice()),
+            count: nodes.as_slice().len(),
         }
     }
 
@@ -57,6 +60,52 @@ impl NodeSet {
         network.lists_are_in_order();
         let here = network.segment(segment);
         self.marks[here.from as usize] && !self.marks[here.to as usize]
+    }
+
+    /// The least segment that leaves the nodes, or none where none does. Takes no memory.
+    ///
+    /// Where most nodes of the network are in the set, few segments end outside of it, and only these are looked at.
+    pub fn first_leaving(&self, network: &Network) -> Option<u32>
+        ensures { MatchOption result
+            (leaving network.now self.now ≡ [])
+            (IsNextLeaving network.now self.now 0) }
+    {
+        if self.count < network.nodes() as usize / 2 {
+            return self.next_leaving(network, 0);
+        }
+        let count = network.segments();
+        let mut first = count;
+        for node in 0..network.nodes() {
+            if !self.has(network, node) {
+                first = self.least_into(network, node, first);
+            }
+        }
+        if first < count { Some(first) } else { None }
+    }
+
+    // Whether the node is one of these.
+    fn has(&self, network: &Network, node: u32) -> bool
+        requires { node < length network.now.nodes }
+        ensures { result ≡ is_number_among node self.now }
+    {
+        network.lists_are_in_order();
+        self.marks[node as usize]
+    }
+
+    // The least of a number and of those segments that leave the nodes and end at a node. The segments that end there rise.
+    fn least_into(&self, network: &Network, node: u32, most: u32) -> u32
+        requires node { node < length network.now.nodes }
+        requires most { most ≤ length network.now.segments }
+        ensures below { result ≤ most }
+        ensures leaves { result < most → leaves network.now self.now result ≡ true }
+        ensures least { IsLeastInto network.now self.now node result }
+    {
+        for arrival in network.incoming(node) {
+            if arrival.segment < most && self.is_left_by(network, arrival.segment) {
+                return arrival.segment;
+            }
+        }
+        most
     }
 
     /// The least segment from a number on that leaves the nodes, or none where none does. Takes no memory.

@@ -1,8 +1,7 @@
 // What a carrier asks for.
 
 ghost use Rattle.std.specs.Prelude.{◌≡◌, ◌<◌, ◌↔◌, length, true, None, Some, All, IfOk, IfErr, OnOk, OnErr, option_map};
-ghost use Rattle.std.specs.List.{concat};
-ghost use Rattle.trip_applications.specs.Applications.{AreThere, AreAskedThere, IsApplicationCause, IsSoundOn, Sound, application_of, application_refusal, asked_refusal, break_from, days_refusal, first_break, is_annual};
+ghost use Rattle.trip_applications.specs.Applications.{AreThere, AreAskedThere, IsApplicationCause, IsSoundOn, Sound, application_of, application_refusal, asked_refusal, break_from, days_refusal};
 
 use crate::refusal::ApplicationRefusal;
 use fleet::Base;
@@ -140,7 +139,10 @@ impl Application {
     pub fn try_clone(&self) -> Result<Application, NoMemory>
         ensures { IfOk result (λ a. a ≡ self.now) }
     {
-        let asked = own_asked(&self.asked)?;
+        let asked = match &self.asked {
+            Some(routes) => Some(routes.clone()?),
+            None => None,
+        };
         Ok(Application {
             truck: self.truck,
             from: self.from,
@@ -176,17 +178,11 @@ impl Application {
             return Err(ApplicationRefusal::SamePlace);
         }
         try_asked(network, self.from, self.to, &self.asked)?;
-        try_days(asks_for_more(&self.asked), self.first, self.last)
-    }
-}
-
-// The same routes, if there are any, with one more owner.
-fn own_asked(asked: &Option<SharedRoutes>) -> Result<Option<SharedRoutes>, NoMemory>
-    ensures { IfOk result (λ a. a ≡ asked.now) }
-{
-    match asked {
-        Some(routes) => Ok(Some(routes.clone()?)),
-        None => Ok(None),
+        let annual = match &self.asked {
+            Some(routes) => routes.len() >= 2,
+            None => false,
+        };
+        try_days(annual, self.first, self.last)
     }
 }
 
@@ -195,26 +191,11 @@ fn are_asked_there(network: &Network, asked: &Option<SharedRoutes>) -> bool
     ensures { (result ≡ true) ↔ AreAskedThere network.now asked.now }
 {
     match asked {
-        Some(routes) => are_there(network, routes.all()),
+        Some(routes) => {
+            let count = network.segments();
+            routes.all().iter().all(|s| *s < count)
+        }
         None => true,
-    }
-}
-
-// Whether these segments are there.
-fn are_there(network: &Network, list: &[u32]) -> bool
-    ensures { (result ≡ true) ↔ All (λ s. s < length network.now.segments) list.now }
-{
-    let count = network.segments();
-    list.iter().all(|s| *s < count)
-}
-
-// Whether more than one route is asked for.
-fn asks_for_more(asked: &Option<SharedRoutes>) -> bool
-    ensures { result ≡ is_annual asked.now }
-{
-    match asked {
-        Some(routes) => routes.len() >= 2,
-        None => false,
     }
 }
 
@@ -233,7 +214,7 @@ fn try_days(annual: bool, first: Day, last: Day) -> Result<(), ApplicationRefusa
     Ok(())
 }
 
-// Refuses asked routes of which one breaks off.
+// Refuses the first of the asked routes that breaks off.
 fn try_asked(
     network: &Network,
     from: u32,
@@ -244,23 +225,9 @@ fn try_asked(
     ensures taken { OnOk result (asked_refusal network.now.segments from to asked.now ≡ None) }
     ensures refused { IfErr result (IsApplicationCause (asked_refusal network.now.segments from to asked.now)) }
 {
-    match asked {
-        Some(routes) => try_routes(network, from, to, routes),
-        None => Ok(()),
-    }
-}
-
-// Refuses the first of the routes that breaks off.
-fn try_routes(
-    network: &Network,
-    from: u32,
-    to: u32,
-    routes: &SharedRoutes,
-) -> Result<(), ApplicationRefusal>
-    requires { All (λ s. s < length network.now.segments) (concat routes.now) }
-    ensures taken { OnOk result (first_break network.now.segments 0 from to routes.now ≡ None) }
-    ensures refused { IfErr result (IsApplicationCause (first_break network.now.segments 0 from to routes.now)) }
-{
+    let Some(routes) = asked else {
+        return Ok(());
+    };
     for route in 0..routes.len() {
         if let Some(at) = find_break(network, from, to, routes.route(route)) {
             return Err(ApplicationRefusal::BrokenRoute { route, at });

@@ -1,6 +1,6 @@
 // Routes and their owners.
 
-ghost use Rattle.std.specs.Prelude.{◌≡◌, ◌<◌, ◌∷◌, [], length, get_or, IfOk};
+ghost use Rattle.std.specs.Prelude.{◌≡◌, ◌<◌, ◌∷◌, ◌↔◌, [], length, get_or, true, IfOk};
 ghost use Rattle.std.specs.List.{concat};
 ghost use Rattle.trip_routes.specs.Routes.{AreRoutes};
 
@@ -54,6 +54,13 @@ impl SharedRoutes {
         ensures { IfOk result (λ shared. shared ≡ route ∷ []) }
     {
         SharedRoutes::of(alloc, Routes::one(route))
+    }
+
+    /// Whether there is one route alone, and it leads along these segments. Takes no memory.
+    pub fn is_along(&self, route: &[u32]) -> bool
+        ensures { (result ≡ true) ↔ (self.now ≡ route.now ∷ []) }
+    {
+        self.len() == 1 && self.route(0) == route
     }
 
     /// How many routes there are. Takes no memory.

@@ -2,7 +2,7 @@ use Rattle.std.proofs.Common.{arith, ap, sym, ◌≡◌, ℕ, ◌<◌, length, g
 use Rattle.std.proofs.Math.Seq.{take-append_seam}
 use Rattle.office_desk.specs.declared.seat.Seat.{Seat}
 use Rattle.office_desk.specs.Desks.{calls_with_pass}
-use Rattle.analyst_pool.specs.Ran.{IsReady}
+use Rattle.analyst_pool.specs.Ran.{HasNotBegun}
 use Rattle.analyst_pool.specs.declared.worker.Worker.{Worker}
 use Rattle.day_run.proofs.Fresh.{all_run, are_ready, stays_at}
 use Rattle.office_desk.proofs.Sending.{seat_send}
@@ -14,7 +14,7 @@ use Rattle.day_run.proofs.workers.work_all.Goals as goal
 pub run_actors-requires-clause-ready : goal.run_actors-requires-clause-ready
 run_actors-requires-clause-ready g c κs within i d inside = let a = c.deref_mut.ensures in let b = c.admit_all.ensures in
     let near : i < length c.args.scripts.items = omega (arith, inside, a.len, b.count, c.args.scripts.ok.0, ap {B = ℕ} length a.value) in
-    subst (λ (l : List (Worker (Seat g.row.R.Denot g.row.L.Denot))). IsReady c.args.base.now (λ s. calls_with_pass s.pass) (get_or l i d)) (sym a.value)
+    subst (λ (l : List (Worker (Seat g.row.R.Denot g.row.L.Denot))). HasNotBegun c.args.base.now (λ s. calls_with_pass s.pass) (get_or l i d)) (sym a.value)
     (are_ready (λ s. s.pass) c.args.desk.now c.args.base.now c.args.scripts.items c.admit_all.new.workers.items c.requires.base c.requires.sound c.requires.short b.fresh i d near)
 
 pub take_all-requires-clause-passes : goal.take_all-requires-clause-passes

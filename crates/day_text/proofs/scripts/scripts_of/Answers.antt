@@ -1,11 +1,8 @@
-use Rattle.std.proofs.Common.{◌≤◌, ◌+◌, ◌≡◌, List, ap, sym, subst, ◌∙◌, length, length-append, map-id, ◌∷◌, ◌++◌, [], ℕ, Vec, arith}
+use Rattle.std.proofs.Common.{◌≤◌, ◌+◌, ◌≡◌, List, ap, sym, subst, ◌∙◌, length, length-append, ◌∷◌, ◌++◌, [], ℕ, Vec, arith}
 use Rattle.std.specs.Global.{Global}
-use Rattle.std.proofs.lemmas.Iterator.Adapters.{YieldsList-from_vec}
-use Rattle.std.proofs.lemmas.Iterator.Consumers.{YieldsList-end}
 use Rattle.office_words.specs.declared.entry.Command.{Command}
 use Rattle.day_text.specs.Scripts.{AreScripts}
-use Rattle.day_text.specs.declared.orders.Order.{Order}
-use Rattle.day_text.proofs.Dealing.{dealt_at, dealt_more, one_script_more}
+use Rattle.day_text.proofs.Dealing.{one_script_more}
 use Rattle.day_text.proofs.scripts.scripts_of.Goals as goal
 
 one_longer : {A : Type 0} (n : ℕ) (xs : List A) (x : A) → length xs ≡ n → length (xs ++ x ∷ []) ≡ n + 1

@@ -2,6 +2,3 @@ use Rattle.road_tests.proofs.limits.limit_after.Given as goal
 
 abbrev pub ghosts-limit_on : goal.ghosts-limit_on
 ghosts-limit_on g a = record { name = a.blank.name; parts = a.blank.parts }
-
-abbrev pub ghosts-is_met_on : goal.ghosts-is_met_on
-ghosts-is_met_on g a = record { name = a.blank.name; parts = a.blank.parts }

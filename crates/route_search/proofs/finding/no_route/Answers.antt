@@ -16,7 +16,7 @@ returns-then-index c =
     let all = c.in_ok-all.all.items in
     let within : t.to < length all = omega (arith, marks.many, t.to_is_there) in
     let at = slice_get_read all (length all) t.to c.index.result.now refl within c.index.ensures in
-    rw c.of.ensures (cut_found roads t.roads.flags.now c.in_ok-open.open.items t.from t.to all c.in_ok-reached.reached.items flags c.requires marks (bit_at all t.to c.index.result.now true at c.if-index.true) c.in_ok-reached.ensures)
+    rw (c.in_ok-of.ensures ∙ c.of.ensures) (cut_found roads t.roads.flags.now c.in_ok-open.open.items t.from t.to all c.in_ok-reached.reached.items flags c.requires marks (bit_at all t.to c.index.result.now true at c.if-index.true) c.in_ok-reached.ensures)
 
 pub returns : goal.returns
 returns c =
@@ -27,4 +27,4 @@ returns c =
     let within : t.to < length all = omega (arith, marks.many, t.to_is_there) in
     let at = slice_get_read all (length all) t.to c.index.result.now refl within c.index.ensures in
     let listed = rw c.as_slice-flags.ensures.value at c.in_ok-reached-2.ensures in
-    rw c.of-else-index.ensures (no_road_found roads c.in_ok-open.open.items t.from t.to all c.in_ok-reached-2.reached.items flags marks (bit_at all t.to c.index.result.now false at c.if-index.false) listed)
+    rw (c.in_ok-of-2.ensures ∙ c.of-else-index.ensures) (no_road_found roads c.in_ok-open.open.items t.from t.to all c.in_ok-reached-2.reached.items flags marks (bit_at all t.to c.index.result.now false at c.if-index.false) listed)

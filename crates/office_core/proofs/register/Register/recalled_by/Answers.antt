@@ -1,4 +1,4 @@
-use Rattle.std.proofs.Common.{arith, ap, ◌∙◌, ◌++◌, filter, length}
+use Rattle.std.proofs.Common.{arith, rules, ap, ◌≡◌, ◌∙◌, ◌++◌, filter, length, replicate, None}
 use Rattle.fleet.specs.Bases.{BaseLists}
 use Rattle.office_core.specs.Registers.{is_recalled_in}
 use Rattle.office_core.proofs.Registers.{none_judged, recalled_whole}
@@ -12,8 +12,9 @@ returns-then-is_empty-clause-numbers g c =
 pub loop-i-init : goal.loop-i-init
 loop-i-init g c = record {
   numbers = ap (λ l. l ++ filter (is_recalled_in c.args.self.now c.args.state.now) c.users-users.result.now) c.new-numbers.ensures.items;
-  verdicts = rw c.in_ok-verdicts.ensures
-      (none_judged c.args.self.now.base c.args.state.now c.args.segment (length c.fleet.result.now) (ap (λ l. length l) c.fleet.ensures.value ∙ ap (λ (b : BaseLists). length b.fleet) c.base.ensures.value));
+  verdicts = let none : c.in_ok-verdicts.verdicts.items ≡ replicate (length c.fleet-trucks.result.now) None = search rules in
+      rw none (none_judged c.args.self.now.base c.args.state.now c.args.segment (length c.fleet-trucks.result.now)
+      (ap (λ l. length l) c.fleet-trucks.ensures.value ∙ ap (λ (b : BaseLists). length b.fleet) c.base.ensures.value));
   steps = omega arith;
 }
 

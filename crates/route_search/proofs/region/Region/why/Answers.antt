@@ -1,4 +1,4 @@
-use Rattle.std.proofs.Common.{◌≡◌, ◌∙◌, ◌<◌, Bool, List, Some, true, false, ap, arith, length, refl, ℕ}
+use Rattle.std.proofs.Common.{◌≡◌, ◌∙◌, ◌<◌, Bool, List, Some, true, false, ap, arith, length, refl, rules, ℕ}
 use Rattle.std.specs.Prelude.{slice_get}
 use Rattle.std.proofs.lemmas.Option.{slice_get_read}
 use Rattle.route_search.proofs.Regions.{cut_told, no_road_told}
@@ -14,7 +14,8 @@ returns-in_ok-reached c = λ roads passable root from is off.
     let marks = region.any.marks.items in
     let within : c.args.to < length marks = omega (arith, c.requires, region.marks_are_as_many, region.marks_back_are_as_many) in
     let at = slice_get_read marks (length marks) c.args.to c.index.result.now refl within c.index.ensures in
-    rw c.in_ok-reached.ensures (cut_told roads passable root region is from c.args.to off (mark_at marks c.args.to c.index.result.now true at c.if-index.true))
+    let same : c.in_ok-reached.reached ≡ region.passable.numbers = search rules in
+    rw same (cut_told roads passable root region is from c.args.to off (mark_at marks c.args.to c.index.result.now true at c.if-index.true))
 
 pub returns-in_ok-reached-2 : goal.returns-in_ok-reached-2
 returns-in_ok-reached-2 c = λ roads passable root from is off.
@@ -22,4 +23,5 @@ returns-in_ok-reached-2 c = λ roads passable root from is off.
     let marks = region.any.marks.items in
     let within : c.args.to < length marks = omega (arith, c.requires, region.marks_are_as_many, region.marks_back_are_as_many) in
     let at = slice_get_read marks (length marks) c.args.to c.index.result.now refl within c.index.ensures in
-    rw c.in_ok-reached-2.ensures (no_road_told roads passable root region is from c.args.to off (mark_at marks c.args.to c.index.result.now false at c.if-index.false))
+    let same : c.in_ok-reached-2.reached ≡ region.any.numbers = search rules in
+    rw same (no_road_told roads passable root region is from c.args.to off (mark_at marks c.args.to c.index.result.now false at c.if-index.false))
