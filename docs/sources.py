@@ -23,6 +23,8 @@ CONSTANT = re.compile(PUB + r"const (\w+):", re.M)
 DECLARED = re.compile(PUB + r"(?:struct|enum|const) (\w+)", re.M)
 MODEL = re.compile(r"^impl(?:<.*>)? Model for (\w+)[^\n]* \{(.*?)^\}", re.M | re.S)
 EXPORT = re.compile(r"^pub use (?:\w+::)*(\{.*?\}|\w+);", re.M | re.S)
+PASSED_TYPES = re.compile(r"^pub use ([a-z]\w*)::(\{.*?\}|\w+);", re.M | re.S)
+PASSED_MODULE = re.compile(r"^pub use Rattle\.([\w.]+)$", re.M)
 WORD = re.compile(r"[^\s(){}\[\];,λ×→]+")
 LAYER = re.compile(r"# (.*)")
 CRATE = re.compile(r"([a-z]\w*)[^:#]*:")
@@ -123,7 +125,7 @@ class Specs:
         found = USE.match(line)
         if not found:
             raise Missing(f"this is no `use` line: {line}")
-        module, names, alias = found.groups()
+        module, names, alias = home(found[1]), found[2], found[3]
         if alias:
             self.aliases[alias] = module
         for name in (names or "").split(","):
@@ -237,7 +239,7 @@ class Source:
 def values_of(body: str) -> Iterator[Named]:
     """The names in the value that contracts see in the place of a type."""
     uses = re.findall(r"use Rattle\.([\w.]+)\.\{(.*?)\}", body)
-    imports = {name.strip(): module for module, names in uses for name in names.split(",")}
+    imports = {name.strip(): home(module) for module, names in uses for name in names.split(",")}
     value = re.search(r"ghost Value = \{(.*?)\};", body)
     for word in WORD.findall(value[1] if value else ""):
         if word in imports:
@@ -250,7 +252,31 @@ def declared(crate: str, name: str) -> str | None:
         if re.search(rf"{PUB}(?:struct|enum) {name}\b", file.read_text(encoding="utf-8"), re.M):
             stem = "" if file.stem == "lib" else f"{file.stem}."
             return f"{crate}.specs.declared.{stem}{name}"
+    for lower, names in passed_on(crate):
+        if name in re.findall(r"\w+", names):
+            return declared(lower, name)
     return None
+
+
+def passed_on(crate: str) -> list[tuple[str, str]]:
+    """The crates below whose types a crate passes on, each with their names."""
+    file = CRATES / crate / "src" / "lib.rt"
+    return PASSED_TYPES.findall(file.read_text(encoding="utf-8")) if file.is_file() else []
+
+
+@cache
+def home(module: str) -> str:
+    """The module in which the definitions of this one stand: that of a crate below, where a crate passes them on."""
+    crate, _, path = module.partition(".specs.")
+    passed = CRATES / crate / "specs" / "Lib.antt"
+    if not path or path.startswith(("declared.", "contracts.")) or not passed.is_file():
+        return module
+    if (passed.parent / f"{path.replace('.', '/')}.antt").is_file():
+        return module
+    for lower in PASSED_MODULE.findall(passed.read_text(encoding="utf-8")):
+        if lower.endswith(f".specs.{path}"):
+            return home(lower)
+    return module
 
 
 def path_of(module: str) -> Path | None:

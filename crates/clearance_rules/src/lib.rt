@@ -19,6 +19,7 @@ mod met_limits;
 mod steps;
 
 pub use first_limit::first_failing;
+pub use hs20_truck::Kept;
 pub use laws::{
     limits_are_of_their_segment, named_limit_fails, named_limit_is_first,
     none_is_named_where_none_fails,

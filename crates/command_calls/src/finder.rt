@@ -6,13 +6,12 @@ ghost use Rattle.trip_applications.specs.Applications.{Sound};
 ghost use Rattle.trip_analysis.specs.Findings.{IsFoundAt};
 ghost use Rattle.command_calls.specs.Following.{FollowsAt};
 
-use clearance_rules::Steps;
 use fleet::Base;
 use names::NoMemory;
 use snapshot_store::Snapshot;
 use std::alloc::Global;
 use std::sync::ledger::{Blank, Ledger};
-use trip_analysis::{Follower, Proposal};
+use trip_analysis::{Follower, Proposal, Steps};
 use trip_applications::Application;
 
 /// Who finds what the applications of a caller need: what is known of the trucks, which is nothing before the first

@@ -16,7 +16,7 @@ use Rattle.office_core.specs.Machine.{IsLegal, opened}
 use Rattle.office_core.specs.Offices.{IsFull, Opened, entry, machine_in}
 use Rattle.office_core.specs.Promises.{KeepsPromises}
 use Rattle.office_core.proofs.Prefixes.{legal_front, legal_later}
-use Rattle.recall_list.specs.Issues.{recalled_in}
+use Rattle.reroute_desk.specs.Issues.{recalled_in}
 use Rattle.command_calls.specs.Laws.{FinishedAreOne, FoundMemory}
 use Rattle.command_calls.specs.Unfolds.{IsFinished}
 use Rattle.reroute_desk.specs.declared.handled.Handled.{Handled}

@@ -15,7 +15,7 @@ use Rattle.office_core.specs.Laws.{AnswersAreOne}
 use Rattle.office_core.specs.Machine.{IsAnswer, IsLegal, IsLegalFrom, Machine, after_all, after_entry, opened}
 use Rattle.office_core.specs.Offices.{Opened}
 use Rattle.office_core.proofs.Prefixes.{legal_front, legal_later}
-use Rattle.recall_list.specs.Issues.{recalled_in}
+use Rattle.reroute_desk.specs.Issues.{recalled_in}
 use Rattle.command_calls.specs.Laws.{FinishedAreOne, FoundMemory}
 use Rattle.command_calls.specs.Unfolds.{IsFinished}
 use Rattle.day_trial.specs.Serving.{grown_by}

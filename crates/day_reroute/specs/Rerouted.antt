@@ -10,7 +10,7 @@ use Rattle.office_words.specs.declared.entry.Reply.TheVariants as reply
 use Rattle.office_core.specs.Happened.{Day, History, Numbers}
 use Rattle.office_core.specs.Machine.{IsLegal}
 use Rattle.office_core.specs.Promises.{KeepsPromises}
-use Rattle.recall_list.specs.Issues.{recalled_in}
+use Rattle.reroute_desk.specs.Issues.{recalled_in}
 use Rattle.command_calls.specs.Unfolds.{IsFinished}
 use Rattle.reroute_desk.specs.Replacements.{again_behind}
 

@@ -10,7 +10,7 @@ use Rattle.office_words.specs.declared.entry.Reply.{Reply}
 use Rattle.office_core.specs.Happened.{Day}
 use Rattle.office_core.specs.Machine.{IsLegal, IsLegalFrom}
 use Rattle.office_core.specs.Offices.{Opened, entry, machine_in}
-use Rattle.recall_list.specs.Issues.{recalled_in}
+use Rattle.reroute_desk.specs.Issues.{recalled_in}
 use Rattle.command_calls.specs.Laws.{FoundMemory}
 use Rattle.command_calls.specs.Unfolds.{IsAttempt, IsFinished}
 use Rattle.reroute_desk.specs.declared.refusal.RerouteRefusal.{RerouteRefusal}

@@ -12,7 +12,7 @@ use crate::opening::{Opening, open};
 use crate::workers::work_all;
 use clearance_rules::Steps;
 use command_calls::Gate;
-use day_start::prepare;
+use day_start::prepare_on_threads;
 use day_text::DayFile;
 use names::NoMemory;
 use office_core::Office;
@@ -45,7 +45,7 @@ pub fn serve<R: Threads + Wait + AllocGlobal + Sync, G: Gate + Sync, L: Ledger +
     ensures counted { IfOk result (λ done. Counts file.base file.day done.0.history done.1) }
     ensures roads { OnOk result (IsRoads file.base.roads) }
 {
-    let file = prepare(rt.alloc(), file)?;
+    let file = prepare_on_threads(rt, file)?;
     serve_actors(rt, file, gate, blank)
 }
 

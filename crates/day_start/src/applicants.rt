@@ -1,13 +1,13 @@
 // The trucks that apply on a day.
 
-ghost use Rattle.std.specs.Prelude.{◌≡◌, IfOk};
+ghost use Rattle.std.specs.Prelude.{◌≡◌, length, IfOk};
 
-use day_text::{DayFile, Order};
+use day_text::{Command, DayFile, Order};
 use fleet::Base;
 use names::NoMemory;
-use office_words::Command;
 use restriction_log::State;
 use std::alloc::Global;
+use std::thread::Threads;
 
 /// The most columns of heights that an analyst makes.
 const COLUMNS: u32 = 16;
@@ -17,6 +17,10 @@ const MOST_TRUCKS: usize = 64;
 
 /// The most actors of a day.
 const MOST_ACTORS: usize = 16;
+
+/// From so many trucks on, and so many spans, it pays to start threads for what the trucks ask of the spans.
+const MANY_TRUCKS: usize = 8;
+const MANY_SPANS: u32 = 64;
 
 /// The day file, whose base keeps what is the same for all who serve the day: what each truck that applies asks of spans of each
 /// length on its roads, which segments each truck that seeks a way may pass before anything is posted, and heights of the nodes
@@ -32,21 +36,50 @@ pub fn prepare(alloc: Global, file: DayFile) -> Result<DayFile, NoMemory>
     Ok(DayFile::of_parts(base, day, actors, commands))
 }
 
+/// The same. Where many trucks apply, what they ask of spans is found on threads.
+pub fn prepare_on_threads<R: Threads + AllocGlobal + Sync>(
+    rt: &R,
+    file: DayFile,
+) -> Result<DayFile, NoMemory>
+    ensures { IfOk result (λ prepared. prepared ≡ file) }
+{
+    let alloc = rt.alloc();
+    let (mut base, day, actors, commands) = file.into_parts();
+    if base.fleet().len() >= MANY_TRUCKS && base.network().spans() >= MANY_SPANS {
+        let chosen = applicants(alloc, &base, commands.as_slice())?;
+        base.learn_at_once(rt, alloc, &chosen);
+    }
+    // what is kept already is not found again
+    prepare(alloc, DayFile::of_parts(base, day, actors, commands))
+}
+
 // Has the base keep what each truck that applies asks of spans.
 fn learn_applicants(alloc: Global, base: &mut Base, orders: &[Order]) -> Result<(), NoMemory>
     ensures { base.new ≡ base.old }
 {
-    let count = base.fleet().len() as u32;
-    'trucks: for truck in 0..count {
-        let applies = orders.iter().any(|order| match &order.command {
-            Command::Apply(application) => application.truck() == truck,
-            _ => false,
-        });
-        if applies {
-            base.learn(alloc, truck)?;
+    let chosen = applicants(alloc, base, orders)?;
+    'trucks: for truck in 0..base.fleet().len() {
+        if chosen[truck] {
+            base.learn(alloc, truck as u32)?;
         }
     }
     Ok(())
+}
+
+// For each truck whether it applies.
+fn applicants(alloc: Global, base: &Base, orders: &[Order]) -> Result<Vec<bool>, NoMemory>
+    ensures { IfOk result (λ chosen. length chosen.items ≡ length base.now.fleet) }
+{
+    let mut chosen = vec![in alloc; false; base.fleet().len()]?;
+    'orders: for order in orders {
+        if let Command::Apply(application) = &order.command {
+            let truck = application.truck() as usize;
+            if truck < chosen.len() {
+                chosen[truck] = true;
+            }
+        }
+    }
+    Ok(chosen)
 }
 
 // Has the base keep which segments each truck that seeks a way may pass before anything is posted.

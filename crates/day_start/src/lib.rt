@@ -6,4 +6,4 @@
 
 mod applicants;
 
-pub use applicants::prepare;
+pub use applicants::{prepare, prepare_on_threads};

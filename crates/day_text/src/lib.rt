@@ -31,5 +31,6 @@ pub use check_file::{CheckFile, Probe, Probes, read_check};
 pub use day_file::{DayFile, read_day};
 pub use laws::day_files_are_bounded;
 pub use name_set::Names;
+pub use office_words::Command;
 pub use orders::Order;
 pub use record_text::{Cause, FileRefusal, Kind, RecordCause};

@@ -2,7 +2,7 @@
 use Rattle.std.specs.Prelude.{ℕ, ◌+◌, ◌≤◌, Bool, List, [], ◌∷◌, map, length, Option, Some, None, is_none}
 use Rattle.std.specs.List.{range_with_len}
 use Rattle.restriction_log.specs.States.{InForce}
-use Rattle.clearance_rules.specs.declared.limit.Limit.{Limit}
+pub use Rattle.clearance_rules.specs.declared.limit.Limit.{Limit}
 use Rattle.clearance_rules.specs.Loads.{is_legal}
 use Rattle.clearance_rules.specs.Limits.{limit_of}
 use Rattle.fleet.specs.declared.failing.Failing.{Failing}

@@ -4,14 +4,18 @@ ghost use Rattle.std.specs.Prelude.{◌≡◌, All};
 ghost use Rattle.axle_train.specs.Bounds.{IsTrain};
 
 use crate::opening::{Opening, flags_in, keep, opening_flags};
-use clearance_rules::Load;
-use hs20_truck::Kept;
+use clearance_rules::{Kept, Load};
 use names::{Name, NoMemory};
 use restriction_log::State;
 use road_graph::Network;
 use route_search::Heights;
-use std::alloc::Global;
+use std::alloc::{AllocError, Global};
 use std::marker::Model;
+use std::thread;
+use std::thread::Threads;
+
+/// How many threads at once find what trucks ask of spans.
+const THREADS: usize = 4;
 
 /// A truck: its name, its carrier and its load.
 #[derive(Drop)]
@@ -105,14 +109,23 @@ impl Base {
         requires { truck < length self.old.fleet }
         ensures { self.new ≡ self.old }
     {
-        let load = &mut self.fleet[truck as usize].load;
-        if load.legal() {
-            return Ok(());
-        }
-        'spans: for span in 0..self.network.spans() {
-            load.keep(alloc, self.network.span(span).inches)?;
-        }
-        Ok(())
+        Ok(keep_lengths(alloc, &self.network, &mut self.fleet[truck as usize].load)?)
+    }
+
+    /// The same for each of these trucks, of which four threads have a part each. Where no memory was left for a truck it keeps
+    /// what it kept.
+    pub fn learn_at_once<R: Threads + Sync>(&mut self, rt: &R, alloc: Global, chosen: &[bool])
+        ensures { self.new ≡ self.old }
+    {
+        let network = &self.network;
+        let keep = |i: usize, truck: &mut Truck|
+            ensures { truck.exit.now ≡ truck.entry.now }
+        {
+            if i < chosen.len() && chosen[i] {
+                let _kept = keep_lengths(alloc, network, &mut truck.load);
+            }
+        };
+        thread::for_each_mut(rt, self.fleet.as_mut_slice(), THREADS, &keep);
     }
 
     /// Keeps which segments a truck may pass before anything is posted. Analysts then copy this, and test only what was posted
@@ -160,6 +173,19 @@ impl Base {
             None => Ok(Heights::none(alloc)),
         }
     }
+}
+
+// Has a load keep what it asks of spans of each length on these roads, where it is not legal.
+fn keep_lengths(alloc: Global, network: &Network, load: &mut Load) -> Result<(), AllocError>
+    ensures { load.new ≡ load.old }
+{
+    if load.legal() {
+        return Ok(());
+    }
+    'spans: for span in 0..network.spans() {
+        load.keep(alloc, network.span(span).inches)?;
+    }
+    Ok(())
 }
 
 // Tells of each truck that its axles are within the bounds of trains, as its load promises. Nothing is done.

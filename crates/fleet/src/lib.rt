@@ -16,6 +16,7 @@ mod truck_at;
 mod truck_on;
 
 pub use base::{Base, Truck};
+pub use clearance_rules::{Limit, Steps};
 pub use failing::Failing;
 pub use truck_at::TruckAt;
 pub use truck_on::TruckOn;

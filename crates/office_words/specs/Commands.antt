@@ -1,6 +1,6 @@
 -- Which commands may be given to an office.
-use Rattle.trip_applications.specs.Applications.{Sound}
-use Rattle.fleet.specs.Bases.{BaseLists}
+use Rattle.trip_analysis.specs.Applications.{Sound}
+use Rattle.trip_analysis.specs.Bases.{BaseLists}
 use Rattle.office_words.specs.declared.entry.Command.{Command}
 use Rattle.office_words.specs.declared.entry.Command.TheVariants.{Apply, Day, Post, Show, Surrender}
 

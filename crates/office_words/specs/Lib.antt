@@ -1,3 +1,3 @@
 pub mod Commands
-pub use Rattle.trip_applications.specs.Applications
-pub use Rattle.fleet.specs.Bases
+pub use Rattle.trip_analysis.specs.Applications
+pub use Rattle.trip_analysis.specs.Bases

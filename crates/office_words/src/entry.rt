@@ -1,12 +1,10 @@
 // What is asked of an office, what it answers, and the entries of its history.
 
-use clearance_rules::Limit;
 use permit_book::Status;
 use permit_days::Day;
 use restriction_log::Change;
 use road_graph::Numbers;
-use trip_analysis::Proposal;
-use trip_applications::Application;
+use trip_analysis::{Application, Limit, Proposal};
 use trip_routes::SharedRoutes;
 
 /// What is asked of the office.

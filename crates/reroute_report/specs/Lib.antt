@@ -1,5 +1,5 @@
 pub mod Lines
-pub use Rattle.office_core.specs.Machine
+pub use Rattle.recall_list.specs.Machine
 pub use Rattle.recall_list.specs.Issues
 pub use Rattle.journal_text.specs.Parts
 pub use Rattle.journal_text.specs.Words

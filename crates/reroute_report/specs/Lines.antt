@@ -4,8 +4,8 @@ use Rattle.std.specs.Fmt.{decimal}
 use Rattle.clearance_rules.specs.declared.limit.Limit.{Limit}
 use Rattle.office_words.specs.declared.entry.Reply.{Reply}
 use Rattle.office_words.specs.declared.entry.Reply.TheVariants as reply
-use Rattle.office_core.specs.Happened.{History, Numbers, Routes}
-use Rattle.office_core.specs.Machine.{entries_by}
+use Rattle.recall_list.specs.Happened.{History, Numbers, Routes}
+use Rattle.recall_list.specs.Machine.{entries_by}
 use Rattle.recall_list.specs.Issues.{recalled_in}
 use Rattle.journal_text.specs.Parts.{limit_text}
 use Rattle.journal_text.specs.Words.{routes_text}

@@ -27,5 +27,6 @@ pub use change::{Change, Replaced, takes, touched};
 pub use laws::states_are_of_their_network;
 pub use log::Log;
 pub use refusal::PostRefusal;
+pub use road_graph::{Network, NoMemory};
 pub use stamps::Stamps;
 pub use state::State;

@@ -5,8 +5,7 @@ ghost use Rattle.restriction_log.specs.Changes.{AreTaken, is_touched};
 
 use crate::change::{Change, takes, touched};
 use crate::refusal::PostRefusal;
-use names::NoMemory;
-use road_graph::Network;
+use road_graph::{Network, NoMemory};
 use std::alloc::Global;
 use std::marker::Model;
 

@@ -2,8 +2,7 @@
 
 use crate::page::PAGE;
 use crate::pages::Pages;
-use names::NoMemory;
-use road_graph::Network;
+use road_graph::{Network, NoMemory};
 use std::alloc::Global;
 use std::marker::Model;
 

@@ -3,8 +3,7 @@
 use crate::change::{Change, Replaced};
 use crate::lists::{base_ratings, base_values};
 use crate::pages::Pages;
-use names::NoMemory;
-use road_graph::{Network, Values};
+use road_graph::{Network, NoMemory, Values};
 use std::alloc::Global;
 use std::marker::Model;
 

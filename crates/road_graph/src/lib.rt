@@ -18,6 +18,7 @@ mod refusal;
 mod segment;
 mod values;
 
+pub use names::NoMemory;
 pub use network::Network;
 pub use numbers::{Numbers, SharedNumbers};
 pub use refusal::AddRefusal;

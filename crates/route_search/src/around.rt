@@ -11,8 +11,7 @@ use crate::reach::{listed, reach};
 use crate::region::{Reached, Region};
 use crate::shortest::Shortest;
 use crate::walks::{Walks, Way};
-use names::NoMemory;
-use road_graph::{Numbers, SharedNumbers};
+use road_graph::{NoMemory, Numbers, SharedNumbers};
 use std::alloc::{AllocError, Global};
 
 impl Region {

@@ -16,8 +16,7 @@ use crate::shortest::Shortest;
 use crate::table::Table;
 use crate::trip_ends::TripEnds;
 use crate::walks::{Walks, Way};
-use names::NoMemory;
-use road_graph::{Network, Numbers, SharedNumbers};
+use road_graph::{Network, NoMemory, Numbers, SharedNumbers};
 use std::alloc::{AllocError, Global};
 
 /// The shortest passable walk from one node to another, ties going to the list of segment numbers that comes first in

@@ -5,8 +5,7 @@ ghost use Rattle.route_search.specs.Heights.{AreLengths, AreLevel, AreZeros, IsC
 
 use crate::passable::Passable;
 use crate::settle::settle_all;
-use names::NoMemory;
-use road_graph::Network;
+use road_graph::{Network, NoMemory};
 use std::alloc::{AllocError, Global};
 use std::marker::Model;
 

@@ -1,7 +1,7 @@
 -- What the stamps of a store say, and what stays where nothing changed.
 use Rattle.std.proofs.Common.{◌≡◌, ◌∙◌, ap, refl, take, ◌∷◌, ◌++◌, [], ◌+◌, ◌<◌, ◌≤◌, ℕ, List, length, get_or, set, drop, true, false}
 use Rattle.std.proofs.lemmas.List.{take_at}
-use Rattle.road_graph.specs.Roads.{Roads}
+use Rattle.restriction_log.specs.Roads.{Roads}
 use Rattle.restriction_log.specs.declared.change.Change.{Change}
 use Rattle.restriction_log.specs.Changes.{is_touched, touched}
 use Rattle.restriction_log.specs.States.{AgreeOn, state_of}

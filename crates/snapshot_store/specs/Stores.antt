@@ -1,7 +1,7 @@
 -- What contracts see of a store, of a snapshot, and of a posting that is not in force yet.
 use Rattle.std.specs.Prelude.{◌≡◌, ◌<◌, ◌≤◌, ◌++◌, ◌∷◌, [], ℕ, true, false, List, length, drop}
 use Rattle.std.specs.Arc.{arc_value}
-use Rattle.road_graph.specs.Roads.{IsRoads, Roads}
+use Rattle.restriction_log.specs.Roads.{IsRoads, Roads}
 use Rattle.restriction_log.specs.declared.change.Change.{Change}
 use Rattle.restriction_log.specs.Changes.{AreTaken, is_touched, takes}
 use Rattle.restriction_log.specs.States.{InForce, state_of}

@@ -2,9 +2,9 @@
 
 use crate::next::Next;
 use crate::snapshot::Snapshot;
-use names::NoMemory;
-use restriction_log::{Change, Log, PostRefusal, Stamps, State, takes, touched};
-use road_graph::Network;
+use restriction_log::{
+    Change, Log, Network, NoMemory, PostRefusal, Stamps, State, takes, touched,
+};
 use std::alloc::Global;
 use std::marker::Model;
 use std::snapshot::Snapshot as Told;

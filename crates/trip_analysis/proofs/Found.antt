@@ -8,7 +8,6 @@ use Rattle.std.proofs.lemmas.Option.{slice_get-get_or}
 use Rattle.restriction_log.specs.States.{InForce}
 use Rattle.road_graph.specs.Roads.{IsRoads, no_segment, segment_at}
 use Rattle.road_graph.proofs.Places.{get_within}
-use Rattle.clearance_rules.specs.declared.limit.Limit.{Limit}
 use Rattle.route_search.specs.declared.shortest.Shortest.{Shortest}
 use Rattle.route_search.specs.declared.shortest.Shortest.TheVariants as shortest
 use Rattle.route_search.specs.Walks.{AreReached, IsAmong, IsWalk, every, flagged}
@@ -19,7 +18,7 @@ use Rattle.trip_analysis.specs.declared.finding.What.{What}
 use Rattle.fleet.specs.declared.failing.Failing.{Failing}
 use Rattle.fleet.specs.Bases.{BaseLists}
 use Rattle.trip_applications.specs.Applications.{IsAskedWalk, Sound}
-use Rattle.fleet.specs.Passing.{first_on, first_or, flags_of, is_passable, limit_for, needs_none}
+use Rattle.fleet.specs.Passing.{Limit, first_on, first_or, flags_of, is_passable, limit_for, needs_none}
 use Rattle.trip_analysis.specs.Findings.{HoldsIn, InRange, IsFinding, IsFoundBy, asked_finding, first_meeting, is_number_among, leaves, leaving, proposed_of}
 use Rattle.trip_applications.proofs.Joined.{one_joined, walks_there}
 use Rattle.fleet.proofs.Flagged.{flag_is}

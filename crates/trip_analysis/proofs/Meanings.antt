@@ -7,7 +7,6 @@ use Rattle.std.proofs.lemmas.List.Elements.{All-cons, All-from_recursion, All-ni
 use Rattle.restriction_log.specs.States.{InForce}
 use Rattle.road_graph.specs.declared.segment.Segment.{Segment}
 use Rattle.road_graph.proofs.Places.{get_within}
-use Rattle.clearance_rules.specs.declared.limit.Limit.{Limit}
 use Rattle.route_search.specs.declared.shortest.Shortest.{Shortest}
 use Rattle.route_search.specs.declared.shortest.Shortest.TheVariants as shortest
 use Rattle.route_search.specs.Walks.{AreReached, CanReach, IsRoute, IsWalk, every, flagged}
@@ -17,7 +16,7 @@ use Rattle.fleet.specs.declared.failing.Failing.{Failing}
 use Rattle.trip_analysis.specs.declared.finding.What.{What}
 use Rattle.trip_analysis.specs.declared.finding.What.TheVariants as what
 use Rattle.fleet.specs.Bases.{BaseLists}
-use Rattle.fleet.specs.Passing.{first_on, first_or, flags_of, is_passable, limit_for, needs_none}
+use Rattle.fleet.specs.Passing.{Limit, first_on, first_or, flags_of, is_passable, limit_for, needs_none}
 use Rattle.trip_analysis.specs.Findings.{IsFinding, IsFoundBy, asked_finding, proposed_of}
 use Rattle.trip_analysis.specs.Laws.{AskedRoutesFailFirst, AskedRoutesMeet, CutsLetNoneThrough, IsCut, IsFirstFailing, RoutesAreFirstOfShortest}
 use Rattle.fleet.proofs.Flagged.{flag_is}

@@ -11,8 +11,7 @@ ghost use Rattle.trip_analysis.specs.Tests.{tests_for};
 
 use crate::finding::{Proposal, What};
 use crate::last_route::LastRoute;
-use clearance_rules::Steps;
-use fleet::{Base, TruckOn};
+use fleet::{Base, Steps, TruckOn};
 use names::NoMemory;
 use restriction_log::State;
 use route_search::{Heights, Passable, TripEnds, shortest_walk};

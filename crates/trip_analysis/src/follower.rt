@@ -9,8 +9,7 @@ ghost use Rattle.trip_analysis.specs.Tests.{tests_to_go_on};
 
 use crate::analyst::Analyst;
 use crate::finding::Proposal;
-use clearance_rules::Steps;
-use fleet::Base;
+use fleet::{Base, Steps};
 use names::NoMemory;
 use snapshot_store::Snapshot;
 use std::alloc::Global;

@@ -7,8 +7,7 @@ ghost use Rattle.fleet.specs.Passing.{TestsAtMost};
 ghost use Rattle.trip_analysis.specs.Known.{IsKnown, IsOfRoads};
 
 use crate::kept::Kept;
-use clearance_rules::Steps;
-use fleet::{Base, TruckAt};
+use fleet::{Base, Steps, TruckAt};
 use names::NoMemory;
 use road_graph::Network;
 use snapshot_store::Snapshot;

@@ -5,9 +5,8 @@ ghost use Rattle.trip_applications.specs.Applications.{AreThere, AreAskedThere, 
 
 use crate::refusal::ApplicationRefusal;
 use fleet::Base;
-use names::NoMemory;
 use permit_days::Day;
-use road_graph::Network;
+use road_graph::{Network, NoMemory};
 use trip_routes::SharedRoutes;
 
 /// The most days that the last day of an annual permit lies after the first.
