@@ -20,6 +20,7 @@ const MOST_ACTORS: usize = 16;
 
 /// From so many trucks on, and so many spans, it pays to start threads for what the trucks ask of the spans.
 const MANY_TRUCKS: usize = 8;
+
 const MANY_SPANS: u32 = 64;
 
 /// The day file, whose base keeps what is the same for all who serve the day: what each truck that applies asks of spans of each
