@@ -31,10 +31,11 @@ pub fn prepare(alloc: Global, file: DayFile) -> Result<DayFile, NoMemory>
     ensures { IfOk result (λ prepared. prepared ≡ file) }
 {
     let (mut base, day, actors, commands) = file.into_parts();
-    learn_applicants(alloc, &mut base, commands.as_slice())?;
-    learn_seekers(alloc, &mut base, commands.as_slice())?;
-    learn_goals(alloc, &mut base, commands.as_slice())?;
-    Ok(DayFile::of_parts(base, day, actors, commands))
+    let learnt = learn(alloc, &mut base, commands.as_slice());
+    // a file has many parts, so it is let go in one place
+    let file = DayFile::of_parts(base, day, actors, commands);
+    learnt?;
+    Ok(file)
 }
 
 /// The same. Where many trucks apply, what they ask of spans is found on threads.
@@ -44,14 +45,32 @@ pub fn prepare_on_threads<R: Threads + AllocGlobal + Sync>(
 ) -> Result<DayFile, NoMemory>
     ensures { IfOk result (λ prepared. prepared ≡ file) }
 {
-    let alloc = rt.alloc();
     let (mut base, day, actors, commands) = file.into_parts();
-    if base.fleet().len() >= MANY_TRUCKS && base.network().spans() >= MANY_SPANS {
-        let chosen = applicants(alloc, &base, commands.as_slice())?;
+    learn_on_threads(rt, &mut base, commands.as_slice());
+    // what is kept already is not found again
+    prepare(rt.alloc(), DayFile::of_parts(base, day, actors, commands))
+}
+
+// Has the base keep what is the same for all who serve the day.
+fn learn(alloc: Global, base: &mut Base, orders: &[Order]) -> Result<(), NoMemory>
+    ensures { base.new ≡ base.old }
+{
+    learn_applicants(alloc, base, orders)?;
+    learn_seekers(alloc, base, orders)?;
+    learn_goals(alloc, base, orders)
+}
+
+// Has the base keep what trucks ask of spans, on threads where there are many. Where no memory was left it keeps less.
+fn learn_on_threads<R: Threads + AllocGlobal + Sync>(rt: &R, base: &mut Base, orders: &[Order])
+    ensures { base.new ≡ base.old }
+{
+    if base.fleet().len() < MANY_TRUCKS || base.network().spans() < MANY_SPANS {
+        return;
+    }
+    let alloc = rt.alloc();
+    if let Ok(chosen) = applicants(alloc, base, orders) {
         base.learn_at_once(rt, alloc, &chosen);
     }
-    // what is kept already is not found again
-    prepare(alloc, DayFile::of_parts(base, day, actors, commands))
 }
 
 // Has the base keep what each truck that applies asks of spans.
