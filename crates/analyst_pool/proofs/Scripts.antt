@@ -9,10 +9,9 @@ use Rattle.office_words.specs.declared.entry.Reply.{Reply}
 use Rattle.office_words.specs.declared.entry.Reply.TheVariants as reply
 use Rattle.office_core.specs.Calls.{Calling}
 use Rattle.office_core.specs.Replies.{is_full}
-use Rattle.office_core.proofs.Callings.{full_is}
 use Rattle.command_calls.specs.Leaves.{CarriedOut, Grew}
 use Rattle.command_calls.specs.Unfolds.{AreFinished, IsFinished, Unfolds, WentTo}
-use Rattle.command_calls.proofs.Growing.{by_test, caller_of, grew_join, grew_nothing}
+use Rattle.command_calls.proofs.Growing.{caller_of, grew_join, grew_nothing}
 use Rattle.command_calls.proofs.Runs.{finished_by, finished_more}
 
 module _ {P : Type 0} where
@@ -55,7 +54,3 @@ module _ {P : Type 0} where
     such = subst (λ n. Unfolds n c one.entries q) (caller_of u v h.grew.who) (subst (λ p. Unfolds v.who.caller c one.entries p) is one.unfolds);
     whole = refl;
   }
-
--- a reply that is not that the history is full
-pub has_room : (r : Reply) → ((most : ℕ) → r ≢ reply.Full most) → is_full r ≡ false
-has_room r other = by_test (is_full r) (λ all. let (most, is) = full_is r all in absurd (other most is)) (λ room. room)

@@ -2,10 +2,10 @@
 
 ghost use Rattle.std.specs.Prelude.{◌≡◌, ◌<◌, ◌≤◌, ◌==◌, ◌++◌, ◌∷◌, [], length, IfOk, option_and_then, unwrap_or};
 ghost use Rattle.std.specs.List.{slice_split};
-ghost use Rattle.road_graph.specs.Roads.{segment_names};
+ghost use Rattle.road_graph.specs.Roads.{number_of, segment_names};
 ghost use Rattle.trip_applications.specs.Applications.{AreAskedThere};
 ghost use Rattle.record_text.specs.Causes.{Judges, or_bad};
-ghost use Rattle.record_text.specs.Fields.{of_each, route_of};
+ghost use Rattle.record_text.specs.Fields.{name_field, of_each, route_of};
 ghost use Rattle.record_text.specs.declared.refusal.RecordCause.{RecordCause};
 ghost use Rattle.day_text.specs.Commands.{asked_routes_of, numbers_of};
 
@@ -73,13 +73,18 @@ fn find_route(alloc: Global, network: &Network, text: &str) -> Result<Option<Num
 {
     let mut route = Vec::new(alloc);
     for part in text.split(' ') {
-        let Some(name) = parse_name(part) else {
-            return Ok(None);
-        };
-        let Some(number) = network.segment_named(&name) else {
+        let Some(number) = segment_of(network, part) else {
             return Ok(None);
         };
         route.push(number)?;
     }
     Ok(Some(Numbers::of(route)))
+}
+
+// The segment whose name a text is, if there is one.
+fn segment_of(network: &Network, text: &str) -> Option<u32>
+    ensures { result ≡ option_and_then (λ name. number_of name (segment_names network.now.segments)) (name_field text.now) }
+{
+    let name = parse_name(text)?;
+    network.segment_named(&name)
 }

@@ -1,6 +1,7 @@
 use Rattle.std.proofs.Common.{◌+◌, ◌++◌, ap, sym, ◌∙◌, arith}
 use Rattle.office_core.specs.Calls.{Who}
-use Rattle.analyst_pool.proofs.Scripts.{grew_to, has_room, through_all, through_more, through_none, went_to}
+use Rattle.office_core.proofs.Callings.{has_room}
+use Rattle.analyst_pool.proofs.Scripts.{grew_to, through_all, through_more, through_none, went_to}
 use Rattle.analyst_pool.proofs.worker.carry_out_all.Goals as goal
 
 pub loop-asked-init : goal.loop-asked-init
