@@ -40,8 +40,8 @@ pub fn serve<R: Threads + Wait + AllocGlobal + Sync, G: Gate + Sync, L: Ledger +
     requires file { IsDayFile file }
     ensures served { IfOk result (λ done. IsServed file done.0.history) }
     ensures base { IfOk result (λ done. done.0.base ≡ file.base) }
-    // The counter stood at 0 when the office opened. It rose in the turn of each entry by what its call may cost, and by
-    // nothing else.
+    // The counter stood at 0 when the office opened. What it shows can be parted among the entries, so that each has no
+    // more than its call may cost.
     ensures counted { IfOk result (λ done. Counts file.base file.day done.0.history done.1) }
     ensures roads { OnOk result (IsRoads file.base.roads) }
 {

@@ -25,8 +25,8 @@ IsCost base m (call.Held a) before now = now ≤ before + tests_held base a
 IsCost base m (call.Post change) before now = now ≤ before + length (users_of (touched base.roads change) m.permits)
 IsCost base m _ before now = now ≡ before
 
--- A counter stood at one number before some entries and stands at another behind them: it rose in the turn of each entry, by
--- what its call may cost in the machine before it, and by nothing else.
+-- A counter stood at one number before some entries and stands at another behind them: what it rose by can be parted among the
+-- entries, so that each has no more than its call may cost in the machine before it.
 abbrev pub CountsFrom : BaseLists → Machine → List Entry → ℕ → ℕ → Type 0
 CountsFrom base m [] before now = now ≡ before
 CountsFrom base m (e ∷ es) before now =

@@ -12,7 +12,7 @@ pub record Counted : Type 0 where
 abbrev pub counted_in : {L : Type 0} → Inside L → Counted
 counted_in o = record { office = o.office; tests = o.steps }
 
--- the counter rose in the turn of each entry by what its call may cost, and by nothing else
+-- what the counter shows can be parted among the entries, so that each has no more than its call may cost
 abbrev pub AreCounted : Opened → ℕ → Type 0
 AreCounted o tests = Counts o.base o.opening o.history tests
 

@@ -15,8 +15,8 @@ use std::sync::ledger::{Blank, Ledger};
 
 /// An office with a counter of the segments that are tested in its turns. It is the one counter of this ledger.
 ///
-/// Contracts see the office and the count. At all times the counter rose in the turn of each entry of the history by what its
-/// call may cost, and by nothing else.
+/// Contracts see the office and the count. At all times what the counter shows can be parted among the entries of the history, so
+/// that each has no more than its call may cost.
 #[derive(Drop)]
 pub struct CountedOffice<L: Ledger> {
     office: Office,

@@ -21,8 +21,8 @@ use trip_applications::Application;
 /// An analyst who follows the versions of a store: what is known of the trucks is kept from one snapshot to the next, and
 /// only segments at which the two differ are judged anew.
 ///
-/// A follower is of the base with which it was made, which is handed to each call that takes one. Contracts see that base,
-/// and the last snapshot that it was given, if there was one.
+/// A follower belongs to one base, and each call that takes a base is given that one. Contracts see the base, and the last
+/// snapshot that the follower was given, if there was one.
 #[derive(Drop)]
 pub struct Follower {
     // has no bytes: it tells contracts of which base the follower is
