@@ -2,9 +2,7 @@
 
 use crate::next::Next;
 use crate::snapshot::Snapshot;
-use restriction_log::{
-    Change, Log, Network, NoMemory, PostRefusal, Stamps, State, takes, touched,
-};
+use restriction_log::{Change, Log, Network, NoMemory, PostRefusal, Stamps, State, takes, touched};
 use std::alloc::Global;
 use std::marker::Model;
 use std::snapshot::Snapshot as Told;
