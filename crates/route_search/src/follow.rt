@@ -10,6 +10,7 @@ use crate::trip_ends::TripEnds;
 use crate::waiting::Waiting;
 use std::alloc::{AllocError, Global};
 
+// Whether the truck may pass a segment that leads from a node, and a walk by it has the length that is known for the node.
 fn is_tight(roads: &Passable, potentials: &[Option<u64>], near: Waiting, i: u32) -> bool
     requires potentials { length potentials.now ≡ length roads.now.network.now.nodes }
     requires there { i < length roads.now.network.now.segments }
@@ -24,6 +25,7 @@ fn is_tight(roads: &Passable, potentials: &[Option<u64>], near: Waiting, i: u32)
     }
 }
 
+// The first segment of which that is so, by its number, if there is one.
 fn first_tight(roads: &Passable, potentials: &[Option<u64>], near: Waiting) -> Option<u32>
     requires potentials { length potentials.now ≡ length roads.now.network.now.nodes }
     requires there { near.node < length roads.now.network.now.nodes }
