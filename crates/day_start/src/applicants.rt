@@ -18,9 +18,10 @@ const MOST_TRUCKS: usize = 64;
 /// The most actors of a day.
 const MOST_ACTORS: usize = 16;
 
-/// From so many trucks on, and so many spans, it pays to start threads for what the trucks ask of the spans.
+/// From so many trucks on it pays to start threads for what they ask of spans, where there are many of these.
 const MANY_TRUCKS: usize = 8;
 
+/// From so many spans on there are many.
 const MANY_SPANS: u32 = 64;
 
 /// The day file, whose base keeps what is the same for all who serve the day: what each truck that applies asks of spans of each
@@ -38,7 +39,7 @@ pub fn prepare(alloc: Global, file: DayFile) -> Result<DayFile, NoMemory>
     Ok(file)
 }
 
-/// The same. Where many trucks apply, what they ask of spans is found on threads.
+/// The same. Where the file has many trucks and many spans, what the trucks that apply ask of spans is found on threads.
 pub fn prepare_on_threads<R: Threads + AllocGlobal + Sync>(
     rt: &R,
     file: DayFile,
