@@ -1,32 +1,32 @@
 -- Columns of heights.
-use Rattle.std.proofs.Common.{◌≡◌, ◌+◌, ◌<◌, ◌≤◌, ◌++◌, ◌∷◌, [], ℕ, suc, zero, List, Option, Some, None, length, set, get_or, length-append, refl, sym, ap, inl, inr, arith, ◌∙◌}
-use Rattle.std.specs.Prelude.{slice_get, min}
+use Rattle.std.proofs.Common.{◌≡◌, ◌+◌, ◌≤◌, ◌∷◌, [], ℕ, suc, zero, List, Option, Some, None, replicate, refl, sym, ap, inl, inr, arith, ◌∙◌}
+use Rattle.std.specs.Prelude.{min}
 use Rattle.std.proofs.lemmas.Bool.{cases_eq}
-use Rattle.std.proofs.lemmas.List.{get_or-set_same, get_or-set_other}
-use Rattle.std.proofs.lemmas.Option.{get_or_from_slice_get}
+use Rattle.std.proofs.lemmas.List.{length-replicate}
 use Rattle.road_graph.specs.declared.segment.Segment.{Segment}
 use Rattle.road_graph.specs.Roads.{IsRoads, Roads}
 use Rattle.road_graph.proofs.Places.{get_some}
 use Rattle.route_search.specs.Walks.{every}
-use Rattle.route_search.specs.Heights.{AreHeights, AreLengths, AreLevel, IsColumn, IsRaised, columns, height_at, height_of}
+use Rattle.route_search.specs.Heights.{AreHeights, AreLengths, AreLevel, AreZeros, IsColumn, height_at, height_of}
 use Rattle.route_search.proofs.Uniqueness.{certify}
 
--- one level row more
-pub level_push : (rows : List (List ℕ)) (row : List ℕ) (n : ℕ) → AreLevel n rows → ((j : ℕ) → get_or row j 0 ≡ 0) → AreLevel (n + 1) (rows ++ row ∷ [])
-level_push rows row n h zero_row = record {
-  many = omega (arith, length-append rows (row ∷ []), h.many);
-  level = λ v j. at rows v j (h.level v j);
-}
+-- zeros are a row of zeros
+pub zeros : (columns : ℕ) → AreZeros (replicate columns 0)
+zeros zero = λ j. refl
+zeros (suc n) = more (replicate n 0) (zeros n)
   where
-    at : (rows : List (List ℕ)) (v j : ℕ) → height_at rows v j ≡ 0 → height_at (rows ++ row ∷ []) v j ≡ 0
-    at [] zero j e = zero_row j
-    at [] (suc v) j e = refl
-    at (r ∷ rest) zero j e = e
-    at (r ∷ rest) (suc v) j e = at rest v j e
+    more : (row : List ℕ) → AreZeros row → AreZeros (0 ∷ row)
+    more row h zero = refl
+    more row h (suc j) = h j
 
--- no row yet
-pub level_none : AreLevel 0 []
-level_none = record { many = refl; level = λ v j. refl }
+-- rows of zeros are level
+pub level_rows : (n : ℕ) (row : List ℕ) → AreZeros row → AreLevel n (replicate n row)
+level_rows n row zero_row = record { many = length-replicate n row; level = at n }
+  where
+    at : (n v j : ℕ) → height_at (replicate n row) v j ≡ 0
+    at zero v j = refl
+    at (suc n) zero j = zero_row j
+    at (suc n) (suc v) j = at n v j
 
 pub level_heights : (segments : List Segment) (n : ℕ) (rows : List (List ℕ)) → AreLevel n rows → AreHeights segments rows
 level_heights segments n rows h = λ i j s within at. let e = h.level s.from j in omega (arith, e)
@@ -39,11 +39,6 @@ fits p None feet h = high p
     high None = omega arith
     high (Some d) = omega arith
 fits p (Some d) feet h = let (e, is, low) = h d refl in let k : height_of p ≡ min e 4294967295 = ap height_of is in omega (arith, k, low)
-
-get_or_same : {X : Type 0} (xs : List X) (i : ℕ) (d e : X) → i < length xs → get_or xs i d ≡ get_or xs i e
-get_or_same [] i d e h = absurd (omega (arith, h))
-get_or_same (x ∷ xs) zero d e h = refl
-get_or_same (x ∷ xs) (suc i) d e h = get_or_same xs i d e (omega (arith, h))
 
 some_is : (p q : Option ℕ) → Some p ≡ Some q → p ≡ q
 some_is p q e = cc
@@ -63,30 +58,6 @@ column_heights roads old new column node lengths ok h is are = λ i j s within a
       rw same (omega (arith, a, b, low)))
 ]
 
--- a row is written
-module _ (before rows : List (List ℕ)) (lengths : List (Option ℕ)) (i column : ℕ) (row raised : List ℕ) (at : row ≡ get_or rows i row) (within : i < length rows) (is : IsRaised row raised column (height_of (get_or lengths i None))) where
-  pub written_here : (v : ℕ) (p : Option ℕ) → v < i + 1 → slice_get lengths v ≡ Some p → ((u : ℕ) (q : Option ℕ) → u < i → slice_get lengths u ≡ Some q → height_at rows u column ≡ height_of q) → height_at (set rows i raised) v column ≡ height_of p
-  written_here v p less here old = elim (cases_eq v i) [
-    | inl same ↦ (
-        let row_is : get_or (set rows i raised) v [] ≡ raised = ap (λ (k : ℕ). get_or (set rows i raised) k []) same ∙ get_or-set_same rows i raised [] within in
-        let length_is : get_or lengths i None ≡ p = ap (λ (k : ℕ). get_or lengths k None) (sym same) ∙ get_or_from_slice_get lengths v p None here in
-        ap (λ (r : List ℕ). get_or r column 0) row_is ∙ (is.here ∙ ap height_of length_is))
-    | inr other ↦ (
-        let row_is : get_or (set rows i raised) v [] ≡ get_or rows v [] = get_or-set_other rows i v raised [] other in
-        ap (λ (r : List ℕ). get_or r column 0) row_is ∙ old v p (omega (arith, less, other)) here)
-  ]
-
-  pub written_others : (v j : ℕ) → j < columns → (j ≡ column → ⊥) → height_at rows v j ≡ height_at before v j → height_at (set rows i raised) v j ≡ height_at before v j
-  written_others v j low other old = elim (cases_eq v i) [
-    | inl same ↦ (
-        let row_is : get_or (set rows i raised) v [] ≡ raised = ap (λ (k : ℕ). get_or (set rows i raised) k []) same ∙ get_or-set_same rows i raised [] within in
-        let row_was : row ≡ get_or rows v [] = at ∙ (get_or_same rows i row [] within ∙ ap (λ (k : ℕ). get_or rows k []) (sym same)) in
-        ap (λ (r : List ℕ). get_or r j 0) row_is ∙ (is.others j low other ∙ (ap (λ (r : List ℕ). get_or r j 0) row_was ∙ old)))
-    | inr apart ↦ (
-        let row_is : get_or (set rows i raised) v [] ≡ get_or rows v [] = get_or-set_other rows i v raised [] apart in
-        ap (λ (r : List ℕ). get_or r j 0) row_is ∙ old)
-  ]
-
 -- no heights are heights
 pub level_none_heights : (segments : List Segment) → AreHeights segments []
-level_none_heights segments = level_heights segments 0 [] level_none
+level_none_heights segments = level_heights segments 0 [] (level_rows 0 [] (zeros 0))

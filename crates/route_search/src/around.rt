@@ -86,7 +86,7 @@ impl Region {
 }
 
 // The nodes that walks from the root reach.
-fn reach_from(alloc: Global, roads: &Passable, root: u32) -> Result<Reached, AllocError>
+pub(crate) fn reach_from(alloc: Global, roads: &Passable, root: u32) -> Result<Reached, AllocError>
     requires { root < length roads.now.network.now.nodes }
     ensures { IfOk result (AreReachedFrom roads.now.network.now (flagged roads.now.flags.now) root) }
 {

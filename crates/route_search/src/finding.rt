@@ -5,18 +5,17 @@ ghost use Rattle.route_search.specs.Walks.{CanReach, flagged};
 ghost use Rattle.route_search.specs.Founds.{AreNearOver, ArePotentialsOver, IsFoundBetween, IsRouteOrNone, IsShortest};
 ghost use Rattle.route_search.specs.Heights.{AreHeights};
 
+use crate::around::reach_from;
 use crate::follow::follow;
 use crate::found::{Found, Potentials};
 use crate::heights::Heights;
 use crate::passable::Passable;
 use crate::query::Query;
-use crate::reach::{listed, reach};
 use crate::settle::{settle, settle_all};
 use crate::shortest::Shortest;
 use crate::table::Table;
 use crate::trip_ends::TripEnds;
-use crate::walks::{Walks, Way};
-use road_graph::{Network, NoMemory, Numbers, SharedNumbers};
+use road_graph::{Network, NoMemory, Numbers};
 use std::alloc::{AllocError, Global};
 
 /// The shortest passable walk from one node to another, ties going to the list of segment numbers that comes first in
@@ -40,11 +39,21 @@ pub fn search(
     ensures { IfOk result (IsFoundBetween network.now passable.now from to) }
 {
     network.lists_are_in_order();
-    let roads = Passable {
-        network,
-        flags: passable,
-    };
-    Ok(find(alloc, &TripEnds { roads, from, to })?)
+    let flags = passable;
+    let roads = Passable { network, flags };
+    let trip = TripEnds { roads, from, to };
+    let list = settle_all(alloc, &roads, to)?;
+    let route = route_shown(alloc, &trip, &list)?;
+    let found = or_why(alloc, &trip, route)?;
+    match found {
+        Shortest::Route { segments, length } => Ok(Found::Route {
+            segments,
+            length,
+            potential: Potentials::of(list),
+        }),
+        Shortest::Cut { reached } => Ok(Found::Cut { reached }),
+        Shortest::NoRoad { reached } => Ok(Found::NoRoad { reached }),
+    }
 }
 
 /// For each node the least length of a passable walk to a node. `NoMemory` where no memory was left.
@@ -117,24 +126,6 @@ pub fn shortest_route_by(
     Ok(route_shown(alloc, trip, potentials.as_slice())?)
 }
 
-// The potentials first, and then what they show.
-fn find(alloc: Global, trip: &TripEnds) -> Result<Found, AllocError>
-    ensures { IfOk result (IsFoundBetween trip.now.roads.network.now trip.now.roads.flags.now trip.now.from trip.now.to) }
-{
-    let list = settle_all(alloc, &trip.roads, trip.to)?;
-    let route = route_shown(alloc, trip, &list)?;
-    let found = or_why(alloc, trip, route)?;
-    match found {
-        Shortest::Route { segments, length } => Ok(Found::Route {
-            segments,
-            length,
-            potential: Potentials::of(list),
-        }),
-        Shortest::Cut { reached } => Ok(Found::Cut { reached }),
-        Shortest::NoRoad { reached } => Ok(Found::NoRoad { reached }),
-    }
-}
-
 // The route that potentials show, or none.
 fn route_shown(
     alloc: Global,
@@ -176,22 +167,13 @@ fn no_route(alloc: Global, trip: &TripEnds) -> Result<Shortest, AllocError>
     let network = trip.roads.network;
     let open = vec![in alloc; true; network.segments() as usize]?;
     let flags = open.as_slice();
-    let roads = Passable { network, flags };
-    let (way, root) = (Way::Forth, trip.from);
-    let any = Walks { roads, way, root };
-    let all = reach(alloc, &any)?;
-    if all[trip.to as usize] {
-        let roads = trip.roads;
-        let passable = Walks { roads, way, root };
-        let marked = reach(alloc, &passable)?;
-        let reached = listed(alloc, &passable, marked.as_slice())?;
-        Ok(Shortest::Cut {
-            reached: SharedNumbers::of(alloc, Numbers::of(reached))?,
-        })
+    let any = reach_from(alloc, &Passable { network, flags }, trip.from)?;
+    if any.marks[trip.to as usize] {
+        let passable = reach_from(alloc, &trip.roads, trip.from)?;
+        let reached = passable.numbers;
+        Ok(Shortest::Cut { reached })
     } else {
-        let reached = listed(alloc, &any, all.as_slice())?;
-        Ok(Shortest::NoRoad {
-            reached: SharedNumbers::of(alloc, Numbers::of(reached))?,
-        })
+        let reached = any.numbers;
+        Ok(Shortest::NoRoad { reached })
     }
 }

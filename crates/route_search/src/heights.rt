@@ -1,7 +1,7 @@
 // Heights of nodes, by which a search leaves out what leads away from its start.
 
 ghost use Rattle.std.specs.Prelude.{◌≡◌, ◌<◌, ◌≤◌, length, IfOk};
-ghost use Rattle.route_search.specs.Heights.{AreLengths, AreLevel, AreZeros, IsColumn, IsLeastFall, IsRaised, height_of};
+ghost use Rattle.route_search.specs.Heights.{AreLengths, IsColumn, IsLeastFall, height_of};
 
 use crate::passable::Passable;
 use crate::settle::settle_all;
@@ -88,7 +88,7 @@ impl Heights {
         Ok(())
     }
 
-    // Makes a row for each node, where there is not one for each yet.
+    // Makes a row of zeros for each node, where there is not a row for each yet.
     fn lay(&mut self, alloc: Global, network: &Network) -> Result<(), NoMemory>
         requires heights { AreHeights network.now.segments self.old }
         ensures heights { AreHeights network.now.segments self.new }
@@ -97,7 +97,7 @@ impl Heights {
     {
         let nodes = network.nodes() as usize;
         if self.rows.len() != nodes {
-            self.rows = level(alloc, nodes)?;
+            self.rows = vec![in alloc; [0; 16]; nodes]?;
             self.columns = 0;
         }
         Ok(())
@@ -124,24 +124,6 @@ fn greatest_fall(high: &[u32; 16], low: &[u32; 16]) -> u32
         fall = fall.max(high[j].saturating_sub(low[j]));
     }
     fall
-}
-
-// A row of zeros.
-fn zeros() -> [u32; 16]
-    ensures { AreZeros result }
-{
-    [0; 16]
-}
-
-// A row of zeros for each node.
-fn level(alloc: Global, nodes: usize) -> Result<Vec<[u32; 16]>, AllocError>
-    ensures { IfOk result (λ v. AreLevel nodes v.items) }
-{
-    let mut rows = Vec::with_capacity(alloc, nodes)?;
-    'nodes: for _i in 0..nodes {
-        rows.push(zeros())?;
-    }
-    Ok(rows)
 }
 
 // The least of the first heights of a row, or 0 where there are none.
@@ -197,18 +179,6 @@ fn height(length: Option<u64>) -> u32
     }
 }
 
-// A row with another height in one column.
-fn raised(row: [u32; 16], column: usize, height: u32) -> [u32; 16]
-    requires { column < 16 }
-    ensures { IsRaised row result column height }
-{
-    let mut raised = [0; 16];
-    for j in 0..16usize {
-        raised[j] = if j == column { height } else { row[j] };
-    }
-    raised
-}
-
 // Writes a column of heights.
 fn write(rows: &mut Vec<[u32; 16]>, column: usize, lengths: &[Option<u64>])
     requires same { length rows.old.items ≡ length lengths.now }
@@ -217,6 +187,6 @@ fn write(rows: &mut Vec<[u32; 16]>, column: usize, lengths: &[Option<u64>])
     ensures column { IsColumn rows.old.items rows.new.items column lengths.now }
 {
     for i in 0..lengths.len() {
-        rows[i] = raised(rows[i], column, height(lengths[i]));
+        rows[i][column] = height(lengths[i]);
     }
 }

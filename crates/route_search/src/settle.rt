@@ -1,7 +1,7 @@
 // The least lengths to a goal.
-ghost use Rattle.std.specs.Prelude.{◌≡◌, ◌↔◌, ◌<◌, length, IfOk, IfNone, OnOk, IsTrue, true, Some};
+ghost use Rattle.std.specs.Prelude.{◌≡◌, ◌↔◌, ◌<◌, length, IfOk, IfNone, OnOk, IsTrue, Some};
 ghost use Rattle.route_search.specs.Founds.{ArePotentialsOver};
-ghost use Rattle.route_search.specs.Settling.{AreAsked, IsLeftOut, IsLonger, IsNoMoreWork, IsRelaxingFor, IsSearchingFor, IsTriedFor, beyond, weight_of};
+ghost use Rattle.route_search.specs.Settling.{AreAsked, IsLeftOut, IsNoMoreWork, IsRelaxingFor, IsSearchingFor, IsTriedFor, beyond};
 
 use crate::heights::Heights;
 use crate::passable::Passable;
@@ -10,30 +10,10 @@ use crate::table::Table;
 use crate::waiting::{Queue, Waiting};
 use std::alloc::{AllocError, Global};
 
-fn is_shorter(known: Option<u64>, feet: u64) -> bool
-    requires { feet < beyond }
-    ensures { IsTrue result ↔ (feet < weight_of known) }
-{
-    match known {
-        Some(before) => feet < before,
-        None => true,
-    }
-}
-
 pub(crate) fn is_known(known: Option<u64>, feet: u64) -> bool
     ensures { IsTrue result ↔ (known ≡ Some feet) }
 {
     known == Some(feet)
-}
-
-// Whether a length is more than a known one.
-fn is_longer(feet: u64, known: Option<u64>) -> bool
-    ensures { IsTrue result ↔ IsLonger feet known }
-{
-    match known {
-        Some(least) => least < feet,
-        None => false,
-    }
 }
 
 // How long a walk from the start by a node is at least, that goes on for so many feet; none where a shorter one is known.
@@ -48,10 +28,10 @@ fn through(query: &Query, potentials: &[Option<u64>], near: Waiting) -> Option<u
     };
     let fall = query.heights.fall(query.roads.network, start, near.node);
     let least = near.length + u64::from(fall);
-    if is_longer(least, potentials[start as usize]) {
-        None
-    } else {
-        Some(least)
+    let known = potentials[start as usize];
+    match known {
+        Some(shorter) if shorter < least => None,
+        _ => Some(least),
     }
 }
 
@@ -68,22 +48,16 @@ fn improve(
     ensures { OnOk result (IsTriedFor query.now table.old queue.old table.new queue.new next) }
 {
     let potentials = table.as_slice();
-    if is_shorter(potentials[next.node as usize], next.length) {
-        if let Some(place) = through(query, potentials, next) {
-            table.note(next.node, next.length)?;
-            queue.push(next, place)?;
+    if let Some(known) = potentials[next.node as usize] {
+        if known <= next.length {
+            return Ok(());
         }
     }
+    if let Some(place) = through(query, potentials, next) {
+        table.note(next.node, next.length)?;
+        queue.push(next, place)?;
+    }
     Ok(())
-}
-
-// Whether no walk from the start by a node is the shortest that goes on as this one.
-fn is_out(query: &Query, potentials: &[Option<u64>], near: Waiting) -> bool
-    requires many { length potentials.now ≡ length query.now.roads.network.now.nodes }
-    requires near { near.length < beyond }
-    ensures { result ≡ true → IsLeftOut query.now potentials.now near }
-{
-    through(query, potentials, near).is_none()
 }
 
 // Tries the segments into a node for shorter ways, where a walk from the start by it may be the shortest.
@@ -98,7 +72,7 @@ fn relax(
     ensures after { OnOk result (IsSearchingFor query.now table.new queue.new) }
     ensures less { OnOk result (IsNoMoreWork table.old queue.old table.new queue.new) }
 {
-    if is_out(query, table.as_slice(), near) {
+    if through(query, table.as_slice(), near).is_none() {
         return Ok(());
     }
     let passable = query.roads.flags;

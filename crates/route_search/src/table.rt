@@ -1,6 +1,6 @@
 // What a search notes of each node, kept from search to search.
 
-ghost use Rattle.std.specs.Prelude.{◌≡◌, [], length, replicate, IfOk, None};
+ghost use Rattle.std.specs.Prelude.{◌≡◌, [], length, replicate, None};
 ghost use Rattle.route_search.specs.Tables.{AreTouched};
 
 use crate::width::shift;
@@ -54,7 +54,7 @@ impl Table {
         if self.lengths.len() == nodes {
             set_back(&mut self.lengths, &mut self.touched);
         } else {
-            self.lengths = none_known(alloc, nodes)?;
+            self.lengths = vec![in alloc; None; nodes]?;
             self.touched.clear();
             self.shift = shift(network);
         }
@@ -86,17 +86,12 @@ impl Table {
         self.shift
     }
 
+    /// The lengths alone.
     pub(crate) fn into_lengths(self) -> Vec<Option<u64>>
         ensures { result.items ≡ self }
     {
         self.lengths
     }
-}
-
-fn none_known(alloc: Global, nodes: usize) -> Result<Vec<Option<u64>>, AllocError>
-    ensures { IfOk result (λ v. v.items ≡ replicate nodes None) }
-{
-    vec![in alloc; None; nodes]
 }
 
 // Takes the length of each touched node away, so that none is known.

@@ -1,18 +1,11 @@
 // How many feet a bucket of waiting nodes takes.
 
-ghost use Rattle.std.specs.Prelude.{◌<◌, ◌≤◌};
+ghost use Rattle.std.specs.Prelude.{◌<◌};
 
 use road_graph::Network;
 
 /// About how many nodes are looked at.
 const SAMPLE: u32 = 16;
-
-// The binary logarithm of a length, rounded down.
-fn logarithm(feet: u32) -> u32
-    ensures { result < 32 }
-{
-    31 - feet.max(1).leading_zeros()
-}
 
 /// The binary logarithm of a width for the buckets: one more than the mean of those of the segments, as the segments that
 /// end at some nodes tell it. A few very long segments do not make it much greater.
@@ -26,7 +19,8 @@ pub(crate) fn shift(network: &Network) -> u32
     let mut node = 0;
     'nodes: while node < nodes {
         for arrival in network.incoming(node) {
-            sum = sum.saturating_add(u64::from(logarithm(arrival.feet)));
+            let logarithm = 31 - arrival.feet.max(1).leading_zeros();
+            sum = sum.saturating_add(u64::from(logarithm));
             count = count.saturating_add(1);
         }
         node += step;

@@ -12,19 +12,18 @@ pub returns-then-index : goal.returns-then-index
 returns-then-index c =
     let t = c.args.trip.now in let roads = t.roads.network.now in
     let flags = rw c.segments.ensures.count at (c.in_ok-open.ensures.items_if_clones_equal (λ y h. h)) in
-    let marks = rw c.as_slice-flags.ensures.value at c.in_ok-all.ensures in
-    let all = c.in_ok-all.all.items in
-    let within : t.to < length all = omega (arith, marks.many, t.to_is_there) in
+    let any = rw c.as_slice-flags.ensures.value at c.in_ok-any.ensures in
+    let all = c.in_ok-any.any.marks.items in
+    let within : t.to < length all = omega (arith, any.marks.many, t.to_is_there) in
     let at = slice_get_read all (length all) t.to c.index.result.now refl within c.index.ensures in
-    rw (c.in_ok-of.ensures ∙ c.of.ensures) (cut_found roads t.roads.flags.now c.in_ok-open.open.items t.from t.to all c.in_ok-reached.reached.items flags c.requires marks (bit_at all t.to c.index.result.now true at c.if-index.true) c.in_ok-reached.ensures)
+    cut_found roads t.roads.flags.now c.in_ok-open.open.items t.from t.to all c.in_ok-passable.passable.numbers flags c.requires any.marks (bit_at all t.to c.index.result.now true at c.if-index.true) c.in_ok-passable.ensures.numbers
 
 pub returns : goal.returns
 returns c =
     let t = c.args.trip.now in let roads = t.roads.network.now in
     let flags = rw c.segments.ensures.count at (c.in_ok-open.ensures.items_if_clones_equal (λ y h. h)) in
-    let marks = rw c.as_slice-flags.ensures.value at c.in_ok-all.ensures in
-    let all = c.in_ok-all.all.items in
-    let within : t.to < length all = omega (arith, marks.many, t.to_is_there) in
+    let any = rw c.as_slice-flags.ensures.value at c.in_ok-any.ensures in
+    let all = c.in_ok-any.any.marks.items in
+    let within : t.to < length all = omega (arith, any.marks.many, t.to_is_there) in
     let at = slice_get_read all (length all) t.to c.index.result.now refl within c.index.ensures in
-    let listed = rw c.as_slice-flags.ensures.value at c.in_ok-reached-2.ensures in
-    rw (c.in_ok-of-2.ensures ∙ c.of-else-index.ensures) (no_road_found roads c.in_ok-open.open.items t.from t.to all c.in_ok-reached-2.reached.items flags marks (bit_at all t.to c.index.result.now false at c.if-index.false) listed)
+    no_road_found roads c.in_ok-open.open.items t.from t.to all c.in_ok-any.any.numbers flags any.marks (bit_at all t.to c.index.result.now false at c.if-index.false) any.numbers

@@ -1,4 +1,7 @@
-use Rattle.std.proofs.Common.{[], get_or, take, arith}
+use Rattle.std.proofs.Common.{◌≡◌, ℕ, Option, Some, None, false, [], get_or, take, arith, sym}
+use Rattle.std.specs.Option.{is_some}
+use Rattle.std.specs.Prelude.{IfNone}
+use Rattle.std.proofs.lemmas.Bool.{false≢true}
 use Rattle.std.proofs.lemmas.Option.{slice_get-get_or}
 use Rattle.std.proofs.lemmas.List.{take_all, take_more}
 use Rattle.road_graph.specs.declared.segment.Arrival.{Arrival}
@@ -68,12 +71,16 @@ returns-clause-after c =
     let all = take_all c.loop-arrival.arrival-index list c.loop-arrival-test.false in
     relaxed q.roads.network.now (flagged q.roads.flags.now) q.start q.goal q.roads.in_order c.loop-arrival.table c.loop-arrival.queue c.args.near.node c.args.near.length list c.incoming-arrivals.ensures.meaning (rw all at c.loop-arrival.invariant.relaxing)
 
-pub is_out-requires-clause-near : goal.is_out-requires-clause-near
-is_out-requires-clause-near c =
+pub through-requires-clause-near : goal.through-requires-clause-near
+through-requires-clause-near c =
     let q = c.args.query.now in
     relaxing_small q.roads.network.now (flagged q.roads.flags.now) q.start q.goal q.roads.in_order c.args.table.now c.args.queue.now c.args.near.node c.args.near.length [] c.requires.before
 
-pub returns-then-is_out-clause-after : goal.returns-then-is_out-clause-after
-returns-then-is_out-clause-after c =
+told : {fact : Type 0} (o : Option ℕ) → is_some o ≡ false → IfNone o fact → fact
+told None e h = h
+told (Some x) e h = absurd (false≢true (sym e))
+
+pub returns-then-is_none-clause-after : goal.returns-then-is_none-clause-after
+returns-then-is_none-clause-after c =
     let q = c.args.query.now in
-    relaxed_out q.roads.network.now (flagged q.roads.flags.now) q.start q.goal q.roads.in_order c.args.table.now c.args.queue.now c.args.near.node c.args.near.length [] c.requires.before (rw c.as_slice.ensures at (c.is_out.ensures c.if-is_out.true))
+    relaxed_out q.roads.network.now (flagged q.roads.flags.now) q.start q.goal q.roads.in_order c.args.table.now c.args.queue.now c.args.near.node c.args.near.length [] c.requires.before (rw c.as_slice.ensures at (told c.through.result c.if-is_none.ensures c.through.ensures))
