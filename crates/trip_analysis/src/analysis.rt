@@ -6,7 +6,7 @@ ghost use Rattle.restriction_log.specs.States.{AreOf};
 ghost use Rattle.snapshot_store.specs.Stores.{store_version_of};
 ghost use Rattle.trip_applications.specs.Applications.{Sound};
 ghost use Rattle.fleet.specs.Passing.{TestsAtMost, first_on as first_in, needs_none};
-ghost use Rattle.trip_analysis.specs.Findings.{IsFinding, IsFoundAt, IsFoundBy, IsSearched, asked_finding};
+ghost use Rattle.trip_analysis.specs.Findings.{IsFinding, IsFoundAt, IsFoundBy, asked_finding};
 ghost use Rattle.trip_analysis.specs.Tests.{tests_for};
 
 use crate::finding::{Proposal, What};
@@ -120,14 +120,7 @@ fn find_free<L: Ledger>(
     let flags = passable.as_slice();
     let roads = Passable { network, flags };
     let (from, to) = (application.from(), application.to());
-    search_along(alloc, &TripEnds { roads, from, to })
-}
-
-// What a search for a trip finds, as it is proposed.
-fn search_along(alloc: Global, trip: &TripEnds) -> Result<What, NoMemory>
-    ensures { IfOk result (IsSearched trip.now.roads.network.now trip.now.roads.flags.now trip.now.from trip.now.to) }
-{
     let heights = Heights::none(alloc);
-    let found = shortest_walk(alloc, trip, &heights)?;
+    let found = shortest_walk(alloc, &TripEnds { roads, from, to }, &heights)?;
     LastRoute::none().proposed(alloc, found)
 }

@@ -1,12 +1,11 @@
 // What is kept of the searches over the segments that one truck may pass.
 
-ghost use Rattle.std.specs.Prelude.{◌≡◌, ◌<◌, None, length, IfOk};
+ghost use Rattle.std.specs.Prelude.{◌≡◌, ◌<◌, length, IfOk};
 ghost use Rattle.route_search.specs.Founds.{IsRouteOrNone, IsShortest};
 ghost use Rattle.route_search.specs.Heights.{AreHeights};
 ghost use Rattle.trip_analysis.specs.Known.{IsKeptOver, IsSettled};
 
 use names::NoMemory;
-use road_graph::Network;
 use route_search::{
     Heights, Passable, Potentials, Region, Shortest, Table, TripEnds, potentials, shortest_route,
     shortest_route_by,
@@ -60,12 +59,17 @@ impl Kept {
         }
         match self.route(alloc, trip, tables)? {
             Some(route) => Ok(route),
-            None => self.learn_region(alloc, trip),
+            None => {
+                let region = Region::around(alloc, &trip.roads, trip.from)?;
+                let found = region.why(trip.to)?;
+                self.region = Some(region);
+                Ok(found)
+            }
         }
     }
 
     // The shortest route of a trip, if there is one. Potentials are kept of a goal that comes again; else one search is made
-    // that leaves out what leads away.
+    // that leaves out what leads away, by one column of heights more where trips of a truck have several goals.
     fn route(
         &mut self,
         alloc: Global,
@@ -87,7 +91,9 @@ impl Kept {
         }
         let others = self.last.is_some();
         self.last = Some(trip.to);
-        learn_heights(alloc, trip.roads.network, &mut tables.heights, others)?;
+        if others {
+            tables.heights.add(alloc, trip.roads.network)?;
+        }
         shortest_route(alloc, trip, &tables.heights, &mut tables.table)
     }
 
@@ -123,33 +129,4 @@ impl Kept {
         let potentials = potentials(alloc, roads, goal)?;
         Ok(Settled { goal, potentials })
     }
-
-    // Keeps the region around the start of a trip that has no route, and answers why.
-    fn learn_region(&mut self, alloc: Global, trip: &TripEnds) -> Result<Shortest, NoMemory>
-        requires kept { IsKeptOver trip.now.roads.network.now trip.now.roads.flags.now self.old }
-        requires none { IsRouteOrNone trip.now.roads.network.now trip.now.roads.flags.now trip.now.from trip.now.to None }
-        ensures found { IfOk result (IsShortest trip.now.roads.network.now trip.now.roads.flags.now trip.now.from trip.now.to) }
-        ensures kept { IsKeptOver trip.now.roads.network.now trip.now.roads.flags.now self.new }
-    {
-        let region = Region::around(alloc, &trip.roads, trip.from)?;
-        let found = region.why(trip.to)?;
-        self.region = Some(region);
-        Ok(found)
-    }
-}
-
-// Makes one column of heights more, where trips of a truck have several goals.
-fn learn_heights(
-    alloc: Global,
-    network: &Network,
-    heights: &mut Heights,
-    others: bool,
-) -> Result<(), NoMemory>
-    requires { AreHeights network.now.segments heights.old }
-    ensures { AreHeights network.now.segments heights.new }
-{
-    if others {
-        heights.add(alloc, network)?;
-    }
-    Ok(())
 }
