@@ -159,10 +159,17 @@ impl Application {
     {
         let network = base.network();
         let nodes = network.nodes();
-        (self.truck as usize) < base.fleet().len()
-            && self.from < nodes
-            && self.to < nodes
-            && are_asked_there(network, &self.asked)
+        let has_ends = self.from < nodes && self.to < nodes;
+        if !has_ends || self.truck as usize >= base.fleet().len() {
+            return false;
+        }
+        match &self.asked {
+            Some(routes) => {
+                let count = network.segments();
+                routes.all().iter().all(|s| *s < count)
+            }
+            None => true,
+        }
     }
 
     // Refuses it for the first cause that applies on these roads, where all that it names is there.
@@ -182,19 +189,6 @@ impl Application {
             None => false,
         };
         try_days(annual, self.first, self.last)
-    }
-}
-
-// Whether the segments of the asked routes, if there are any, are there.
-fn are_asked_there(network: &Network, asked: &Option<SharedRoutes>) -> bool
-    ensures { (result ≡ true) ↔ AreAskedThere network.now asked.now }
-{
-    match asked {
-        Some(routes) => {
-            let count = network.segments();
-            routes.all().iter().all(|s| *s < count)
-        }
-        None => true,
     }
 }
 
