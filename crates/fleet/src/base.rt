@@ -1,7 +1,6 @@
 // What an office is about: roads and trucks.
 
-ghost use Rattle.std.specs.Prelude.{◌≡◌, All};
-ghost use Rattle.axle_train.specs.Bounds.{IsTrain};
+ghost use Rattle.std.specs.Prelude.{◌≡◌};
 
 use crate::opening::{Opening, flags_in, keep, opening_flags};
 use clearance_rules::{Kept, Load};
@@ -60,7 +59,10 @@ impl Base {
         requires few { length fleet.items ≤ 64 }
         ensures { result ≡ record { roads = network; fleet = fleet.items } }
     {
-        tell_trains(&fleet);
+        // nothing is done here: each load tells that its axles are within the bounds of trains
+        'trucks: for i in 0..fleet.len() {
+            let _train = fleet[i].load.train();
+        }
         Base {
             network,
             fleet,
@@ -186,13 +188,4 @@ fn keep_lengths(alloc: Global, network: &Network, load: &mut Load) -> Result<(),
         load.keep(alloc, network.span(span).inches)?;
     }
     Ok(())
-}
-
-// Tells of each truck that its axles are within the bounds of trains, as its load promises. Nothing is done.
-fn tell_trains(fleet: &[Truck])
-    ensures { All (λ t. IsTrain t.load.train) fleet.now }
-{
-    'trucks: for i in 0..fleet.len() {
-        let _train = fleet[i].load.train();
-    }
 }
