@@ -2,7 +2,7 @@
 
 ghost use Rattle.std.specs.Prelude.{◌≡◌, ◌<◌, ◌≤◌, ◌++◌, ◌∷◌, [], length, get_or, IfErr, OnOk, OnErr, None};
 ghost use Rattle.std.specs.List.{concat};
-ghost use Rattle.trip_routes.specs.Routes.{AreRoutes, AreRouteEnds, IsPushCause, begin_of, parted, push_refusal};
+ghost use Rattle.trip_routes.specs.Routes.{AreRoutes, IsPushCause, begin_of, push_refusal};
 
 use crate::refusal::RoutesRefusal;
 use arrayvec::ArrayVec;
@@ -71,11 +71,13 @@ impl Routes {
     }
 
     /// The segments of the route at a place. Takes no memory.
+    #[tactic(auto, using(crate::proofs::Cutting::cut_within, crate::proofs::Cutting::cut_length))]
     pub fn route(&self, i: usize) -> &[u32]
         requires { i < length self.now }
         ensures { result.now ≡ get_or self.now i [] }
     {
-        part(self.segments.as_slice(), self.ends.as_slice(), i)
+        let start = begin(self.ends.as_slice(), i);
+        &self.segments[start..self.ends[i]]
     }
 
     /// The segments of all routes, one route after another. Takes no memory.
@@ -84,17 +86,6 @@ impl Routes {
     {
         self.segments.as_slice()
     }
-}
-
-// The segments of the route at a place, where a list of segments is cut behind these.
-#[tactic(auto, using(crate::proofs::Cutting::cut_within))]
-fn part<'a>(segments: &'a [u32], ends: &[usize], i: usize) -> &'a [u32]
-    requires cut { AreRouteEnds ends.now segments.now }
-    requires within { i < length ends.now }
-    ensures { result.now ≡ get_or (parted 0 ends.now segments.now) i [] }
-{
-    let start = begin(ends, i);
-    &segments[start..ends[i]]
 }
 
 // Behind how many segments the route at a place begins.
