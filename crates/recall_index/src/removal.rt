@@ -1,32 +1,11 @@
 // Taking rising numbers out of rising ones.
 
-ghost use Rattle.std.specs.Prelude.{◌≡◌, ◌≤◌, ◌<◌, ◌+◌, ◌++◌, length, take, drop, All, slice_index, slice_set, true, if◌then◌else◌};
+ghost use Rattle.std.specs.Prelude.{◌≡◌, ◌≤◌, ◌<◌, ◌+◌, length, take, All, slice_index, true, if◌then◌else◌};
 ghost use Rattle.std.specs.List.Sorted.{IsStrictlyIncreasing};
-ghost use Rattle.recall_index.specs.Uses.{AreAllOrNone, IsBlock, is_in, without_each};
+ghost use Rattle.recall_index.specs.Uses.{AreAllOrNone, IsBlock, without_each};
 
-/// Takes out rising numbers, all of which are there or none. Those that stand as one block leave without a look at each, and
-/// at the end without a move.
-pub(crate) fn take_out(all: &mut Vec<u32>, these: &[u32])
-    requires rising { IsStrictlyIncreasing all.old.items }
-    requires these { IsStrictlyIncreasing these.now }
-    requires among { AreAllOrNone these.now all.old.items }
-    ensures { all.new.items ≡ without_each these.now all.old.items }
-{
-    if these.is_empty() {
-        return;
-    }
-    let at = place_of(all.as_slice(), these);
-    if is_block(all.as_slice(), at, these) {
-        let rest = all.len() - these.len();
-        all.copy_within(at + these.len().., at);
-        all.truncate(rest);
-    } else {
-        sift(all, at, these);
-    }
-}
-
-// The place in rising numbers up to which all are below the first of these. Looks first where these would be the last ones.
-fn place_of(all: &[u32], these: &[u32]) -> usize
+/// The place in rising numbers up to which all are below the first of these. Looks first where these would be the last ones.
+pub(crate) fn place_of(all: &[u32], these: &[u32]) -> usize
     requires rising { IsStrictlyIncreasing all.now }
     requires some { 0 < length these.now }
     ensures within { result ≤ length all.now }
@@ -44,9 +23,9 @@ fn place_of(all: &[u32], these: &[u32]) -> usize
     }
 }
 
-// Whether rising numbers, of which all are among rising ones or none is, stand there as one block from a place on. They do
-// where as many lie from the first of them to the last.
-fn is_block(all: &[u32], at: usize, these: &[u32]) -> bool
+/// Whether rising numbers, of which all are among rising ones or none is, stand there as one block from a place on. They do
+/// where as many lie from the first of them to the last.
+pub(crate) fn is_block(all: &[u32], at: usize, these: &[u32]) -> bool
     requires rising { IsStrictlyIncreasing all.now }
     requires these { IsStrictlyIncreasing these.now }
     requires some { 0 < length these.now }
@@ -61,8 +40,8 @@ fn is_block(all: &[u32], at: usize, these: &[u32]) -> bool
     all[at] == these[0] && all[at + last] == these[last]
 }
 
-// Takes rising numbers out of rising ones, of which those before a place are below the first of them.
-fn sift(all: &mut Vec<u32>, from: usize, these: &[u32])
+/// Takes rising numbers out of rising ones, of which those before a place are below the first of them.
+pub(crate) fn sift(all: &mut Vec<u32>, from: usize, these: &[u32])
     requires rising { IsStrictlyIncreasing all.old.items }
     requires these { IsStrictlyIncreasing these.now }
     requires within { from ≤ length all.old.items }

@@ -4,7 +4,7 @@ ghost use Rattle.std.specs.Prelude.{◌≡◌, ◌≤◌, [], All, OnOk, OnErr};
 ghost use Rattle.std.specs.List.Sorted.{IsStrictlyIncreasing};
 ghost use Rattle.recall_index.specs.Uses.{AreAllOrNone, is_in, with_last, without_each};
 
-use crate::removal::take_out;
+use crate::removal::{is_block, place_of, sift};
 use names::NoMemory;
 use std::alloc::Global;
 use std::marker::Model;
@@ -61,13 +61,25 @@ impl Users {
         Ok(())
     }
 
-    /// Takes out rising numbers, all of which are there or none.
-    pub(crate) fn remove_each(&mut self, numbers: &[u32])
-        requires rising { IsStrictlyIncreasing numbers.now }
-        requires among { AreAllOrNone numbers.now self.old }
-        ensures { self.new ≡ without_each numbers.now self.old }
+    /// Takes out rising numbers, all of which are there or none. Those that stand as one block leave without a look at each,
+    /// and at the end without a move.
+    pub(crate) fn remove_each(&mut self, these: &[u32])
+        requires rising { IsStrictlyIncreasing these.now }
+        requires among { AreAllOrNone these.now self.old }
+        ensures { self.new ≡ without_each these.now self.old }
     {
-        take_out(&mut self.numbers, numbers);
+        if these.is_empty() {
+            return;
+        }
+        let all = &mut self.numbers;
+        let at = place_of(all.as_slice(), these);
+        if is_block(all.as_slice(), at, these) {
+            let rest = all.len() - these.len();
+            all.copy_within(at + these.len().., at);
+            all.truncate(rest);
+        } else {
+            sift(all, at, these);
+        }
     }
 }
 
