@@ -1,8 +1,8 @@
 pub mod Naming
+pub mod Readings
 pub mod Kept
 pub mod Commanded
 pub mod Asking
-pub mod Bounds
 pub mod EveryDay
 pub mod Counts
 pub mod Dealt

@@ -1,7 +1,8 @@
 -- What a check file says, judged over the whole list of its records.
 use Rattle.std.specs.Prelude.{ℕ, ◌+◌, Bool, ◌&&◌, ◌||◌, nat_le, if◌then◌else◌, List, [], ◌∷◌, ◌++◌, length, codes, Result, Ok, Err}
 use Rattle.record_text.specs.Causes.{◌>>=◌, demand, limit}
-use Rattle.record_text.specs.Records.{Row, has_kind, has_only, judged, number_in, rows_of}
+use Rattle.record_text.specs.Forms.{Number, said_in}
+use Rattle.record_text.specs.Records.{Row, has_kind, judged, rows_of}
 use Rattle.day_text.specs.Trucks.{load_of, truck_fields_of}
 use Rattle.fleet.specs.declared.base.Truck.{Truck}
 use Rattle.day_text.specs.declared.check_file.Probe.{Probe}
@@ -27,9 +28,7 @@ checked_truck_of fields = do
 -- probe,INCHES,RATING: the span has 1 to 6,000 in, the rating is at most 100,000 per mille, and there are at most 64
 unfoldable pub probe_of : List Probe → Row → Result Probe Cause
 probe_of probes fields = do
-  rest ← has_only 3 fields
-  inches ← number_in 2 fields
-  rating ← number_in 3 fields
+  (inches, (rating, rest)) ← said_in (Number ∷ Number ∷ []) fields
   a ← demand (nat_le 1 inches && nat_le inches 6000) (bad.Range 2)
   b ← demand (nat_le rating 100000) (bad.Range 3)
   c ← limit (nat_le (length probes + 1) 64) kind.Probes
@@ -51,7 +50,7 @@ judge_probe file fields = probes_of file.probes fields >>= (λ probes. Ok (so_fa
 
 -- the end
 unfoldable pub judge_end : CheckFile → Row → Result CheckProgress Cause
-judge_end file fields = has_only 1 fields >>= (λ rest. Ok (so_far.Ended file))
+judge_end file fields = said_in [] fields >>= (λ nothing. Ok (so_far.Ended file))
 
 -- a record behind the truck: a probe or the end
 unfoldable pub judge_later : CheckFile → Row → Result CheckProgress Cause

@@ -12,16 +12,15 @@ use Rattle.trip_applications.specs.declared.refusal.ApplicationRefusal.{Applicat
 use Rattle.trip_applications.specs.declared.refusal.ApplicationRefusal.TheVariants.{AnnualDays, BrokenRoute, DayOrder, SamePlace}
 use Rattle.trip_applications.specs.Applications.{application_of, application_refusal}
 use Rattle.record_text.specs.Causes.{◌>>=◌, demand, limit, or_bad, unless_refused}
-use Rattle.record_text.specs.Fields.{field_of, of_each, posted_of, routes_field}
+use Rattle.record_text.specs.Fields.{of_each}
+use Rattle.record_text.specs.Forms.{Day, Name, Number, Posted, Routes, said_in}
 use Rattle.day_text.specs.Fleets.{truck_names}
-use Rattle.record_text.specs.Records.{Row, day_in, has_only, name_in, number_in}
+use Rattle.record_text.specs.Records.{Row}
 use Rattle.office_words.specs.declared.entry.Command.TheVariants as command
 use Rattle.day_text.specs.declared.commands.ApplyFields.{ApplyFields}
 use Rattle.day_text.specs.declared.day_so_far.DaySoFar.{DaySoFar}
-use Rattle.record_text.specs.declared.posted.Posted.{Posted}
+use Rattle.record_text.specs.declared.posted.Posted.{Posted as PostedWord}
 use Rattle.record_text.specs.declared.posted.Posted.TheVariants as posted
-use Rattle.day_text.specs.declared.kind.CommandKind.{CommandKind}
-use Rattle.day_text.specs.declared.kind.CommandKind.TheVariants.{Apply, Post, SetDay, Show, Surrender}
 use Rattle.day_text.specs.declared.orders.Order.{Order}
 use Rattle.record_text.specs.declared.refusal.Cause.{Cause}
 use Rattle.record_text.specs.declared.refusal.RecordCause.{RecordCause}
@@ -31,13 +30,7 @@ use Rattle.record_text.specs.declared.refusal.Kind.TheVariants as kind
 -- the fields of an application's record, each in its form
 unfoldable pub apply_fields_of : Row → Result ApplyFields Cause
 apply_fields_of fields = do
-  actor ← name_in 2 fields
-  truck ← name_in 3 fields
-  from ← name_in 4 fields
-  to ← name_in 5 fields
-  routes ← or_bad (bad.Field 6) (routes_field (field_of fields 5))
-  first ← day_in 7 fields
-  last ← day_in 8 fields
+  (actor, (truck, (from, (to, (routes, (first, (last, rest))))))) ← said_in (Name ∷ Name ∷ Name ∷ Name ∷ Routes ∷ Day ∷ Day ∷ []) fields
   Ok (record { actor = actor; truck = truck; from = from; to = to; routes = routes; first = first; last = last })
 
 -- the numbers of the segments of a route, where each of its names is a segment's
@@ -79,7 +72,7 @@ abbrev pub apply_of : DaySoFar → Row → Result Order Cause
 apply_of d fields = apply_fields_of fields >>= resolved_of d
 
 -- a posting on a segment, or on a span where it is of a rating
-unfoldable pub posting_of : Roads → Posted → List ℕ → ℕ → Result Change Cause
+unfoldable pub posting_of : Roads → PostedWord → List ℕ → ℕ → Result Change Cause
 posting_of roads (posted.Limit what) item value = do
   i ← or_bad (bad.Unknown 3) (number_named item (segment_names roads.segments))
   a ← demand (is_limit what value) (bad.Range 5)
@@ -92,11 +85,7 @@ posting_of roads posted.Rating item value = do
 -- post,ACTOR,ITEM,WHAT,VALUE
 unfoldable pub post_of : DaySoFar → Row → Result Order Cause
 post_of d fields = do
-  rest ← has_only 5 fields
-  name ← name_in 2 fields
-  item ← name_in 3 fields
-  what ← or_bad (bad.Field 4) (posted_of (field_of fields 3))
-  value ← number_in 5 fields
+  (name, (item, (what, (value, rest)))) ← said_in (Name ∷ Name ∷ Posted ∷ Number ∷ []) fields
   actor ← or_bad (bad.Unknown 2) (number_named name d.actors)
   posting ← posting_of d.network what item value
   Ok (record { actor = actor; command = command.Post posting })
@@ -104,9 +93,7 @@ post_of d fields = do
 -- setday,ACTOR,DAY
 unfoldable pub set_day_of : DaySoFar → Row → Result Order Cause
 set_day_of d fields = do
-  rest ← has_only 3 fields
-  name ← name_in 2 fields
-  text ← day_in 3 fields
+  (name, (text, rest)) ← said_in (Name ∷ Day ∷ []) fields
   actor ← or_bad (bad.Unknown 2) (number_named name d.actors)
   day ← or_bad (bad.Range 3) text
   Ok (record { actor = actor; command = command.Day day })
@@ -114,9 +101,7 @@ set_day_of d fields = do
 -- surrender,ACTOR,NUMBER and show,ACTOR,NUMBER: the actor and the number of a permit
 unfoldable pub asked_permit_of : DaySoFar → Row → Result (ℕ × ℕ) Cause
 asked_permit_of d fields = do
-  rest ← has_only 3 fields
-  name ← name_in 2 fields
-  number ← number_in 3 fields
+  (name, (number, rest)) ← said_in (Name ∷ Number ∷ []) fields
   actor ← or_bad (bad.Unknown 2) (number_named name d.actors)
   Ok (actor, number)
 
@@ -127,14 +112,6 @@ surrender_of d fields = asked_permit_of d fields >>= (λ x. Ok (record { actor =
 -- show,ACTOR,NUMBER: the actor asks what the permit of that number is
 abbrev pub show_of : DaySoFar → Row → Result Order Cause
 show_of d fields = asked_permit_of d fields >>= (λ x. Ok (record { actor = x.0; command = command.Show x.1 }))
-
--- the command of a record
-abbrev pub order_of : DaySoFar → CommandKind → Row → Result Order Cause
-order_of d Apply fields = apply_of d fields
-order_of d Post fields = post_of d fields
-order_of d SetDay fields = set_day_of d fields
-order_of d Surrender fields = surrender_of d fields
-order_of d Show fields = show_of d fields
 
 -- one command more, of at most 4,096
 abbrev pub with_order : List Order → Order → Result (List Order) Cause

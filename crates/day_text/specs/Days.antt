@@ -1,19 +1,19 @@
 -- What a day file says, judged over the whole list of its records.
-use Rattle.std.specs.Prelude.{ℕ, List, [], Result, Ok, Err}
-use Rattle.road_graph.specs.Roads.{no_roads}
+use Rattle.std.specs.Prelude.{ℕ, List, [], ◌∷◌, Option, Some, None, Result, Ok, Err}
+use Rattle.road_graph.specs.Roads.{Roads, no_roads}
 use Rattle.fleet.specs.Bases.{BaseLists}
+use Rattle.fleet.specs.declared.base.Truck.{Truck}
 use Rattle.record_text.specs.Causes.{◌>>=◌, or_bad}
-use Rattle.day_text.specs.Commands.{order_of, with_order}
 use Rattle.record_text.specs.Fields.{field_of}
+use Rattle.record_text.specs.Forms.{Day as day_form, said_in}
+use Rattle.record_text.specs.Records.{Row, judged, rows_of}
+use Rattle.day_text.specs.Commands.{apply_of, post_of, set_day_of, show_of, surrender_of, with_order}
 use Rattle.day_text.specs.Fleets.{actors_of, fleet_of}
 use Rattle.day_text.specs.Kinds.{kind_of}
-use Rattle.record_text.specs.Records.{Row, day_in, has_only, judged, rows_of}
-use Rattle.day_text.specs.Roads.{roads_of}
+use Rattle.day_text.specs.Roads.{with_limit_of, with_node_of, with_segment_of, with_span_of}
 use Rattle.day_text.specs.declared.day_so_far.DaySoFar.{DaySoFar}
 use Rattle.day_text.specs.declared.kind.RecordKind.{RecordKind}
-use Rattle.day_text.specs.declared.kind.CommandKind.{CommandKind}
-use Rattle.day_text.specs.declared.kind.RecordKind.TheVariants.{Actor, Command, Day, End, Road, Truck}
-use Rattle.day_text.specs.declared.kind.RoadKind.{RoadKind}
+use Rattle.day_text.specs.declared.kind.RecordKind.TheVariants.{Actor, Apply, Day, End, Limit, Node, Post, Segment, SetDay, Show, Span, Surrender, Truck as truck_kind}
 use Rattle.day_text.specs.declared.orders.Order.{Order}
 use Rattle.day_text.specs.declared.progress.DayProgress.{DayProgress}
 use Rattle.day_text.specs.declared.progress.DayProgress.TheVariants as so_far
@@ -29,61 +29,68 @@ pub record DayParts : Type 0 where
   pub actors : List (List ℕ)
   pub commands : List Order
 
--- day,DAY
-unfoldable pub opening_of : Row → Result (List ℕ) Cause
-opening_of fields = do
-  rest ← has_only 2 fields
-  text ← day_in 2 fields
-  or_bad (bad.Range 2) text
-
 -- a day on which nothing else was said
 abbrev pub fresh_day : List ℕ → DaySoFar
 fresh_day day = record { network = no_roads; day = day; fleet = []; actors = []; orders = [] }
 
--- the first record: it is a day
-abbrev pub judge_opening : RecordKind → Row → Result DayProgress Cause
-judge_opening Day fields = opening_of fields >>= (λ day. Ok (so_far.Open (fresh_day day)))
-judge_opening (Road kind) fields = Err (why.Bad bad.Order)
-judge_opening Truck fields = Err (why.Bad bad.Order)
-judge_opening Actor fields = Err (why.Bad bad.Order)
-judge_opening (Command kind) fields = Err (why.Bad bad.Order)
-judge_opening End fields = Err (why.Bad bad.Order)
+-- day,DAY
+unfoldable pub opening_of : Row → Result DaySoFar Cause
+opening_of fields = do
+  (text, rest) ← said_in (day_form ∷ []) fields
+  day ← or_bad (bad.Range 2) text
+  Ok (fresh_day day)
 
--- what a record of the road network adds, between the day and the end
-abbrev pub with_road : DaySoFar → RoadKind → Row → Result DaySoFar Cause
-with_road d kind fields = roads_of d.network kind fields >>= (λ roads. Ok (record d { network = roads }))
+-- what was said so far, with these roads
+abbrev pub on_roads : DaySoFar → Result Roads Cause → Result DaySoFar Cause
+on_roads d next = next >>= (λ roads. Ok (record d { network = roads }))
 
--- what a record of a truck adds
-abbrev pub with_truck : DaySoFar → Row → Result DaySoFar Cause
-with_truck d fields = fleet_of d.fleet fields >>= (λ fleet. Ok (record d { fleet = fleet }))
+-- the same, with these trucks
+abbrev pub on_fleet : DaySoFar → Result (List Truck) Cause → Result DaySoFar Cause
+on_fleet d next = next >>= (λ fleet. Ok (record d { fleet = fleet }))
 
--- what a record of an actor adds
-abbrev pub with_actor : DaySoFar → Row → Result DaySoFar Cause
-with_actor d fields = actors_of d.actors fields >>= (λ actors. Ok (record d { actors = actors }))
+-- the same, with these actors
+abbrev pub on_actors : DaySoFar → Result (List (List ℕ)) Cause → Result DaySoFar Cause
+on_actors d next = next >>= (λ actors. Ok (record d { actors = actors }))
 
--- what a record of a command adds
-abbrev pub with_command : DaySoFar → CommandKind → Row → Result DaySoFar Cause
-with_command d kind fields =
-    order_of d kind fields >>= (λ order. with_order d.orders order >>= (λ orders. Ok (record d { orders = orders })))
+-- the same, with one command more
+abbrev pub on_orders : DaySoFar → Result Order Cause → Result DaySoFar Cause
+on_orders d next = next >>= (λ order. with_order d.orders order >>= (λ orders. Ok (record d { orders = orders })))
 
--- what was said so far, and more records follow
-abbrev pub going_on : Result DaySoFar Cause → Result DayProgress Cause
-going_on next = next >>= (λ d. Ok (so_far.Open d))
+-- what a record of each kind adds to what was said so far
+abbrev pub added : DaySoFar → RecordKind → Row → Result DaySoFar Cause
+added d Day fields = opening_of fields
+added d Node fields = on_roads d (with_node_of d.network fields)
+added d Segment fields = on_roads d (with_segment_of d.network fields)
+added d Limit fields = on_roads d (with_limit_of d.network fields)
+added d Span fields = on_roads d (with_span_of d.network fields)
+added d truck_kind fields = on_fleet d (fleet_of d.fleet fields)
+added d Actor fields = on_actors d (actors_of d.actors fields)
+added d Apply fields = on_orders d (apply_of d fields)
+added d Post fields = on_orders d (post_of d fields)
+added d SetDay fields = on_orders d (set_day_of d fields)
+added d Surrender fields = on_orders d (surrender_of d fields)
+added d Show fields = on_orders d (show_of d fields)
+added d End fields = said_in [] fields >>= (λ nothing. Ok d)
 
--- a record behind the day: it adds something, or it is the end
-abbrev pub judge_later : DaySoFar → RecordKind → Row → Result DayProgress Cause
-judge_later d Day fields = Err (why.Bad bad.Order)
-judge_later d (Road kind) fields = going_on (with_road d kind fields)
-judge_later d Truck fields = going_on (with_truck d fields)
-judge_later d Actor fields = going_on (with_actor d fields)
-judge_later d (Command kind) fields = going_on (with_command d kind fields)
-judge_later d End fields = has_only 1 fields >>= (λ rest. Ok (so_far.Ended d))
+-- what was said in front of a record, where its kind may stand there: the day comes first, the end last, and the others between
+abbrev pub said_before : DayProgress → RecordKind → Option DaySoFar
+said_before so_far.Start Day = Some (fresh_day [])
+said_before so_far.Start kind = None
+said_before (so_far.Open d) Day = None
+said_before (so_far.Open d) kind = Some d
+said_before (so_far.Ended d) kind = None
 
--- where a record of a known kind leads; nothing follows the end
+-- how far the records have come behind a record
+abbrev pub come_to : RecordKind → DaySoFar → DayProgress
+come_to End d = so_far.Ended d
+come_to kind d = so_far.Open d
+
+-- where a record of a known kind leads
 abbrev pub judge_kind : DayProgress → RecordKind → Row → Result DayProgress Cause
-judge_kind so_far.Start kind fields = judge_opening kind fields
-judge_kind (so_far.Open d) kind fields = judge_later d kind fields
-judge_kind (so_far.Ended d) kind fields = Err (why.Bad bad.Order)
+judge_kind progress kind fields = do
+  d ← or_bad bad.Order (said_before progress kind)
+  next ← added d kind fields
+  Ok (come_to kind next)
 
 -- where a record of eight fields leads
 abbrev pub judge_day : DayProgress → Row → Result DayProgress Cause

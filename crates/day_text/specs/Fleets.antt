@@ -2,7 +2,8 @@
 use Rattle.std.specs.Prelude.{ℕ, not, nat_lt, List, [], ◌∷◌, ◌++◌, length, map, Result, Ok}
 use Rattle.road_graph.specs.Roads.{has_name}
 use Rattle.record_text.specs.Causes.{◌>>=◌, demand, limit}
-use Rattle.record_text.specs.Records.{Row, has_only, name_in}
+use Rattle.record_text.specs.Forms.{Name, said_in}
+use Rattle.record_text.specs.Records.{Row}
 use Rattle.day_text.specs.Trucks.{load_of, truck_fields_of}
 use Rattle.day_text.specs.declared.truck.TruckFields.{TruckFields}
 use Rattle.fleet.specs.declared.base.Truck.{Truck}
@@ -33,8 +34,7 @@ fleet_of trucks fields = truck_fields_of fields >>= fleet_with trucks
 -- actor,NAME
 unfoldable pub actors_of : List (List ℕ) → Row → Result (List (List ℕ)) Cause
 actors_of actors fields = do
-  rest ← has_only 2 fields
-  name ← name_in 2 fields
+  (name, rest) ← said_in (Name ∷ []) fields
   a ← demand (not (has_name name actors)) bad.Same
   b ← limit (nat_lt (length actors) most_actors) kind.Actors
   Ok (actors ++ name ∷ [])

@@ -3,11 +3,10 @@
 ghost use Rattle.std.specs.Prelude.{◌≡◌};
 ghost use Rattle.csv.specs.Records.{fields_of};
 ghost use Rattle.record_text.specs.Causes.{Judges};
-ghost use Rattle.day_text.specs.Commands.{apply_fields_of, apply_of, cause_of, order_of, asked_permit_of, post_of, posting_of, set_day_of};
+ghost use Rattle.day_text.specs.Commands.{apply_fields_of, apply_of, cause_of, asked_permit_of, post_of, posting_of, set_day_of};
 
 use crate::asked::find_asked;
 use crate::day_so_far::DaySoFar;
-use crate::kind::CommandKind;
 use crate::orders::Order;
 use crate::referred::known;
 use csv::StringRecord;
@@ -35,39 +34,13 @@ pub(crate) struct ApplyFields<'a> {
     pub last: Option<Day>,
 }
 
-/// The command of a record, for its actor.
-pub(crate) fn parse_order(
+/// The application of a record, for its actor: the fields in their forms first, and then what they refer to.
+#[tactic(auto, unfolding(crate::specs::Commands::resolved_of))]
+pub(crate) fn parse_apply(
     alloc: Global,
     so_far: &DaySoFar,
-    kind: CommandKind,
     row: &StringRecord,
 ) -> Result<Order, RecordRefusal>
-    ensures { Judges result (order_of so_far.now kind (fields_of row.now)) }
-{
-    match kind {
-        CommandKind::Apply => parse_apply(alloc, so_far, row),
-        CommandKind::Post => parse_post(so_far, row),
-        CommandKind::SetDay => parse_set_day(so_far, row),
-        CommandKind::Surrender => {
-            let (actor, number) = parse_permit(so_far, row)?;
-            Ok(Order {
-                actor,
-                command: Command::Surrender(number),
-            })
-        }
-        CommandKind::Show => {
-            let (actor, number) = parse_permit(so_far, row)?;
-            Ok(Order {
-                actor,
-                command: Command::Show(number),
-            })
-        }
-    }
-}
-
-// The application of a record, for its actor: the fields in their forms first, and then what they refer to.
-#[tactic(auto, unfolding(crate::specs::Commands::resolved_of))]
-fn parse_apply(alloc: Global, so_far: &DaySoFar, row: &StringRecord) -> Result<Order, RecordRefusal>
     ensures { Judges result (apply_of so_far.now (fields_of row.now)) }
 {
     let fields = parse_apply_fields(row)?;
@@ -92,9 +65,9 @@ fn parse_apply(alloc: Global, so_far: &DaySoFar, row: &StringRecord) -> Result<O
     }
 }
 
-// The posting of a record, for its actor.
+/// The posting of a record, for its actor.
 #[tactic(auto, unfolding(crate::specs::Commands::post_of))]
-fn parse_post(so_far: &DaySoFar, row: &StringRecord) -> Result<Order, RecordRefusal>
+pub(crate) fn parse_post(so_far: &DaySoFar, row: &StringRecord) -> Result<Order, RecordRefusal>
     ensures { Judges result (post_of so_far.now (fields_of row.now)) }
 {
     has_only(row, 5)?;
@@ -112,9 +85,9 @@ fn parse_post(so_far: &DaySoFar, row: &StringRecord) -> Result<Order, RecordRefu
     })
 }
 
-// The setting of the day of a record, for its actor.
+/// The setting of the day of a record, for its actor.
 #[tactic(auto, unfolding(crate::specs::Commands::set_day_of))]
-fn parse_set_day(so_far: &DaySoFar, row: &StringRecord) -> Result<Order, RecordRefusal>
+pub(crate) fn parse_set_day(so_far: &DaySoFar, row: &StringRecord) -> Result<Order, RecordRefusal>
     ensures { Judges result (set_day_of so_far.now (fields_of row.now)) }
 {
     has_only(row, 3)?;
@@ -135,6 +108,7 @@ fn parse_set_day(so_far: &DaySoFar, row: &StringRecord) -> Result<Order, RecordR
 fn parse_apply_fields(row: &StringRecord) -> Result<ApplyFields<'_>, Cause>
     ensures { result ≡ apply_fields_of (fields_of row.now) }
 {
+    has_only(row, 8)?;
     let actor = name_in(row, 2)?;
     let truck = name_in(row, 3)?;
     let from = name_in(row, 4)?;
@@ -189,9 +163,9 @@ fn posting(network: &Network, what: Posted, item: &Name, value: u32) -> Result<C
     }
 }
 
-// The actor and the permit's number of a record.
+/// The actor and the permit's number of a record.
 #[tactic(auto, unfolding(crate::specs::Commands::asked_permit_of))]
-fn parse_permit(so_far: &DaySoFar, row: &StringRecord) -> Result<(u32, u32), Cause>
+pub(crate) fn parse_permit(so_far: &DaySoFar, row: &StringRecord) -> Result<(u32, u32), Cause>
     ensures { result ≡ asked_permit_of so_far.now (fields_of row.now) }
 {
     has_only(row, 3)?;

@@ -7,30 +7,18 @@ ghost use Rattle.day_text.specs.Kinds.{kind_of};
 #[derive(Clone, Copy)]
 pub(crate) enum RecordKind {
     Day,
-    Road(RoadKind),
-    Truck,
-    Actor,
-    Command(CommandKind),
-    End,
-}
-
-/// What a record says of the road network.
-#[derive(Clone, Copy)]
-pub(crate) enum RoadKind {
     Node,
     Segment,
     Limit,
     Span,
-}
-
-/// What an actor has the office do.
-#[derive(Clone, Copy)]
-pub(crate) enum CommandKind {
+    Truck,
+    Actor,
     Apply,
     Post,
     SetDay,
     Surrender,
     Show,
+    End,
 }
 
 /// The kind that a word means.
@@ -39,18 +27,18 @@ pub(crate) fn parse_kind(text: &str) -> Option<RecordKind>
 {
     match text {
         "day" => Some(RecordKind::Day),
+        "node" => Some(RecordKind::Node),
+        "segment" => Some(RecordKind::Segment),
+        "limit" => Some(RecordKind::Limit),
+        "span" => Some(RecordKind::Span),
         "truck" => Some(RecordKind::Truck),
         "actor" => Some(RecordKind::Actor),
+        "apply" => Some(RecordKind::Apply),
+        "post" => Some(RecordKind::Post),
+        "setday" => Some(RecordKind::SetDay),
+        "surrender" => Some(RecordKind::Surrender),
+        "show" => Some(RecordKind::Show),
         "end" => Some(RecordKind::End),
-        "node" => Some(RecordKind::Road(RoadKind::Node)),
-        "segment" => Some(RecordKind::Road(RoadKind::Segment)),
-        "limit" => Some(RecordKind::Road(RoadKind::Limit)),
-        "span" => Some(RecordKind::Road(RoadKind::Span)),
-        "apply" => Some(RecordKind::Command(CommandKind::Apply)),
-        "post" => Some(RecordKind::Command(CommandKind::Post)),
-        "setday" => Some(RecordKind::Command(CommandKind::SetDay)),
-        "surrender" => Some(RecordKind::Command(CommandKind::Surrender)),
-        "show" => Some(RecordKind::Command(CommandKind::Show)),
         _ => None,
     }
 }

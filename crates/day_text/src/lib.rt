@@ -10,6 +10,7 @@
 //! for its roads and trucks. It hands out each actor's script, which has the actor's commands in their order and no others.
 #![tactic(auto)]
 
+mod adding;
 mod asked;
 mod check_file;
 mod commands;

@@ -6,18 +6,16 @@
 ghost use Rattle.std.specs.Prelude.{◌≡◌, Ok, Err, OnOk, IfErr};
 ghost use Rattle.csv.specs.Records.{fields_of};
 ghost use Rattle.record_text.specs.Causes.{Judges};
-ghost use Rattle.day_text.specs.Days.{judge_day, judge_kind, judge_later, judge_opening};
+ghost use Rattle.day_text.specs.Days.{come_to, judge_day, judge_kind};
 
-use crate::commands::parse_order;
+use crate::adding::add;
 use crate::day_so_far::{DaySoFar, Growing};
 use crate::kind::{RecordKind, parse_kind};
-use crate::members::{add_actor, add_truck};
 use crate::name_set::Names;
 use crate::orders::Orders;
-use crate::roads::add_road;
 use crate::trucks::Fleet;
 use csv::StringRecord;
-use record_text::{Progress, RecordCause, RecordRefusal, day_in, field, has_only, is_blank_from};
+use record_text::{Progress, RecordCause, RecordRefusal, day_in, field, has_only};
 use road_graph::Network;
 use std::alloc::Global;
 
@@ -69,7 +67,7 @@ fn take_opening(
     kind: RecordKind,
     row: &StringRecord,
 ) -> Result<DayProgress, RecordRefusal>
-    ensures { Judges result (judge_opening kind (fields_of row.now)) }
+    ensures { Judges result (judge_kind DayProgress.Start kind (fields_of row.now)) }
 {
     match kind {
         RecordKind::Day => {
@@ -97,7 +95,7 @@ fn take_later(
     kind: RecordKind,
     row: &StringRecord,
 ) -> Result<DayProgress, RecordRefusal>
-    ensures { Judges result (judge_later growing kind (fields_of row.now)) }
+    ensures { Judges result (judge_kind (DayProgress.Open growing) kind (fields_of row.now)) }
 {
     let mut growing = growing;
     match kind {
@@ -105,44 +103,26 @@ fn take_later(
             drop(growing);
             Err(RecordRefusal::bad(RecordCause::Order))
         }
-        RecordKind::Road(kind) => {
-            let taken = add_road(&mut growing.so_far.network, kind, row);
-            keep_going(growing, taken)
-        }
-        RecordKind::Truck => {
-            let taken = add_truck(alloc, &mut growing.so_far.fleet, row);
-            keep_going(growing, taken)
-        }
-        RecordKind::Actor => {
-            let taken = add_actor(&mut growing.so_far.actors, row);
-            keep_going(growing, taken)
-        }
-        RecordKind::Command(kind) => {
-            let taken = match parse_order(alloc, &growing.so_far, kind, row) {
-                Ok(order) => growing.so_far.orders.push(order),
-                Err(refusal) => Err(refusal),
-            };
-            keep_going(growing, taken)
-        }
-        RecordKind::End if is_blank_from(row, 1) => Ok(DayProgress::Ended(growing)),
-        RecordKind::End => {
-            drop(growing);
-            Err(RecordRefusal::bad(RecordCause::Extra))
+        kind => {
+            let taken = add(alloc, &mut growing.so_far, kind, row);
+            come_to(kind, growing, taken)
         }
     }
 }
 
-// Where a record was taken, the next one follows; else what was said so far is let go.
-fn keep_going(
+// Where a record leads that was taken; where it was refused, what was said so far is let go.
+fn come_to(
+    kind: RecordKind,
     growing: Growing,
     taken: Result<(), RecordRefusal>,
 ) -> Result<DayProgress, RecordRefusal>
-    ensures taken { OnOk taken (result ≡ Ok (DayProgress.Open growing)) }
+    ensures taken { OnOk taken (result ≡ Ok (come_to kind growing)) }
     ensures refused { IfErr taken (λ why. result ≡ Err why) }
 {
-    match taken {
-        Ok(()) => Ok(DayProgress::Open(growing)),
-        Err(refusal) => {
+    match (taken, kind) {
+        (Ok(()), RecordKind::End) => Ok(DayProgress::Ended(growing)),
+        (Ok(()), _) => Ok(DayProgress::Open(growing)),
+        (Err(refusal), _) => {
             drop(growing);
             Err(refusal)
         }

@@ -3,9 +3,8 @@
 ghost use Rattle.std.specs.Prelude.{◌≡◌};
 ghost use Rattle.csv.specs.Records.{fields_of};
 ghost use Rattle.record_text.specs.Causes.{Grows};
-ghost use Rattle.day_text.specs.Roads.{roads_of, with_limit_of, with_node_of, with_segment_of, with_span_of};
+ghost use Rattle.day_text.specs.Roads.{with_limit_of, with_node_of, with_segment_of, with_span_of};
 
-use crate::kind::RoadKind;
 use crate::referred::known;
 use csv::StringRecord;
 use record_text::{
@@ -13,25 +12,9 @@ use record_text::{
 };
 use road_graph::{AddRefusal, Network, Span, What};
 
-/// Adds to the road network what a record says of it.
-pub(crate) fn add_road(
-    network: &mut Network,
-    kind: RoadKind,
-    row: &StringRecord,
-) -> Result<(), RecordRefusal>
-    ensures { Grows result network.new (roads_of network.old kind (fields_of row.now)) }
-{
-    match kind {
-        RoadKind::Node => add_node(network, row),
-        RoadKind::Segment => add_segment(network, row),
-        RoadKind::Limit => set_limit(network, row),
-        RoadKind::Span => add_span(network, row),
-    }
-}
-
-// Adds the node of a record.
+/// Adds the node of a record.
 #[tactic(auto, unfolding(crate::specs::Roads::with_node_of))]
-fn add_node(network: &mut Network, row: &StringRecord) -> Result<(), RecordRefusal>
+pub(crate) fn add_node(network: &mut Network, row: &StringRecord) -> Result<(), RecordRefusal>
     ensures { Grows result network.new (with_node_of network.old (fields_of row.now)) }
 {
     has_only(row, 2)?;
@@ -45,9 +28,9 @@ fn add_node(network: &mut Network, row: &StringRecord) -> Result<(), RecordRefus
     }
 }
 
-// Adds the segment of a record.
+/// Adds the segment of a record.
 #[tactic(auto, using(crate::proofs::Naming::numbered_is_there), unfolding(crate::specs::Roads::with_segment_of))]
-fn add_segment(network: &mut Network, row: &StringRecord) -> Result<(), RecordRefusal>
+pub(crate) fn add_segment(network: &mut Network, row: &StringRecord) -> Result<(), RecordRefusal>
     ensures { Grows result network.new (with_segment_of network.old (fields_of row.now)) }
 {
     has_only(row, 5)?;
@@ -67,9 +50,9 @@ fn add_segment(network: &mut Network, row: &StringRecord) -> Result<(), RecordRe
     }
 }
 
-// Sets the limit of a record.
+/// Sets the limit of a record.
 #[tactic(auto, unfolding(crate::specs::Roads::with_limit_of))]
-fn set_limit(network: &mut Network, row: &StringRecord) -> Result<(), RecordRefusal>
+pub(crate) fn set_limit(network: &mut Network, row: &StringRecord) -> Result<(), RecordRefusal>
     ensures { Grows result network.new (with_limit_of network.old (fields_of row.now)) }
 {
     has_only(row, 4)?;
@@ -86,9 +69,9 @@ fn set_limit(network: &mut Network, row: &StringRecord) -> Result<(), RecordRefu
     }
 }
 
-// Adds the span of a record.
+/// Adds the span of a record.
 #[tactic(auto, using(crate::proofs::Naming::numbered_is_there), unfolding(crate::specs::Roads::with_span_of))]
-fn add_span(network: &mut Network, row: &StringRecord) -> Result<(), RecordRefusal>
+pub(crate) fn add_span(network: &mut Network, row: &StringRecord) -> Result<(), RecordRefusal>
     ensures { Grows result network.new (with_span_of network.old (fields_of row.now)) }
 {
     has_only(row, 5)?;

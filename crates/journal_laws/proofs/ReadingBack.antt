@@ -23,9 +23,8 @@ use Rattle.command_calls.proofs.Runs.{finished_short}
 use Rattle.day_text.specs.Bounds.{IsCommandWithin}
 use Rattle.day_text.specs.Scripts.{script_of}
 use Rattle.day_text.specs.declared.orders.Order.{Order}
-use Rattle.day_text.proofs.Bounds.{day_bounded}
 use Rattle.day_text.proofs.Counts.{below, below-le, count_all}
-use Rattle.day_text.proofs.EveryDay.{day_keeps}
+use Rattle.day_text.proofs.EveryDay.{day_bounded, day_keeps}
 use Rattle.journal_reader.specs.Fits.{FitsChange, FitsIndex, FitsNumber, FitsReplaced}
 use Rattle.journal_text.specs.Journals.{journal_of}
 use Rattle.journal_reader.proofs.Answers.{has_journal, printed_is_read}

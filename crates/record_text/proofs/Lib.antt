@@ -4,5 +4,6 @@ pub mod Judging
 pub mod Blanks
 pub mod Numbers
 pub mod Steps
+pub mod Saying
 pub mod Each
 pub mod Routes
