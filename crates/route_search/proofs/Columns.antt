@@ -1,14 +1,23 @@
 -- Columns of heights.
 use Rattle.std.proofs.Common.{◌≡◌, ◌+◌, ◌≤◌, ◌∷◌, [], ℕ, suc, zero, List, Option, Some, None, replicate, refl, sym, ap, inl, inr, arith, ◌∙◌}
-use Rattle.std.specs.Prelude.{min}
+use Rattle.std.specs.Prelude.{length, min, slice_index_or}
 use Rattle.std.proofs.lemmas.Bool.{cases_eq}
 use Rattle.std.proofs.lemmas.List.{length-replicate}
 use Rattle.road_graph.specs.declared.segment.Segment.{Segment}
 use Rattle.road_graph.specs.Roads.{IsRoads, Roads}
 use Rattle.road_graph.proofs.Places.{get_some}
 use Rattle.route_search.specs.Walks.{every}
-use Rattle.route_search.specs.Heights.{AreHeights, AreLengths, AreLevel, AreZeros, IsColumn, height_at, height_of}
+use Rattle.route_search.specs.Heights.{AreHeights, AreLengths, IsColumn, height_at, height_of}
 use Rattle.route_search.proofs.Uniqueness.{certify}
+
+-- each height of a row is 0
+abbrev pub AreZeros : List ℕ → Type 0
+AreZeros row = (j : ℕ) → slice_index_or row j 0 ≡ 0
+
+-- there is a row for each node, and each height is 0
+pub record AreLevel (nodes : ℕ) (rows : List (List ℕ)) : Type 0 where
+  pub many : length rows ≡ nodes
+  pub level : (v j : ℕ) → height_at rows v j ≡ 0
 
 -- zeros are a row of zeros
 pub zeros : (columns : ℕ) → AreZeros (replicate columns 0)

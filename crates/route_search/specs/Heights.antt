@@ -37,20 +37,6 @@ abbrev pub height_of : Option ℕ → ℕ
 height_of None = 4294967295
 height_of (Some d) = min d 4294967295
 
--- each height of a row is 0
-abbrev pub AreZeros : List ℕ → Type 0
-AreZeros row = (j : ℕ) → slice_index_or row j 0 ≡ 0
-
--- there is a row for each node, and each height is 0
-pub record AreLevel (nodes : ℕ) (rows : List (List ℕ)) : Type 0 where
-  pub many : length rows ≡ nodes
-  pub level : (v j : ℕ) → height_at rows v j ≡ 0
-
--- a row has this height in one column, and the others as before
-pub record IsRaised (row raised : List ℕ) (column height : ℕ) : Type 0 where
-  pub here : slice_index_or raised column 0 ≡ height
-  pub others : (j : ℕ) → j < columns → (j ≡ column → ⊥) → slice_index_or raised j 0 ≡ slice_index_or row j 0
-
 -- one column is that of these lengths, and the others are as before
 pub record IsColumn (old new : List (List ℕ)) (column : ℕ) (lengths : List (Option ℕ)) : Type 0 where
   pub here : (v : ℕ) (p : Option ℕ) → slice_get lengths v ≡ Some p → height_at new v column ≡ height_of p

@@ -40,11 +40,6 @@ pub record IsBelow (potentials : List (Option ℕ)) (u most : ℕ) : Type 0 wher
   pub at : slice_get potentials u ≡ Some (Some value)
   pub below : value ≤ most
 
--- a length is more than a known one
-abbrev pub IsLonger : ℕ → Option ℕ → Type 0
-IsLonger feet None = ⊥
-IsLonger feet (Some least) = least < feet
-
 -- where one start alone is asked for: each walk from it by u and on for so many feet is longer than one that is known
 abbrev pub IsOut : List Segment → Option ℕ → List (Option ℕ) → ℕ → ℕ → Type 0
 IsOut segments None potentials u feet = ⊥
