@@ -1,8 +1,7 @@
 // The recalls of a history, for those who are told of them.
 
-ghost use Rattle.std.specs.Prelude.{◌≡◌, ◌++◌, ℕ, All, IfOk, OnOk};
+ghost use Rattle.std.specs.Prelude.{◌≡◌, ◌++◌, ℕ, IfOk, OnOk};
 ghost use Rattle.std.specs.BTreeMap.{get};
-ghost use Rattle.std.specs.List.{flat_map};
 ghost use Rattle.std.specs.Option.{option_or};
 ghost use Rattle.std.specs.Ordering.{nat_cmp};
 ghost use Rattle.office_core.specs.Recalled.{RecalledWereIssued};
@@ -22,7 +21,11 @@ pub fn recalls(alloc: Global, base: &Base, history: &[Entry]) -> Result<Vec<Reca
     ensures { IfOk result (λ recalls. recalls.items ≡ recalls_in base.now history.now) }
 {
     let trucks = issued_trucks(alloc, history)?;
-    recalls_by(alloc, base, &trucks, history)
+    let mut recalls = Vec::new(alloc);
+    for entry in history {
+        push_recalls(&mut recalls, base, &trucks, &entry.reply)?;
+    }
+    Ok(recalls)
 }
 
 // The truck of each permit that was issued, by its number.
@@ -51,24 +54,6 @@ fn keep_truck(trucks: &mut BTreeMap<u32, u32>, entry: &Entry) -> Result<(), NoMe
         }
         _ => Ok(()),
     }
-}
-
-// The recalls of all entries, where the trucks of the permits are known.
-fn recalls_by(
-    alloc: Global,
-    base: &Base,
-    trucks: &BTreeMap<u32, u32>,
-    history: &[Entry],
-) -> Result<Vec<Recall>, NoMemory>
-    requires { All (λ e. HasTrucks base.now (get nat_cmp trucks.now) e.reply) history.now }
-    ensures { IfOk result (λ recalls. recalls.items
-        ≡ flat_map (λ e. recalls_by base.now (get nat_cmp trucks.now) e.reply) history.now) }
-{
-    let mut recalls = Vec::new(alloc);
-    for entry in history {
-        push_recalls(&mut recalls, base, trucks, &entry.reply)?;
-    }
-    Ok(recalls)
 }
 
 // Adds the recalls of an answer, if it is that of a posting.
