@@ -3,10 +3,7 @@ use Rattle.std.specs.Prelude.{◌≡◌, ◌<◌, ◌+◌, ℕ, List, length, Al
 use Rattle.std.specs.Arc.{arc_value}
 use Rattle.office_words.specs.declared.entry.Entry.{Entry}
 use Rattle.office_words.specs.declared.entry.Call.{Call}
-use Rattle.trip_applications.specs.declared.application.Application.{Application}
-use Rattle.trip_analysis.specs.declared.finding.What.{What}
-use Rattle.trip_analysis.specs.Findings.{IsFinding}
-use Rattle.office_core.specs.Machine.{MayAsk, Step, after_entry, opened, state_at, version_of}
+use Rattle.office_core.specs.Machine.{MayAsk, Step, after_entry, opened, version_of}
 use Rattle.office_core.specs.Registers.{stored_now}
 use Rattle.journal_audit.specs.declared.auditor.Auditor.{Auditor}
 use Rattle.journal_audit.specs.Seats.{IsSeat}
@@ -32,10 +29,6 @@ IsNamedBy a c = IsNamed a.versions.named.items c
 -- the call may be asked of the office
 abbrev pub MayBeAsked : Auditor → Call → Type 0
 MayBeAsked a c = MayAsk a.replay.base a.replay.machine c
-
--- this is what is found for the application at a version
-abbrev pub IsFoundThen : Auditor → ℕ → Application → What → Type 0
-IsFoundThen a seen application w = IsFinding a.replay.base (state_at a.replay.base a.replay.machine seen) application w
 
 -- the entry is a step of the machine
 abbrev pub IsStepOf : Auditor → Entry → Type 0

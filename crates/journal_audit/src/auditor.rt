@@ -1,16 +1,13 @@
 // Who judges the entries of a history, one after another.
 
-ghost use Rattle.std.specs.Prelude.{◌≡◌, ◌≢◌, ◌↔◌, ◌≤◌, ◌+◌, All, IfOk, false, length, true};
+ghost use Rattle.std.specs.Prelude.{◌≡◌, ◌≢◌, ◌↔◌, ◌≤◌, All, IfOk, false, length, true};
 ghost use Rattle.office_words.specs.declared.entry.Call.TheVariants as call;
 ghost use Rattle.office_words.specs.declared.entry.Reply.TheVariants as reply;
 ghost use Rattle.journal_audit.specs.declared.versions.Versions.{Versions};
 ghost use Rattle.journal_audit.specs.Seats.{IsSeat};
 ghost use Rattle.std.specs.Arc.{arc_value};
-ghost use Rattle.trip_applications.specs.Applications.{Sound};
-ghost use Rattle.office_core.specs.Machine.{HasRoom, IsFound, opened, version_of};
-ghost use Rattle.journal_audit.specs.Auditors.{HasMark, HasOpened, HasPassed, IsAuditor, IsNamedBy, IsStepOf, MayBeAsked, IsFoundThen, OnlyLooked};
-ghost use Rattle.office_core.specs.Registers.{stored_now};
-ghost use Rattle.journal_audit.specs.Versions.{AreVersions, HasKept, IsNamed, versions_of};
+ghost use Rattle.office_core.specs.Machine.{HasRoom, IsFound};
+ghost use Rattle.journal_audit.specs.Auditors.{HasMark, HasOpened, HasPassed, IsAuditor, IsNamedBy, IsStepOf, MayBeAsked, OnlyLooked};
 
 use crate::sameness::{are_same_findings, are_same_replies};
 use crate::seat::Seat;
@@ -24,7 +21,7 @@ use permit_days::Day;
 use std::alloc::Global;
 use std::sync::Arc;
 use std::sync::ledger::Ledger;
-use trip_analysis::{Proposal, What};
+use trip_analysis::Proposal;
 use trip_applications::Application;
 
 /// How many callers have a seat of their own: as many as a day file has actors. Further ones share these, which changes no verdict.
@@ -53,7 +50,7 @@ impl Auditor {
     {
         let seats = empty_seats(alloc, &base)?;
         let replay = Replay::open(alloc, Arc::try_clone(&base)?, day)?;
-        let versions = first_versions(alloc, &replay, history)?;
+        let versions = Versions::open(alloc, &replay, history)?;
         Ok(Auditor {
             base,
             replay,
@@ -108,7 +105,8 @@ impl Auditor {
         }
     }
 
-    // Whether a proposal is what is found for the application at the version that it names, and that version was reached.
+    // Whether a proposal is what is found for the application at the version that it names, by what is known at the caller's
+    // seat, and that version was reached.
     fn is_found<L: Ledger>(
         &mut self,
         caller: u32,
@@ -126,26 +124,15 @@ impl Auditor {
         if !application.is_sound(&self.base) || proposal.seen > self.replay.version() {
             return Ok(false);
         }
-        let what = self.find_again(caller, application, proposal.seen, steps)?;
-        Ok(are_same_findings(&what, &proposal.what))
-    }
-
-    // What is found again for an application at a version that is kept, by what is known at the caller's seat.
-    fn find_again<L: Ledger>(
-        &mut self,
-        caller: u32,
-        application: &Application,
-        seen: u32,
-        steps: &mut Steps<L>,
-    ) -> Result<What, NoMemory>
-        requires auditor { IsAuditor self.old }
-        requires sound { Sound self.old.replay.base application.now }
-        requires kept { HasKept self.old.versions seen }
-        ensures found { IfOk result (IsFoundThen self.old seen application.now) }
-        ensures looked { OnlyLooked self.old self.new }
-    {
         let seat = &mut self.seats[caller as usize % SEATS];
-        seat.find(&self.base, &self.versions, seen, application, steps)
+        let what = seat.find(
+            &self.base,
+            &self.versions,
+            proposal.seen,
+            application,
+            steps,
+        )?;
+        Ok(are_same_findings(&what, &proposal.what))
     }
 
     // Asks the call of an entry again, and compares the replies. That of the entry is not want of memory.
@@ -167,20 +154,6 @@ impl Auditor {
         self.versions.go_on(&self.replay)?;
         Ok(true)
     }
-}
-
-// The versions of an office on which nothing is posted yet.
-fn first_versions(alloc: Global, replay: &Replay, history: &[Entry]) -> Result<Versions, NoMemory>
-    requires few { length history.now ≤ 1000000 }
-    requires none { version_of replay.now.machine ≡ 0 }
-    ensures named { IfOk result (λ v. All (λ e. IsNamed v.named.items e.call) history.now) }
-    ensures marks { IfOk result (λ v. length v.named.items ≡ length history.now + 1) }
-    ensures versions { IfOk result (AreVersions (stored_now replay.now)) }
-    ensures all { IfOk result (λ v. length v.kept.items ≡ versions_of (stored_now replay.now)) }
-{
-    let mut versions = Versions::of(alloc, history)?;
-    versions.go_on(replay)?;
-    Ok(versions)
 }
 
 // Seats at which nothing is known yet.

@@ -4,7 +4,6 @@ ghost use Rattle.std.specs.Prelude.{◌≡◌, ◌↔◌, true};
 ghost use Rattle.journal_audit.specs.Replies.{IsShown};
 
 use office_words::Reply;
-use road_graph::Numbers;
 use trip_analysis::What;
 use trip_routes::SharedRoutes;
 
@@ -47,7 +46,7 @@ pub(crate) fn are_same_replies(one: &Reply, other: &Reply) -> bool
         Reply::Late { day } => matches!(other, Reply::Late { day: d } if d == day),
         Reply::Posted { version, recalled } => {
             matches!(other, Reply::Posted { version: v, recalled: r }
-                if v == version && are_same_numbers(recalled, r))
+                if v == version && recalled.as_slice() == r.as_slice())
         }
         Reply::OutOfRange => matches!(other, Reply::OutOfRange),
         Reply::DayIs { day } => matches!(other, Reply::DayIs { day: d } if d == day),
@@ -117,11 +116,4 @@ fn are_same_routes(one: &SharedRoutes, other: &SharedRoutes) -> bool
         }
     }
     true
-}
-
-// Whether the numbers are the same.
-fn are_same_numbers(one: &Numbers, other: &Numbers) -> bool
-    ensures { (result ≡ true) ↔ (one.now ≡ other.now) }
-{
-    one.as_slice() == other.as_slice()
 }

@@ -2,6 +2,7 @@
 
 ghost use Rattle.std.specs.Prelude.{◌≡◌, ◌+◌, ◌≤◌, ℕ, [], All, IfOk, IfSome, OnOk, is_some, length, true};
 ghost use Rattle.snapshot_store.specs.Stores.{Stored};
+ghost use Rattle.office_core.specs.Machine.{version_of};
 ghost use Rattle.office_core.specs.Registers.{stored_now};
 ghost use Rattle.journal_audit.specs.Versions.{AreVersions, HasKept, IsKeptAt, IsMarkedVersion, IsNamed, versions_of};
 
@@ -23,17 +24,25 @@ pub(crate) struct Versions {
 }
 
 impl Versions {
-    /// No version yet of a history that has these entries.
-    pub(crate) fn of(alloc: Global, history: &[Entry]) -> Result<Versions, NoMemory>
-        requires { length history.now ≤ 1000000 }
+    /// The one version of an office on which nothing is posted yet, for a history that has these entries.
+    pub(crate) fn open(
+        alloc: Global,
+        replay: &Replay,
+        history: &[Entry],
+    ) -> Result<Versions, NoMemory>
+        requires few { length history.now ≤ 1000000 }
+        requires none { version_of replay.now.machine ≡ 0 }
         ensures named { IfOk result (λ v. All (λ e. IsNamed v.named.items e.call) history.now) }
-        ensures count { IfOk result (λ v. length v.named.items ≡ length history.now + 1) }
-        ensures none { IfOk result (λ v. v.kept.items ≡ []) }
+        ensures marks { IfOk result (λ v. length v.named.items ≡ length history.now + 1) }
+        ensures versions { IfOk result (AreVersions (stored_now replay.now)) }
+        ensures all { IfOk result (λ v. length v.kept.items ≡ versions_of (stored_now replay.now)) }
     {
-        Ok(Versions {
+        let mut versions = Versions {
             named: marks_of(alloc, history)?,
             kept: Vec::new(alloc),
-        })
+        };
+        versions.go_on(replay)?;
+        Ok(versions)
     }
 
     /// Goes on to the current version, if it is one more.
