@@ -5,7 +5,7 @@ ghost use Rattle.trip_applications.specs.Applications.{Sound};
 ghost use Rattle.office_words.specs.declared.entry.Command.TheVariants as asked;
 ghost use Rattle.office_core.specs.Replies.{is_outdated};
 ghost use Rattle.command_calls.specs.Attempts.{Concluded, DecidedAfter, IsAgain};
-ghost use Rattle.command_calls.specs.Attempts.{IsPrepared, IsSubmitted, IsUnlessOutdated, MaySubmit};
+ghost use Rattle.command_calls.specs.Attempts.{IsPrepared, IsSubmitted, MaySubmit};
 ghost use Rattle.command_calls.specs.Following.{MayFollow};
 ghost use Rattle.command_calls.specs.Leaves.{CarriedOut};
 ghost use Rattle.office_words.specs.Commands.{MayCarryOut};
@@ -54,7 +54,13 @@ pub fn carry_out<C: OfficeCalls, G: Gate, L: Ledger>(
     ensures follows { MayFollow finder.new.follower (C.view calls.new) }
 {
     errand.gate.before(errand.actor, errand.command);
-    let reply = ask(alloc, calls, finder, command, errand);
+    let reply = match command {
+        Command::Apply(application) => decide_by(alloc, calls, finder, application, errand),
+        Command::Post(change) => calls.post(*change),
+        Command::Day(day) => calls.day(*day),
+        Command::Surrender(number) => calls.surrender(*number),
+        Command::Show(number) => calls.show(*number),
+    };
     errand.gate.answered(errand.actor, errand.command);
     reply
 }
@@ -82,29 +88,6 @@ pub fn decide<C: OfficeCalls, G: Gate, L: Ledger>(
 {
     let mut finder = Finder::<L>::new(blank);
     decide_by(alloc, calls, &mut finder, &application, errand)
-}
-
-// Asks a command, in one call or, for an application, as many as it takes.
-fn ask<C: OfficeCalls, G: Gate, L: Ledger>(
-    alloc: Global,
-    calls: &mut C,
-    finder: &mut Finder<L>,
-    command: &Command,
-    errand: &Errand<G>,
-) -> Reply
-    requires base { errand.now.base.now ≡ (C.view calls.old).who.base }
-    requires sound { MayCarryOut errand.now.base.now command.now }
-    requires follows { MayFollow finder.old.follower (C.view calls.old) }
-    ensures carried { CarriedOut (C.view calls.old) command.now result (C.view calls.new) }
-    ensures follows { MayFollow finder.new.follower (C.view calls.new) }
-{
-    match command {
-        Command::Apply(application) => decide_by(alloc, calls, finder, application, errand),
-        Command::Post(change) => calls.post(*change),
-        Command::Day(day) => calls.day(*day),
-        Command::Surrender(number) => calls.surrender(*number),
-        Command::Show(number) => calls.show(*number),
-    }
 }
 
 // Decides an application, which stays with its owner.
@@ -179,7 +162,10 @@ fn last_attempt<C: OfficeCalls, G: Gate, L: Ledger>(
     };
     match submit(calls, submission, errand, 8) {
         Some(reply) => reply,
-        None => hold(calls, errand.base, copy),
+        None => {
+            errand.base.lists_are_in_order();
+            calls.held(copy)
+        }
     }
 }
 
@@ -229,25 +215,8 @@ fn submit<C: OfficeCalls, G: Gate>(
     ensures { IsSubmitted (C.view calls.old) submission result (C.view calls.new) }
 {
     errand.gate.between(errand.actor, errand.command, number);
-    unless_outdated(calls.submit(submission.application, submission.proposal))
-}
-
-// The reply, unless it says that what was proposed is out of date.
-fn unless_outdated(reply: Reply) -> Option<Reply>
-    ensures { IsUnlessOutdated reply result }
-{
-    match reply {
+    match calls.submit(submission.application, submission.proposal) {
         Reply::Outdated { .. } => None,
         reply => Some(reply),
     }
-}
-
-// Has the office find itself what an application needs, after eight attempts that were out of date.
-fn hold<C: OfficeCalls>(calls: &mut C, base: &Base, application: Application) -> Reply
-    requires base { base.now ≡ (C.view calls.old).who.base }
-    requires sound { Sound base.now application }
-    ensures { DecidedAfter 8 (C.view calls.old) application result (C.view calls.new) }
-{
-    base.lists_are_in_order();
-    calls.held(application)
 }
