@@ -1,6 +1,6 @@
 // What a desk has noted of a history.
 
-ghost use Rattle.std.specs.Prelude.{◌≡◌, ◌++◌, ◌==◌, if◌then◌else◌, length, ℕ, OnOk, option_map, None};
+ghost use Rattle.std.specs.Prelude.{◌≡◌, ◌++◌, length, ℕ, OnOk, option_map};
 ghost use Rattle.std.specs.Option.{option_or};
 ghost use Rattle.office_core.specs.Happened.{application_in};
 ghost use Rattle.recall_list.specs.Issues.{issued_by, recalled_numbers};
@@ -96,27 +96,19 @@ impl Notes {
             ≡ option_or (issued_by unasked n entry.now.call entry.now.reply) (noted_trip_of self.old n)) }
     {
         match &entry.reply {
-            Reply::Issued { number, .. } => self.note_trip(*number, &entry.call),
+            Reply::Issued { number, .. } => {
+                let Some(application) = application_of(&entry.call) else {
+                    return Ok(());
+                };
+                self.trips.insert(*number, unasked(application))?;
+                Ok(())
+            }
             Reply::Posted { recalled, .. } => {
                 self.recalled.extend_from_slice(recalled.as_slice())?;
                 Ok(())
             }
             _ => Ok(()),
         }
-    }
-
-    // Notes the trip of the permit that was issued with this number for a call.
-    fn note_trip(&mut self, number: u32, call: &Call) -> Result<(), NoMemory>
-        ensures read { self.new.read ≡ self.old.read }
-        ensures recalled { self.new.recalled ≡ self.old.recalled }
-        ensures trips { OnOk result ((n : ℕ) → noted_trip_of self.new n
-            ≡ option_or (if number == n then option_map unasked (application_in call.now) else None) (noted_trip_of self.old n)) }
-    {
-        let Some(application) = application_of(call) else {
-            return Ok(());
-        };
-        self.trips.insert(number, unasked(application))?;
-        Ok(())
     }
 }
 
