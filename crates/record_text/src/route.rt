@@ -51,7 +51,7 @@ pub fn parse_routes(text: &str) -> Option<RouteField<'_>>
     }
 }
 
-// Whether the parts of a text around each bar are few enough, and each is a route.
+// Whether a text is one to eight routes, with one bar between them.
 fn are_few_routes(text: &str) -> bool
     ensures { result ≡ is_some (few_routes (slice_split (λ b. b == 124) text.now)) }
 {
