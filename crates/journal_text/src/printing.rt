@@ -28,23 +28,14 @@ fn text(alloc: Global, history: &[Entry]) -> Result<Vec<u8>, AllocError>
     let mut out = Vec::new(alloc);
     out.extend_from_slice(Format::Three.first_line().as_bytes())?;
     out.push(b'\n')?;
-    lines(&mut out, LastList::none(alloc)?, history)?;
+    let mut last = LastList::none(alloc)?;
+    'history: for entry in history {
+        line(&mut out, &mut last, entry)?;
+    }
     out.extend_from_slice(b"end ")?;
     digits(&mut out, history.len() as u64)?;
     out.push(b'\n')?;
     Ok(out)
-}
-
-// A line for each entry.
-fn lines<'a>(out: &mut Vec<u8>, last: LastList<'a>, history: &'a [Entry]) -> Result<(), AllocError>
-    requires { IsListText last }
-    ensures { OnOk result (out.new.items ≡ out.old.items ++ flat_map (λ e. ended (line_of e)) history.now) }
-{
-    let mut last = last;
-    'history: for entry in history {
-        line(out, &mut last, entry)?;
-    }
-    Ok(())
 }
 
 // The line of an entry.

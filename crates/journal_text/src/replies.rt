@@ -51,7 +51,10 @@ pub fn reply<'a>(
         Reply::Surrendered => word(out, "surrendered"),
         Reply::NotYours => word(out, "notyours"),
         Reply::Unknown => word(out, "unknown"),
-        Reply::NotInForce { status: now } => not_in_force(out, *now),
+        Reply::NotInForce { status: now } => {
+            word(out, "notinforce")?;
+            status(out, *now)
+        }
         Reply::Shown {
             number,
             caller,
@@ -112,14 +115,6 @@ fn posted(out: &mut Vec<u8>, version: u32, recalled: &[u32]) -> Result<(), Alloc
 {
     named(out, "posted", version)?;
     named_numbers(out, "recalled", recalled)
-}
-
-// That a permit is not in force.
-fn not_in_force(out: &mut Vec<u8>, now: Status) -> Result<(), AllocError>
-    ensures { OnOk result (Adds out.old.items out.new.items (reply_words (Reply.NotInForce now))) }
-{
-    word(out, "notinforce")?;
-    status(out, now)
 }
 
 // Whose permit is shown.
