@@ -1,13 +1,12 @@
 // The routes that a word spells.
 
-ghost use Rattle.std.specs.Prelude.{◌≡◌, ◌++◌, ◌∷◌, [], IfOk, OnOk, IsTrue, length, nat_lt, true};
+ghost use Rattle.std.specs.Prelude.{◌≡◌, IfOk};
 ghost use Rattle.journal_text.specs.Words.{routes_text};
 ghost use Rattle.journal_reader.specs.Words.{IsTextOf, routes_spelled};
 ghost use Rattle.journal_reader.specs.Fits.{FitsRoutes};
 
 use crate::numbers::indices_in;
 use crate::parts::{first_part, part};
-use road_graph::Numbers;
 use std::alloc::{AllocError, Global};
 use trip_routes::{Routes, RoutesRefusal, SharedRoutes};
 
@@ -26,23 +25,12 @@ pub fn routes_in(alloc: Global, word: &[u8]) -> Result<Option<SharedRoutes>, All
         let Some(route) = indices_in(alloc, next)? else {
             return Ok(None);
         };
-        if !takes(&mut routes, &route)? {
-            return Ok(None);
+        match routes.push(&route) {
+            Ok(()) => rest = more,
+            Err(RoutesRefusal::Full) => return Ok(None),
+            Err(RoutesRefusal::NoMemory) => return Err(AllocError),
         }
-        rest = more;
     }
     let shared = SharedRoutes::of(alloc, routes)?;
     Ok(Some(shared))
-}
-
-// Whether there was room for one route more, which is added then.
-fn takes(routes: &mut Routes, route: &Numbers) -> Result<bool, AllocError>
-    ensures room { IfOk result (λ taken. taken ≡ nat_lt (length routes.old) 8) }
-    ensures added { IfOk result (λ taken. IsTrue taken → routes.new ≡ routes.old ++ route.now ∷ []) }
-{
-    match routes.push(route) {
-        Ok(()) => Ok(true),
-        Err(RoutesRefusal::Full) => Ok(false),
-        Err(RoutesRefusal::NoMemory) => Err(AllocError),
-    }
 }

@@ -1,4 +1,4 @@
-use Rattle.std.proofs.Common.{◌∙◌, Some, ap, refl, sym}
+use Rattle.std.proofs.Common.{◌∙◌, Some, ap, refl, rules, sym}
 use Rattle.journal_reader.specs.Words.{all_of, list_of, parts, parts_left, place_of}
 use Rattle.journal_reader.proofs.Only.{routes_only}
 use Rattle.journal_reader.proofs.Pieces.{read_more, routes_read, still_few}
@@ -7,9 +7,9 @@ use Rattle.journal_reader.proofs.routes.routes_in.Goals as goal
 pub parts-preserved : goal.parts-preserved
 parts-preserved c = record {
   read =
-      read_more (list_of place_of) c.parts.routes c.takes.new.routes (parts_left 47 c.parts.rest.now) (parts_left 47 c.in-Some-part.more.now) c.in-Some-part.next.now c.in-Some-2.route (all_of (list_of place_of) (parts 47 c.args.word.now))
-      c.in-Some-part.ensures.sound (sym c.in-Some-2.is ∙ c.in_ok-route-2.ensures.exact) (c.in_ok-takes.ensures.added c.if-not-branch.false) c.parts.invariant.read;
-  few = still_few c.parts.routes c.takes.new.routes c.in-Some-2.route (sym c.in_ok-takes.ensures.room ∙ c.if-not-branch.false) (c.in_ok-takes.ensures.added c.if-not-branch.false);
+      read_more (list_of place_of) c.parts.routes c.push.new.self (parts_left 47 c.parts.rest.now) (parts_left 47 c.in-Some-part.more.now) c.in-Some-part.next.now c.in-Some-2.route (all_of (list_of place_of) (parts 47 c.args.word.now))
+      c.in-Some-part.ensures.sound (sym c.in-Some-2.is ∙ c.in_ok-route-2.ensures.exact) c.in-Ok.ensures.added c.parts.invariant.read;
+  few = still_few c.parts.routes c.push.new.self c.in-Some-2.route (search rules) c.in-Ok.ensures.added;
 }
 
 pub returns-clause-exact : goal.returns-clause-exact
