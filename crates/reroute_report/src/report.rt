@@ -20,7 +20,17 @@ pub fn reroute_report(alloc: Global, caller: u32, history: &[Entry]) -> Result<V
 {
     let recalled = recalled(alloc, history)?;
     let mut text = Vec::new(alloc);
-    add_lines(&mut text, recalled.as_slice(), caller, history)?;
+    let mut left = recalled.as_slice();
+    'entries: for entry in history {
+        if entry.caller != caller {
+            continue;
+        }
+        let Some((permit, others)) = left.split_first() else {
+            return Ok(text);
+        };
+        add_line(&mut text, *permit, &entry.reply)?;
+        left = others;
+    }
     Ok(text)
 }
 
@@ -36,30 +46,6 @@ fn recalled(alloc: Global, history: &[Entry]) -> Result<Vec<u32>, NoMemory>
         numbers.extend_from_slice(recalled.as_slice())?;
     }
     Ok(numbers)
-}
-
-// A line for each of these permits, with the answers to the caller.
-fn add_lines(
-    text: &mut Vec<u8>,
-    permits: &[u32],
-    caller: u32,
-    history: &[Entry],
-) -> Result<(), NoMemory>
-    ensures { OnOk result
-        (text.new.items ≡ text.old.items ++ permit_lines permits.now (replies_to caller history.now)) }
-{
-    let mut left = permits;
-    'entries: for entry in history {
-        if entry.caller != caller {
-            continue;
-        }
-        let Some((permit, others)) = left.split_first() else {
-            return Ok(());
-        };
-        add_line(text, *permit, &entry.reply)?;
-        left = others;
-    }
-    Ok(())
 }
 
 // The line of a permit.
