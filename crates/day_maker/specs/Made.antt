@@ -66,6 +66,13 @@ nodes z = each 0 (z + 1) (λ r. each 0 (z + 1) (λ c. node r c))
 abbrev pub segment : List ℕ → List ℕ → List ℕ → ℕ → Maker
 segment name from to feet = put (row (codes "segment" ∷ name ∷ from ∷ to ∷ decimal feet ∷ []))
 
+-- two segments between two nodes, there and back by their names, of one drawn length
+abbrev pub both_ways : List ℕ → List ℕ → List ℕ → List ℕ → Maker
+both_ways out back here there = do
+  feet ← draw 4000
+  segment out here there (1000 + feet)
+  segment back there here (1000 + feet)
+
 -- the two segments that join a node to its neighbour in the next column, there and back, of one drawn length
 unfoldable pub eastward : ℕ → ℕ → Maker
 eastward r c = do

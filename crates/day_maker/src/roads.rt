@@ -1,8 +1,9 @@
 // The roads that are made: a grid of nodes, the segments between neighbours, and the spans on those to the east.
 
-ghost use Rattle.std.specs.Prelude.{◌≡◌, ◌<◌, ◌≤◌, ◌+◌, OnOk, nat_lt};
-ghost use Rattle.day_maker.specs.Making.{each, when};
-ghost use Rattle.day_maker.specs.Made.{cell, eastward, nodes, segment, segments, southward, span, spans};
+ghost use Rattle.std.specs.Prelude.{◌≡◌, ◌<◌, ◌≤◌, ◌+◌, OnOk};
+ghost use Rattle.day_maker.specs.Fields.{field_text};
+ghost use Rattle.day_maker.specs.Making.{each};
+ghost use Rattle.day_maker.specs.Made.{both_ways, cell, nodes, segments, span, spans};
 ghost use Rattle.day_maker.specs.Texts.{page_after};
 
 use crate::field::Field;
@@ -29,8 +30,15 @@ pub(crate) fn put_segments(page: &mut Page, size: u32) -> Result<(), AllocError>
 {
     'rows: for r in 0..size + 1 {
         'columns: for c in 0..size + 1 {
-            put_eastward(page, r, c, size)?;
-            put_southward(page, r, c, size)?;
+            let here = Field::Cell(b'n', r, c);
+            if c < size {
+                let names = (Field::Cell(b'e', r, c), Field::Cell(b'w', r, c));
+                put_both_ways(page, names, here, Field::Cell(b'n', r, c + 1))?;
+            }
+            if r < size {
+                let names = (Field::Cell(b's', r, c), Field::Cell(b'u', r, c));
+                put_both_ways(page, names, here, Field::Cell(b'n', r + 1, c))?;
+            }
         }
     }
     Ok(())
@@ -49,51 +57,19 @@ pub(crate) fn put_spans(page: &mut Page, size: u32) -> Result<(), AllocError>
     Ok(())
 }
 
-// The segment from a node to the east, where there is a node, and the one back, of one length.
-#[tactic(auto, using(crate::proofs::Pages::after_nothing))]
-fn put_eastward(page: &mut Page, r: u32, c: u32, size: u32) -> Result<(), AllocError>
-    requires size { size ≤ 40 }
-    requires row { r ≤ size }
-    ensures { OnOk result (page.new ≡ page_after (when (nat_lt c size) (eastward r c)) page.old) }
+// The segment from a node to another and the one back, by their names, of one drawn length.
+fn put_both_ways<'a>(
+    page: &mut Page,
+    names: (Field<'a>, Field<'a>),
+    here: Field<'a>,
+    there: Field<'a>,
+) -> Result<(), AllocError>
+    ensures { OnOk result (page.new ≡ page_after
+        (both_ways (field_text names.entry.0) (field_text names.entry.1) (field_text here.entry) (field_text there.entry)) page.old) }
 {
-    if c >= size {
-        return Ok(());
-    }
-    let feet = 1000 + page.draw(4000);
-    let here = Field::Cell(b'n', r, c);
-    let there = Field::Cell(b'n', r, c + 1);
-    page.put(
-        "segment",
-        &[Field::Cell(b'e', r, c), here, there, Field::Number(feet)],
-    )?;
-    page.put(
-        "segment",
-        &[Field::Cell(b'w', r, c), there, here, Field::Number(feet)],
-    )?;
-    Ok(())
-}
-
-// The segment from a node to the south, where there is a node, and the one back, of one length.
-#[tactic(auto, using(crate::proofs::Pages::after_nothing))]
-fn put_southward(page: &mut Page, r: u32, c: u32, size: u32) -> Result<(), AllocError>
-    requires size { size ≤ 40 }
-    requires column { c ≤ size }
-    ensures { OnOk result (page.new ≡ page_after (when (nat_lt r size) (southward r c)) page.old) }
-{
-    if r >= size {
-        return Ok(());
-    }
-    let feet = 1000 + page.draw(4000);
-    let here = Field::Cell(b'n', r, c);
-    let there = Field::Cell(b'n', r + 1, c);
-    page.put(
-        "segment",
-        &[Field::Cell(b's', r, c), here, there, Field::Number(feet)],
-    )?;
-    page.put(
-        "segment",
-        &[Field::Cell(b'u', r, c), there, here, Field::Number(feet)],
-    )?;
+    let feet = Field::Number(1000 + page.draw(4000));
+    page.put("segment", &[names.0, here, there, feet])?;
+    page.put("segment", &[names.1, there, here, feet])?;
     Ok(())
 }
 
