@@ -2,8 +2,8 @@
 
 ghost use Rattle.std.specs.Prelude.{◌≡◌, IfOk, OnOk};
 ghost use Rattle.std.specs.String.{string_bytes};
-ghost use Rattle.day_text.specs.Spans.{AreSpans, IsProbeSpan};
-ghost use Rattle.check_report.specs.Probes.{AddsOne, AreTexts, TextGrew};
+ghost use Rattle.day_text.specs.Spans.{IsProbeSpan};
+ghost use Rattle.check_report.specs.Probes.{AddsOne, TextGrew};
 ghost use Rattle.loading_report.specs.Convoys.{IsConvoyReport, IsConvoyText, IsOnlyConvoyReport, convoy_refusal_line, moment_fraction_line, shear_fraction_line};
 
 use check_report::{add_rating, add_span};
@@ -20,6 +20,7 @@ pub fn convoy_report(alloc: Global, convoy: &Convoy, probes: &Probes) -> Result<
     ensures report { IfOk result (λ text. IsConvoyReport convoy.now probes.now (string_bytes text)) }
     ensures only { IfOk result (λ text. IsOnlyConvoyReport convoy.now probes.now (string_bytes text)) }
 {
+    let probes = probes.as_slice();
     let trucks = convoy.trucks();
     let gap = convoy.gap();
     let axles = convoy.axles();
@@ -29,7 +30,9 @@ pub fn convoy_report(alloc: Global, convoy: &Convoy, probes: &Probes) -> Result<
         text,
         "convoy {trucks} gap {gap} axles {axles} gross {gross}\n"
     )?;
-    add_probes(&mut text, convoy, probes.as_slice())?;
+    for probe in probes {
+        add_probe(&mut text, convoy, probe)?;
+    }
     Ok(text)
 }
 
@@ -41,17 +44,6 @@ pub fn convoy_refusal_line(alloc: Global, refusal: ConvoyRefusal) -> Result<Stri
     let mut text = String::new(alloc);
     write!(text, "refused: convoy {number}\n")?;
     Ok(text)
-}
-
-// The convoy on each probe.
-fn add_probes(text: &mut String, convoy: &Convoy, probes: &[Probe]) -> Result<(), AllocError>
-    requires { AreSpans probes.now }
-    ensures { OnOk result (AddsOne (AreTexts (IsConvoyText convoy.now) probes.now) (string_bytes text.old) (string_bytes text.new)) }
-{
-    for probe in probes {
-        add_probe(text, convoy, probe)?;
-    }
-    Ok(())
 }
 
 // The convoy on one probe: the span, the convoy's peaks on it, and the judgement by the rating.

@@ -2,8 +2,8 @@
 
 ghost use Rattle.std.specs.Prelude.{◌≡◌, IfOk, OnOk};
 ghost use Rattle.std.specs.String.{string_bytes};
-ghost use Rattle.day_text.specs.Spans.{AreSpans, IsProbeSpan};
-ghost use Rattle.check_report.specs.Probes.{AddsOne, AreTexts, TextGrew};
+ghost use Rattle.day_text.specs.Spans.{IsProbeSpan};
+ghost use Rattle.check_report.specs.Probes.{AddsOne, TextGrew};
 ghost use Rattle.loading_report.specs.Designs.{IsDesignReport, IsDesignText, IsOnlyDesignReport, governing_moment_line, governing_shear_line, load_name};
 
 use axle_train::Train;
@@ -21,20 +21,13 @@ pub fn design_report(alloc: Global, file: &CheckFile) -> Result<String, NoMemory
     ensures report { IfOk result (λ text. IsDesignReport file.now (string_bytes text)) }
     ensures only { IfOk result (λ text. IsOnlyDesignReport file.now (string_bytes text)) }
 {
+    let train = file.truck.load.train();
+    let probes = file.probes.as_slice();
     let mut text = String::new(alloc);
-    add_probes(&mut text, file.truck.load.train(), file.probes.as_slice())?;
-    Ok(text)
-}
-
-// The truck on each probe.
-fn add_probes(text: &mut String, train: &Train, probes: &[Probe]) -> Result<(), AllocError>
-    requires { AreSpans probes.now }
-    ensures { OnOk result (AddsOne (AreTexts (IsDesignText train.now) probes.now) (string_bytes text.old) (string_bytes text.new)) }
-{
     for probe in probes {
-        add_probe(text, train, probe)?;
+        add_probe(&mut text, train, probe)?;
     }
-    Ok(())
+    Ok(text)
 }
 
 // The truck on one probe: the span, the greatest effects of the design loads on it, and the judgement by the rating.

@@ -1,8 +1,25 @@
-use Rattle.std.proofs.Common.{rules}
+use Rattle.std.proofs.Common.{rules, sym, subst, arith}
+use Rattle.std.proofs.lemmas.List.{take_all, take_more}
 use Rattle.std.specs.String.{string_bytes}
+use Rattle.check_report.specs.Probes.{AddsOne, AreTexts}
+use Rattle.check_report.proofs.Texts.{adds_more}
+use Rattle.loading_report.specs.Convoys.{IsConvoyText}
 use Rattle.loading_report.proofs.OneConvoy.{one_convoy}
 use Rattle.loading_report.proofs.convoy.convoy_report.Goals as goal
 
+pub loop-probe-preserved : goal.loop-probe-preserved
+loop-probe-preserved c =
+    let convoy = c.args.convoy.now in
+    let probes = c.as_slice-probes.result.now in
+    let old = string_bytes c.write.new.self in
+    let new = string_bytes c.add_probe.new.text in
+    let (one, is, grown) = c.in_ok-add_probe.ensures in
+    subst (λ ps. AddsOne (AreTexts (IsConvoyText convoy) ps) old new) (sym (take_more probes c.loop-probe.probe-index _ (omega arith)))
+    (adds_more (IsConvoyText convoy) _ _ old _ new one c.loop-probe.invariant is grown)
+
 pub returns-clause-only : goal.returns-clause-only
 returns-clause-only c = λ other h.
-    one_convoy c.args.convoy.now c.args.probes.now other (string_bytes c.add_probes.new.text) c.as_slice.ensures.spans h (search rules)
+    let probes = c.as_slice-probes.result.now in
+    let added : AddsOne (AreTexts (IsConvoyText c.args.convoy.now) probes) (string_bytes c.write.new.self) (string_bytes c.loop-probe.text) =
+    rw (take_all c.loop-probe.probe-index probes c.loop-probe-test.false) at c.loop-probe.invariant in
+    one_convoy c.args.convoy.now c.args.probes.now other (string_bytes c.loop-probe.text) c.as_slice-probes.ensures.spans h (search rules)

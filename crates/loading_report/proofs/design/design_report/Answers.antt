@@ -1,9 +1,26 @@
-use Rattle.std.proofs.Common.{rules}
+use Rattle.std.proofs.Common.{rules, sym, subst, arith}
+use Rattle.std.proofs.lemmas.List.{take_all, take_more}
 use Rattle.std.specs.String.{string_bytes}
+use Rattle.check_report.specs.Probes.{AddsOne, AreTexts}
+use Rattle.check_report.proofs.Texts.{adds_more}
+use Rattle.loading_report.specs.Designs.{IsDesignText}
 use Rattle.loading_report.proofs.OneDesign.{one_design}
 use Rattle.loading_report.proofs.design.design_report.Goals as goal
+
+pub loop-probe-preserved : goal.loop-probe-preserved
+loop-probe-preserved c =
+    let train = c.train-train.result.now in
+    let probes = c.as_slice-probes.result.now in
+    let old = string_bytes c.new-text.result in
+    let new = string_bytes c.add_probe.new.text in
+    let (one, is, grown) = c.in_ok-add_probe.ensures in
+    subst (λ ps. AddsOne (AreTexts (IsDesignText train) ps) old new) (sym (take_more probes c.loop-probe.probe-index _ (omega arith)))
+    (adds_more (IsDesignText train) _ _ old _ new one c.loop-probe.invariant is grown)
 
 pub returns-clause-only : goal.returns-clause-only
 returns-clause-only c = λ other h.
     let file = c.args.file.now in
-    one_design file.truck.load.train file.probes other (string_bytes c.add_probes.new.text) c.train.ensures.bounds c.as_slice.ensures.spans h (search rules)
+    let probes = c.as_slice-probes.result.now in
+    let added : AddsOne (AreTexts (IsDesignText c.train-train.result.now) probes) (string_bytes c.new-text.result) (string_bytes c.loop-probe.text) =
+    rw (take_all c.loop-probe.probe-index probes c.loop-probe-test.false) at c.loop-probe.invariant in
+    one_design file.truck.load.train file.probes other (string_bytes c.loop-probe.text) c.train-train.ensures.bounds c.as_slice-probes.ensures.spans h (search rules)
