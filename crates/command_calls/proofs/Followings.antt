@@ -35,7 +35,7 @@ module _ {P : Type 0} where
       ap (λ (k : Who P). stored_of k.base (machine_of k.base k.opening w.seen)) g.who ∙ ap (λ (l : List Entry). stored_of v.who.base (machine_of v.who.base v.who.opening l)) g.sees.seen in
       subst (IsLater (stored_seen v)) (sym same) (record { roads = refl; more = on.0; postings = on.1 })
 
-  follows_grown : (f : Option Followed) (v w : Calling P) (es : List Entry) → Grew v es w → MayFollow f v → MayFollow f w
+  pub follows_grown : (f : Option Followed) (v w : Calling P) (es : List Entry) → Grew v es w → MayFollow f v → MayFollow f w
   follows_grown None v w es g h = tt
   follows_grown (Some f) v w es g h = record {
     base_is = h.base_is ∙ sym (base_same v w g.who);

@@ -1,5 +1,5 @@
 -- A day file that was served, or was refused for its length.
-use Rattle.std.proofs.Common.{◌≡◌, ◌∙◌, ◌<◌, ap, sym, refl, subst, ℕ, List, length, Result, Ok, Err, IfErr, IfOk, OnOk}
+use Rattle.std.proofs.Common.{◌≡◌, ◌<◌, sym, refl, subst, ℕ, List, length, Result, Ok, Err, IfErr}
 use Rattle.std.specs.List.{All}
 use Rattle.std.specs.Result.{IsErrAnd}
 use Rattle.road_graph.specs.Roads.{IsRoads}
@@ -47,17 +47,6 @@ module _ (file : DayParts) (o : Opened) (caller : ℕ) (orders : List Order) (is
       (subst (λ (x : Opened). AreLong x.base x.opening x.most caller orders) is long)) in
       all history h.legal h.commands h.memory
 
-  -- so it is where it was served at all
-  pub when_served : (r : Result Opened ServingRefusal) → IfOk r (λ now. HasRerouted o now caller orders) → IfOk r (λ now. IsLegal now.base now.opening now.history)
-      → IfOk r (λ now. KeepsPromises now.base now.opening now.history) → IfOk r (λ now. IsRerouted file now.history)
-  when_served (Ok now) has legal promises = served now has legal promises
-  when_served (Err q) has legal promises = tt
-
-  -- and where it was refused
-  pub when_refused : (r : Result Opened ServingRefusal) → IfErr r (λ q. q ≡ TooMany → AreLong o.base o.opening o.most caller orders) → IfErr r (IsServingCause file)
-  when_refused (Ok now) h = tt
-  when_refused (Err q) h = where_refused file q too_long h
-
 -- the roads that an office opened on
 pub roads_of : (file : DayParts) (o : Opened) → o ≡ newly_opened file.base file.day 1000000 → IsRoads file.base.roads → IsRoads o.base.roads
 roads_of file o is roads = subst (λ (n : Opened). IsRoads n.base.roads) (sym is) roads
@@ -71,8 +60,3 @@ always (Err q) h = λ _. h
 pub passed_on : {T : Type 0} (P : ServingRefusal → Type 0) (r : Result T ServingRefusal) (q : ServingRefusal) → IsErrAnd r (λ x. x ≡ q) → P q → IfErr r P
 passed_on P (Ok value) q given h = tt
 passed_on P (Err x) q given h = subst P (sym given) h
-
--- what is so is so where a file was served
-pub however : {T A : Type 0} (r : Result T ServingRefusal) → A → OnOk r A
-however (Ok value) h = h
-however (Err q) h = tt

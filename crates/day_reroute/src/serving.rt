@@ -4,8 +4,6 @@ ghost use Rattle.std.specs.Prelude.{◌≡◌, ◌≢◌, ◌<◌, ◌≤◌, []
 ghost use Rattle.road_graph.specs.Roads.{IsRoads};
 ghost use Rattle.office_words.specs.Commands.{MayCarryOut};
 ghost use Rattle.office_words.specs.declared.entry.Reply.TheVariants as answer;
-ghost use Rattle.office_core.specs.Machine.{IsLegal};
-ghost use Rattle.office_core.specs.Promises.{KeepsPromises};
 ghost use Rattle.office_core.specs.Replies.{is_full};
 ghost use Rattle.day_text.specs.Laws.{IsDayFile};
 ghost use Rattle.reroute_desk.specs.Desks.{HasGoneOn, HasHandledAll, IsRerouteCause, KeepsUp};
@@ -64,34 +62,9 @@ fn serve_counted<F: Ledger, O: Ledger>(
 {
     // the number that no actor has
     let caller = file.actors().len() as u32;
-    let (lone, orders) = LoneOffice::<F, O>::open(alloc, file, MOST_ENTRIES, blanks)?;
-    let served = serve_lone(alloc, lone, caller, orders.as_slice());
+    let (mut lone, orders) = LoneOffice::<F, O>::open(alloc, file, MOST_ENTRIES, blanks)?;
+    let carried = carry_out_all(alloc, &mut lone, caller, orders.as_slice());
     drop(orders);
-    served
-}
-
-// Has an office that has just opened carry out each command, with this caller for what is recalled.
-fn serve_lone<F: Ledger, O: Ledger>(
-    alloc: Global,
-    lone: LoneOffice<F, O>,
-    caller: u32,
-    orders: &[Order],
-) -> Result<Office, ServingRefusal>
-    requires roads { IsRoads lone.base.roads }
-    requires sound { All (λ o. MayCarryOut lone.base o.command) orders.now }
-    requires callers { All (λ o. o.actor < caller) orders.now }
-    requires caller { caller ≤ 16 }
-    requires few { length orders.now ≤ 4096 }
-    requires new { lone.history ≡ [] }
-    ensures served { IfOk result (λ office. HasRerouted lone office caller orders.now) }
-    ensures legal { IfOk result (λ office. IsLegal office.base office.opening office.history) }
-    ensures promises { IfOk result (λ office. KeepsPromises office.base office.opening office.history) }
-    ensures short { IfOk result (λ office. length office.history ≤ 1000000) }
-    ensures refused { IfErr result (λ refusal. refusal ≡ TooMany
-        → AreLong lone.base lone.opening lone.most caller orders.now) }
-{
-    let mut lone = lone;
-    let carried = carry_out_all(alloc, &mut lone, caller, orders);
     let office = lone.into_office();
     carried?;
     // an office tells that its history is legal and keeps its promises
@@ -189,11 +162,11 @@ fn finish<F: Ledger, O: Ledger>(
     let reply = lone.carry_out(alloc, order, place);
     // what the office promises of its history
     let _history = lone.office().history();
-    outcome(&reply)
+    finished(&reply)
 }
 
-// Whether a command with this reply is finished.
-fn outcome(reply: &Reply) -> Result<(), ServingRefusal>
+// That the command which this reply answers is finished, or why no later one is carried out.
+fn finished(reply: &Reply) -> Result<(), ServingRefusal>
     ensures room { OnOk result (is_full reply.now ≡ false) }
     ensures memory { OnOk result (reply.now ≢ answer.NoMemory) }
     ensures full { IfErr result (λ refusal. refusal ≡ TooMany → is_full reply.now ≡ true) }

@@ -1,6 +1,6 @@
 -- An office whose actors have run: what its history is, and that it is not full.
 use Rattle.std.proofs.Common.{◌≡◌, ◌≢◌, ◌*◌, ◌<◌, ◌≤◌, ℕ, zero, suc, Bool, true, false, List, Vec, Option, Some, None, All, length, get_or, refl, ap, sym, ◌∙◌, subst, arith}
-use Rattle.std.specs.Prelude.{if◌then◌else◌, Result, Ok, Err, IfOk, OnOk}
+use Rattle.std.specs.Prelude.{if◌then◌else◌}
 use Rattle.std.specs.Global.{Global}
 use Rattle.std.proofs.lemmas.List.{length-append, length-take}
 use Rattle.std.proofs.lemmas.List.Elements.{All-contains}
@@ -106,8 +106,3 @@ module _ (file : DayParts) (lock : Lock Terms) (receipts : List (Receipt Entry))
     memory = all_by (λ e. e.reply ≢ reply.NoMemory) (length file.actors) history callers
         (λ i near. finished_found i (script_of i file.commands) (entries_by i history) (all_finished done i near));
   }
-
--- what an answer holds is this value, which is so where all are done
-pub if_done : {X E : Type 0} (r : Result X E) (x : X) (Done : Type 0) (P : X → Type 0) → IfOk r (λ c. c ≡ x) → OnOk r Done → (Done → P x) → IfOk r P
-if_done (Ok c) x Done P is done all = subst P (sym is) (all done)
-if_done (Err e) x Done P is done all = tt

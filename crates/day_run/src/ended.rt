@@ -26,18 +26,10 @@ impl Ended {
         match next {
             Outcome::Done => self,
             Outcome::Full { .. } => Ended::Full,
-            Outcome::NoMemory { .. } | Outcome::Waiting => self.without_memory(),
-        }
-    }
-
-    // How they ended, where one more did not come to its end.
-    fn without_memory(self) -> Ended
-        ensures done { result ≡ Ended.Done → ⊥ }
-        ensures full { result ≡ Ended.Full → self ≡ Ended.Full }
-    {
-        match self {
-            Ended::Full => Ended::Full,
-            Ended::Done | Ended::NoMemory => Ended::NoMemory,
+            Outcome::NoMemory { .. } | Outcome::Waiting => match self {
+                Ended::Full => Ended::Full,
+                Ended::Done | Ended::NoMemory => Ended::NoMemory,
+            },
         }
     }
 }

@@ -1,10 +1,9 @@
 // An office whose actors carry out the commands of a day file.
 
-ghost use Rattle.std.specs.Prelude.{◌≡◌, ◌≢◌, ◌<◌, IfOk, OnOk};
+ghost use Rattle.std.specs.Prelude.{◌≡◌, ◌<◌, IfOk, OnOk};
 ghost use Rattle.road_graph.specs.Roads.{IsRoads};
 ghost use Rattle.day_text.specs.Laws.{IsDayFile};
 ghost use Rattle.office_core.specs.Costs.{Counts};
-ghost use Rattle.day_run.specs.declared.ended.Ended.TheVariants as endings;
 ghost use Rattle.day_run.specs.Served.{IsServed, LoneActorsAreOne};
 
 use crate::ended::Ended;
@@ -46,30 +45,6 @@ pub fn serve<R: Threads + Wait + AllocGlobal + Sync, G: Gate + Sync, L: Ledger +
     ensures roads { OnOk result (IsRoads file.base.roads) }
 {
     let file = prepare_on_threads(rt, file)?;
-    serve_actors(rt, file, gate, blank)
-}
-
-/// A law, and no code: over roads within their bounds, no two histories serve a day of at most one actor.
-pub fn lone_actors_are_one()
-    ensures { LoneActorsAreOne }
-{}
-
-// Serves a file whose base may keep what its trucks may pass.
-fn serve_actors<R: Threads + Wait + AllocGlobal + Sync, G: Gate + Sync, L: Ledger + Send + Sync>(
-    rt: &R,
-    file: DayFile,
-    gate: &G,
-    blank: Blank,
-) -> Result<(Office, Steps<L>), NoMemory>
-    requires name { blank.name ≡ L.name }
-    requires parts { blank.parts ≡ L.parts }
-    requires counter { 0 < blank.parts }
-    requires file { IsDayFile file }
-    ensures served { IfOk result (λ done. IsServed file done.0.history) }
-    ensures base { IfOk result (λ done. done.0.base ≡ file.base) }
-    ensures counted { IfOk result (λ done. Counts file.base file.day done.0.history done.1) }
-    ensures roads { OnOk result (IsRoads file.base.roads) }
-{
     let Opening {
         desk,
         mut root,
@@ -78,18 +53,7 @@ fn serve_actors<R: Threads + Wait + AllocGlobal + Sync, G: Gate + Sync, L: Ledge
     } = open::<L>(rt.alloc(), file, blank)?;
     let ended = work_all(rt, &desk, &mut root, &base, scripts, gate);
     drop(base);
-    finished(ended, desk.close(root))
-}
-
-// What a desk gave back when it was closed, where all actors are done.
-fn finished<L: Ledger>(
-    ended: Ended,
-    closed: (Office, Steps<L>),
-) -> Result<(Office, Steps<L>), NoMemory>
-    requires { ended ≢ endings.Full }
-    ensures closed { IfOk result (λ c. c ≡ closed) }
-    ensures done { OnOk result (ended ≡ endings.Done) }
-{
+    let closed = desk.close(root);
     match ended {
         Ended::Done => Ok(closed),
         Ended::NoMemory => {
@@ -99,3 +63,8 @@ fn finished<L: Ledger>(
         Ended::Full => unreachable!(),
     }
 }
+
+/// A law, and no code: over roads within their bounds, no two histories serve a day of at most one actor.
+pub fn lone_actors_are_one()
+    ensures { LoneActorsAreOne }
+{}
