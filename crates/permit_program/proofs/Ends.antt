@@ -1,5 +1,5 @@
 -- How a run ends, by what its parts promise.
-use Rattle.std.proofs.Common.{◌≡◌, ◌≢◌, ◌⊎◌, ◌+◌, ◌++◌, ◌<◌, ◌≤◌, ℕ, Bool, true, false, List, [], Option, Some, None, IfSome, length, take, refl, ap, sym, subst, inl, inr, ◌∙◌, arith}
+use Rattle.std.proofs.Common.{◌≡◌, ◌≢◌, ◌+◌, ◌++◌, ◌<◌, ◌≤◌, ℕ, Bool, true, false, List, [], Option, Some, None, IfSome, length, take, refl, ap, sym, subst, inl, inr, ◌∙◌, arith}
 use Rattle.std.specs.Prelude.{nat_lt}
 use Rattle.std.proofs.lemmas.Bool.Decides.{nat_tests}
 use Rattle.std.specs.Io.KnownBytes.{Appends, Consumes, IsAtEnd}
@@ -11,32 +11,15 @@ use Rattle.notice_desk.specs.Deliveries.{RoseAt, StoppedAt}
 use Rattle.notice_desk.specs.Lines.{WroteUntilAt}
 use Rattle.notice_desk.specs.declared.notice.Recall.{Recall}
 use Rattle.command_line.specs.declared.asked.Asked.{Asked}
-use Rattle.command_line.specs.declared.asked.Options.{Options}
-use Rattle.command_line.specs.declared.asked.Task.{Task}
 use Rattle.command_line.specs.declared.asked.Task.TheVariants as task
-use Rattle.convoy_moves.specs.Convoys.{convoy_of}
-use Rattle.convoy_moves.specs.Refusals.{first_refusal}
-use Rattle.convoy_moves.specs.declared.refusal.ConvoyRefusal.{ConvoyRefusal}
-use Rattle.day_text.specs.declared.check_file.CheckFile.{CheckFile}
-use Rattle.day_text.specs.Checks.{check_of}
-use Rattle.record_text.specs.declared.refusal.Cause.{Cause}
-use Rattle.record_text.specs.declared.refusal.Cause.TheVariants as why
-use Rattle.std.specs.Prelude.{Result, Ok, Err, option_map}
 use Rattle.std.specs.String.{string_bytes}
-use Rattle.refusal_text.specs.Lines.{refusal_status_of}
-use Rattle.day_text.specs.Days.{DayParts, day_of}
-use Rattle.office_words.specs.declared.entry.Entry.{Entry}
-use Rattle.journal_audit.specs.declared.verdict.Verdict.{Verdict}
-use Rattle.journal_audit.specs.declared.verdict.Verdict.TheVariants.{Bad, Legal}
-use Rattle.permit_program.specs.Audit.{JudgesHistory, JudgesParts, answer_to_entry, answer_to_line, answer_to_verdict}
-use Rattle.permit_program.specs.Command.{Answer, Command, IsRefusalOf, Makes, answer_to, refusal_in}
-use Rattle.permit_program.specs.Commands.{command_by, command_of}
-use Rattle.permit_program.specs.Convoy.{answer_to_convoy, convoy_refusal}
-use Rattle.permit_program.specs.Reroute.{JudgesFile, answer_to_entries}
+use Rattle.permit_program.specs.Command.{Answer, Command, IsRefusalOf, Makes}
+use Rattle.permit_program.specs.Commands.{command_of}
 use Rattle.permit_program.specs.Endings.{AnswersRefusal, AnswersText, AnswersUnread, WasUnread}
 use Rattle.permit_program.specs.Runs.{AsksForDay, CallFor, CountedDay, CountsItsDay, IsPlain, IsRun, IsStatusSettled, IsStatusFor, IsStatusOr, Outside, SinkFailed, SourceAt, Told, Took, WroteLine, bytes_for, bytes_line, most_bytes, status_called_for}
 use Rattle.permit_program.specs.declared.refusal.Refusal.{Refusal}
 use Rattle.permit_program.specs.declared.refusal.Refusal.TheVariants.{NoMemory, Refused}
+use Rattle.permit_program.proofs.Lawful.{IsRefusalStatus, lawful}
 
 below : (a b : ℕ) → a < b → nat_lt a b ≡ true
 below a b less = grind (arith, nat_tests)
@@ -60,58 +43,6 @@ pub takes_none : (left : Option (List ℕ)) → TookAtMost (most_bytes + 1) left
 takes_none None = ([], tt, omega arith)
 takes_none (Some bytes) = ([], refl, omega arith)
 
--- each refusal of a command ends with 5, 6, 9 or 10
-abbrev pub IsRefusalStatus : ℕ → Type 0
-IsRefusalStatus status = (status ≡ 5) ⊎ (status ≡ 6) ⊎ (status ≡ 9) ⊎ (status ≡ 10)
-
-cause_status : (cause : Cause) → IsRefusalStatus (refusal_status_of cause)
-cause_status (why.Bad cause) = inl refl
-cause_status (why.TooMany kind) = inr (inl refl)
-
--- the answer is one of such a status
-answers : (told wanted : Answer) → Some told ≡ Some wanted → IsRefusalStatus told.status → IsRefusalStatus wanted.status
-answers told wanted is status = subst (λ (o : Option Answer). IsRefusalStatus (status_called_for o)) is status
-
-file_status : {T : Type 0} (told : Result T (ℕ × Cause)) (answer : Answer) → refusal_in told ≡ Some answer → IsRefusalStatus answer.status
-file_status (Ok file) answer is = absurd cc
-file_status (Err (row, cause)) answer is = answers (answer_to (row, cause)) answer is (cause_status cause)
-
-limit_status : (refused : Option ConvoyRefusal) (answer : Answer) → option_map answer_to_convoy refused ≡ Some answer → IsRefusalStatus answer.status
-limit_status None answer is = absurd cc
-limit_status (Some refusal) answer is = answers (answer_to_convoy refusal) answer is (inl refl)
-
-convoy_status : (trucks gap : ℕ) (told : Result CheckFile (ℕ × Cause)) (answer : Answer)
-    → convoy_refusal trucks gap told ≡ Some answer → IsRefusalStatus answer.status
-convoy_status trucks gap (Ok file) answer is = limit_status (first_refusal (convoy_of file.truck.load.train trucks gap)) answer is
-convoy_status trucks gap (Err refused) answer is = file_status {T = CheckFile} (Err refused) answer is
-
-verdict_status : (verdict : Verdict) (answer : Answer) → answer_to_verdict verdict ≡ Some answer → IsRefusalStatus answer.status
-verdict_status Legal answer is = absurd cc
-verdict_status (Bad n) answer is = answers (answer_to_entry n) answer is (inr (inr (inl refl)))
-
-history_status : (history : List Entry) (told : Result DayParts (ℕ × Cause)) (answer : Answer) → JudgesHistory history told (Some answer) → IsRefusalStatus answer.status
-history_status history (Ok file) answer (verdict, right, is) = verdict_status verdict answer is
-history_status history (Err (row, cause)) answer is = answers (answer_to (row, cause)) answer is (cause_status cause)
-
-audit_status : (journal behind : List ℕ) (answer : Answer) → JudgesParts journal behind (Some answer) → IsRefusalStatus answer.status
-audit_status journal behind answer (inl (row, bad, is)) = answers (answer_to_line row) answer is (inl refl)
-audit_status journal behind answer (inr (history, read, judged)) = history_status history (day_of behind) answer judged
-
-reroute_status : (told : Result DayParts (ℕ × Cause)) (answer : Answer) → JudgesFile told (Some answer) → IsRefusalStatus answer.status
-reroute_status (Ok file) answer (inl (room, is)) = absurd cc
-reroute_status (Ok file) answer (inr (long, is)) = answers answer_to_entries answer is (inr (inr (inr refl)))
-reroute_status (Err (row, cause)) answer is = answers (answer_to (row, cause)) answer is (cause_status cause)
-
-pub refusal_status : (t : Task) (options : Options) (bytes : List ℕ) (answer : Answer) → (command_by t options).Judges bytes (Some answer) → IsRefusalStatus answer.status
-refusal_status task.Check options bytes answer is = file_status (check_of bytes) answer is
-refusal_status task.Day options bytes answer is = file_status (day_of bytes) answer is
-refusal_status task.Make options bytes answer is = absurd cc
-refusal_status task.Trial options bytes answer is = absurd cc
-refusal_status task.Audit options bytes answer is = audit_status is.journal is.behind answer is.judged
-refusal_status task.Design options bytes answer is = file_status (check_of bytes) answer is
-refusal_status task.Convoy options bytes answer is = convoy_status options.trucks options.gap (check_of bytes) answer is
-refusal_status task.Reroute options bytes answer is = reroute_status (day_of bytes) answer is
-
 -- none of these is plain
 away : (k : ℕ) → k ≢ 0 → k ≢ 2 → k ≢ 3 → k ≢ 4 → k ≢ 7 → k ≢ 8 → (n : ℕ) → n ≡ k → IsPlain n → ⊥
 away k no0 no2 no3 no4 no7 no8 n is (inl e) = no0 (sym is ∙ e)
@@ -130,17 +61,6 @@ is_refusals n (inr (inr (inl nine))) plain =
     away 9 (λ e. omega (arith, e)) (λ e. omega (arith, e)) (λ e. omega (arith, e)) (λ e. omega (arith, e)) (λ e. omega (arith, e)) (λ e. omega (arith, e)) n nine plain
 is_refusals n (inr (inr (inr ten))) plain =
     away 10 (λ e. omega (arith, e)) (λ e. omega (arith, e)) (λ e. omega (arith, e)) (λ e. omega (arith, e)) (λ e. omega (arith, e)) (λ e. omega (arith, e)) n ten plain
-
--- a command that is no day's tells nobody
-pub tells_nobody : (t : Task) (options : Options) → (t ≡ task.Day → ⊥) → (bytes text : List ℕ) (output : (command_by t options).IsOutput bytes text) → (command_by t options).recalls bytes text output ≡ None
-tells_nobody task.Check options other bytes text output = refl
-tells_nobody task.Day options other bytes text output = absurd (other refl)
-tells_nobody task.Make options other bytes text output = refl
-tells_nobody task.Trial options other bytes text output = refl
-tells_nobody task.Audit options other bytes text output = refl
-tells_nobody task.Design options other bytes text output = refl
-tells_nobody task.Convoy options other bytes text output = refl
-tells_nobody task.Reroute options other bytes text output = refl
 
 -- a run of a day is one of whatever asks for a day, from where nothing was done before it
 pub of_day : {S K : Type 0} (asked : Option Asked) (before from after : Outside S K) (status : ℕ) → AsksForDay asked → from ≡ before → ((a : Asked) → a.task ≡ task.Day → IsRun (Some a) from after status)
@@ -271,7 +191,7 @@ module _ {S K : Type 0} (a : Asked) (before after : Outside S K) (most : TookAtM
 
     told_why : (answer : Answer) → c.Judges bytes (Some answer) → WroteLine answer.line before.sink after.sink → after.desk ≡ before.desk → IsRun (Some a) before after answer.status
     told_why answer refused told desk =
-        let named : IsPlain answer.status → ⊥ = is_refusals answer.status (refusal_status a.task a.options bytes answer refused) in record {
+        let named : IsPlain answer.status → ⊥ = is_refusals answer.status ((lawful a.task a.options).statuses bytes answer refused) in record {
           done = λ is. absurd (named (inl is));
           usage = λ is. absurd (named (inr (inl is)));
           unasked = λ none. absurd cc;

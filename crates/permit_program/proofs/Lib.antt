@@ -2,6 +2,7 @@ pub mod Lines
 pub mod Only
 pub mod Audits
 pub mod Reroutes
+pub mod Lawful
 pub mod Ends
 pub mod Heard
 pub mod Serial

@@ -10,12 +10,10 @@ use Rattle.road_graph.specs.Roads.{IsRoads}
 use Rattle.day_text.specs.declared.check_file.CheckFile.{CheckFile}
 use Rattle.day_text.specs.Checks.{check_of}
 use Rattle.day_text.specs.Days.{DayParts, day_of}
-use Rattle.check_report.specs.Reports.{IsOnlyReport, IsReport}
 use Rattle.convoy_moves.specs.Convoys.{EqualTrucks, convoy_of}
 use Rattle.convoy_moves.specs.Refusals.{first_refusal}
 use Rattle.convoy_moves.specs.declared.refusal.ConvoyRefusal.{ConvoyRefusal}
 use Rattle.loading_report.specs.Convoys.{IsConvoyReport, IsOnlyConvoyReport}
-use Rattle.loading_report.specs.Designs.{IsDesignReport, IsOnlyDesignReport}
 use Rattle.journal_text.specs.Journals.{journal_of}
 use Rattle.office_words.specs.declared.entry.Entry.{Entry}
 use Rattle.day_run.specs.Served.{IsServed, LoneActorsAreOne}
@@ -25,32 +23,21 @@ use Rattle.day_maker.specs.Made.{made_day}
 use Rattle.day_trial.specs.Serial.{IsSerial, SerialHistoriesAreOne}
 use Rattle.trial_report.specs.Summaries.{summary_of}
 use Rattle.permit_program.specs.Headline.{Headline}
-use Rattle.permit_program.specs.Check.{check}
 use Rattle.permit_program.specs.Command.{IsCommandAnswer, IsAnswerTo, IsRefusalOf, Makes, MakesAndTells, refusal_in}
 use Rattle.permit_program.specs.Convoy.{answer_to_convoy, convoy, convoy_refusal}
 use Rattle.permit_program.specs.Day.{HasFewActors, day}
-use Rattle.permit_program.specs.Design.{design}
+use Rattle.permit_program.specs.Reports.{reporting}
 use Rattle.permit_program.specs.Made.{IsTrial, make, trial}
 use Rattle.permit_program.specs.declared.refusal.Refusal.{Refusal}
 use Rattle.permit_program.specs.declared.refusal.Refusal.TheVariants as refusal
 
 -- the report on a check file
-pub report_made : (bytes text : List ℕ) (file : CheckFile) → check_of bytes ≡ Ok file → IsReport file text → IsOnlyReport file text → Makes check bytes text
-report_made bytes text file read report only = record {
+pub report_made : (IsReportOf : CheckFile → List ℕ → Type 0) (bytes text : List ℕ) (file : CheckFile) → check_of bytes ≡ Ok file → IsReportOf file text
+    → ((other : List ℕ) → IsReportOf file other → other ≡ text) → Makes (reporting IsReportOf) bytes text
+report_made IsReportOf bytes text file read report only = record {
   taken = ap refusal_in read;
   output = record { file = file; read = read; report = report };
-  only = λ free other h. let same : h.file ≡ file = cc (h.read, read) in only other (subst (λ (f : CheckFile). IsReport f other) same h.report);
-}
-
--- the report of `design` on a check file
-pub design_made : (bytes text : List ℕ) (file : CheckFile) → check_of bytes ≡ Ok file → IsDesignReport file text
-    → IsOnlyDesignReport file text → Makes design bytes text
-design_made bytes text file read report only = record {
-  taken = ap refusal_in read;
-  output = record { file = file; read = read; report = report };
-  only = λ free other h.
-      let same : h.file ≡ file = cc (h.read, read) in
-      only other (subst (λ (f : CheckFile). IsDesignReport f other) same h.report);
+  only = λ free other h. let same : h.file ≡ file = cc (h.read, read) in only other (subst (λ (f : CheckFile). IsReportOf f other) same h.report);
 }
 
 -- the report on a convoy, whose trucks pass no limit together

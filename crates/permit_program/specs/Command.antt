@@ -49,6 +49,11 @@ IsRefusalOf command bytes (Refused status line) =
     command.Judges bytes (Some (record { status = status; line = string_bytes line }))
 IsRefusalOf command bytes NoMemory = Unit {0}
 
+-- a judgement is that the bytes are refused in this way, unless memory was wanting
+abbrev pub IsRefusalBy : Option Answer → Refusal → Type 0
+IsRefusalBy judgement (Refused status line) = judgement ≡ Some (record { status = status; line = string_bytes line })
+IsRefusalBy judgement NoMemory = Unit {0}
+
 -- bytes are answered in this way, unless memory was wanting
 abbrev pub IsCommandAnswer : Answer → Refusal → Type 0
 IsCommandAnswer answer (Refused status line) = answer ≡ record { status = status; line = string_bytes line }

@@ -4,11 +4,10 @@ use Rattle.command_line.specs.declared.asked.Options.{Options}
 use Rattle.command_line.specs.declared.asked.Task.{Task}
 use Rattle.command_line.specs.declared.asked.Task.TheVariants as task
 use Rattle.permit_program.specs.Command.{Command}
-use Rattle.permit_program.specs.Check.{check}
+use Rattle.permit_program.specs.Reports.{check, design}
 use Rattle.permit_program.specs.Day.{day}
 use Rattle.permit_program.specs.Made.{make, trial}
 use Rattle.permit_program.specs.Audit.{audit}
-use Rattle.permit_program.specs.Design.{design}
 use Rattle.permit_program.specs.Convoy.{convoy}
 use Rattle.permit_program.specs.Reroute.{reroute}
 

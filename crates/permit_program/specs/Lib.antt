@@ -1,10 +1,9 @@
 pub mod Headline
 pub mod Command
 pub mod Audit
-pub mod Check
+pub mod Reports
 pub mod Day
 pub mod Made
-pub mod Design
 pub mod Convoy
 pub mod Reroute
 pub mod Commands

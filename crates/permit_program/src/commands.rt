@@ -8,11 +8,10 @@ ghost use Rattle.permit_program.specs.Commands.{command_of};
 ghost use Rattle.permit_program.specs.Runs.{most_bytes};
 
 use crate::audit::make_audit;
-use crate::check::make_report;
 use crate::convoy::make_convoy_report;
-use crate::design::make_design_report;
 use crate::made::{make_day_file, make_summary};
 use crate::refusal::Refusal;
+use crate::reports::{make_design_report, make_report};
 use crate::reroute::make_reroute_report;
 use command_line::{Asked, Task};
 use std::alloc::Global;

@@ -8,15 +8,14 @@
 #![tactic(auto)]
 
 mod audit;
-mod check;
 mod commands;
 mod convoy;
 mod day;
-mod design;
 mod laws;
 mod made;
 mod notices;
 mod refusal;
+mod reports;
 mod reroute;
 mod runs;
 

@@ -48,14 +48,7 @@ fn read_made_day(alloc: Global, seed: u32, size: u32) -> Result<DayFile, NoMemor
     made_days_are_accepted();
     match read_day(alloc, text.as_slice()) {
         Ok(file) => Ok(file),
-        Err(refusal) => Err(lack_memory(refusal)),
+        Err(FileRefusal::NoMemory) => Err(NoMemory),
+        Err(FileRefusal::Refused { .. }) => unreachable!(),
     }
-}
-
-// What refuses a file that is a day file.
-fn lack_memory(refusal: FileRefusal) -> NoMemory
-    requires { refusal ≡ FileRefusal.NoMemory }
-{
-    drop(refusal);
-    NoMemory
 }

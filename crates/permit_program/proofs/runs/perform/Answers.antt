@@ -3,7 +3,8 @@ use Rattle.permit_program.specs.Command.{IsRefusalOf, Makes}
 use Rattle.permit_program.specs.Commands.{command_of}
 use Rattle.permit_program.specs.Endings.{AnswersText}
 use Rattle.permit_program.specs.Runs.{Took, outside_of}
-use Rattle.permit_program.proofs.Ends.{ends_made, ends_refused, tells_nobody}
+use Rattle.permit_program.proofs.Ends.{ends_made, ends_refused}
+use Rattle.permit_program.proofs.Lawful.{tells_nobody}
 use Rattle.permit_program.proofs.runs.perform.Goals as goal
 
 pub returns-in-Ok-make_text : goal.returns-in-Ok-make_text

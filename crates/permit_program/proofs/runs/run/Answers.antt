@@ -1,9 +1,7 @@
-use Rattle.std.proofs.Common.{◌≡◌, ◌∙◌, ℕ, Some, map, subst, sym}
+use Rattle.std.proofs.Common.{◌∙◌, ℕ, map, subst, sym}
 use Rattle.std.specs.String.{string_bytes}
 use Rattle.command_line.specs.Asking.{asked_of}
-use Rattle.command_line.specs.declared.asked.Asked.{Asked}
-use Rattle.command_line.specs.declared.asked.Task.TheVariants as task
-use Rattle.permit_program.specs.Runs.{CountedDay, IsRun, Outside, desk_at, outside_of}
+use Rattle.permit_program.specs.Runs.{IsRun, desk_at, outside_of}
 use Rattle.permit_program.proofs.Ends.{counts_day, none_counted, of_day}
 use Rattle.permit_program.proofs.runs.run.Goals as goal
 
