@@ -1,9 +1,10 @@
 -- What the getters of matches read, over the rows of the matches.
-use Rattle.std.proofs.Common.{◌≡◌, ◌∙◌, ◌^◌, ◌<◌, ℕ, List, [], ◌∷◌, map, Option, Some, None, Result, Ok, refl, sym, ap, subst, codes}
+use Rattle.std.proofs.Common.{◌≡◌, ◌∙◌, ◌^◌, ◌<◌, ℕ, List, [], ◌∷◌, map, Option, Some, None, Result, refl, sym, ap, subst, codes}
 use Rattle.std.specs.Prelude.{IsSomeAnd, find, option_and_then, option_map, slice_get}
 use Rattle.std.specs.Str.{bytes_eq}
 use Rattle.std.specs.Borrow.{Bor}
-use Rattle.std.specs.Str.Parse.{ParsesUnsigned, digits_value, without_leading_plus}
+use Rattle.std.specs.Str.Parse.{ExplainsUnsignedError, HasUnsignedDigitsIfOk, ParsesUnsigned, digits_value, without_leading_plus}
+use Rattle.std.specs.declared.num.ParseIntError.{ParseIntError}
 use Rattle.clap.specs.Words.{first_of, first_value, found_of, one_of, one_text, read_as, rows_of, without_minus}
 use Rattle.clap.specs.Facts.{Entry}
 use Rattle.clap.specs.Matches.{ReadsOne}
@@ -43,16 +44,19 @@ pub task_of_text : (f : Found) (o : Option (Bor (List ℕ))) → option_map (λ 
     → option_and_then task_named (option_map (λ s. s.now) o) ≡ task_at (rows_of f)
 task_of_text f o h = ap (option_and_then task_named) (h ∙ first_value-rows f (codes "COMMAND"))
 
+-- what the getter of a `u32` reads of a text
+abbrev Gives : List ℕ → Result ℕ ParseIntError → Type 0
+Gives text r = ParsesUnsigned 32 10 text r × ExplainsUnsignedError 10 text r × HasUnsignedDigitsIfOk text r
+
 -- the typed getter of a number in a range gives the number at the option, in that range
-pub number_read : (E : Type 0) (G : List ℕ → Result ℕ E → Type 0) (m : ArgMatches) (option : NumberOption) (r : Option ℕ)
-    → ((u : List ℕ) (x : Result ℕ E) → G u x → ParsesUnsigned 32 10 u x) → option.most < 2 ^ 32
-    → ((t : List ℕ) → one_text (found_of m) option.name ≡ Some t → ReadsOne G t r) → HasNumberIn option m
+pub number_read : (m : ArgMatches) (option : NumberOption) (r : Option ℕ) → option.most < 2 ^ 32
+    → ((t : List ℕ) → one_text (found_of m) option.name ≡ Some t → ReadsOne Gives t r) → HasNumberIn option m
     → (r ≡ number_at option (rows_of (found_of m))) × IsSomeAnd r (IsInRange option)
-number_read E G m option r parses fits value told =
+number_read m option r fits value told =
     let t = without_minus told.0 in
     let here = value t told.1 in
-    let got = signed_reads E G 32 option.least option.most told.0 r here parses fits told.2 in
-    let read = parses t (Ok got.0) (subst (λ (x : Option ℕ). ReadsOne G t x) got.1 here) in
+    let got = signed_reads ParseIntError Gives 32 option.least option.most told.0 r here (λ u x g. g.0) fits told.2 in
+    let read = (subst (λ (x : Option ℕ). ReadsOne Gives t x) got.1 here).0 in
     let same : number_at option (rows_of (found_of m)) ≡ Some (digits_value 10 (without_leading_plus t)) =
     ap (option_map (λ text. digits_value 10 (without_leading_plus text))) (sym (one_text-rows (found_of m) option.name) ∙ told.1) in
     (got.1 ∙ ap Some read.1 ∙ sym same, subst (λ (x : Option ℕ). IsSomeAnd x (IsInRange option)) (sym got.1) (got.2, got.3))

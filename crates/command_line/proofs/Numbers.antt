@@ -1,9 +1,10 @@
 -- The options of the command line have a number in their range, after a parse that succeeds.
-use Rattle.std.proofs.Common.{◌≡◌, ◌⊎◌, ◌∙◌, ◌<◌, ℕ, zero, suc, true, List, [], ◌∷◌, length, map, Option, Some, None, is_some, Result, Ok, Err, IfOk, refl, sym, ap, inl, inr, arith, codes, true≢false}
+use Rattle.std.proofs.Common.{◌≡◌, ◌&&◌, ◌∙◌, ◌<◌, ℕ, zero, suc, Bool, true, false, List, [], ◌∷◌, length, map, Option, Some, None, is_some, Result, Ok, Err, IfOk, refl, sym, ap, inl, inr, arith, codes, true≢false}
 use Rattle.std.specs.Prelude.{not, pos}
-use Rattle.std.specs.List.{list_all, slice_index_or}
+use Rattle.std.specs.List.{list_all, list_any, slice_index_or}
 use Rattle.std.specs.Str.{bytes_eq}
 use Rattle.std.proofs.lemmas.List.{get_or-map, length-map}
+use Rattle.std.proofs.lemmas.List.Folds.{list_any_at}
 use Rattle.clap.specs.Words.{App, IsParsedFrom, Rule, app_of, args_of, groups_of, items_of, rule_of, shape_of}
 use Rattle.clap.specs.Facts.{least_values, unwrap_or_range}
 use Rattle.clap.specs.Walk.{is_simple_arg, texts}
@@ -22,37 +23,25 @@ abbrev pub all_rules : List Rule
 all_rules =
     word_rule ∷ number_rule seed_option ∷ number_rule size_option ∷ number_rule trucks_option ∷ number_rule gap_option ∷ []
 
-seed_place : (j : ℕ) (r : Rule) → j < 5 → bytes_eq (slice_index_or all_rules j r).id (codes "seed") ≡ true → j ≡ 1
-seed_place zero r low e = cc
-seed_place (suc zero) r low e = refl
-seed_place (suc (suc zero)) r low e = cc
-seed_place (suc (suc (suc zero))) r low e = cc
-seed_place (suc (suc (suc (suc zero)))) r low e = cc
-seed_place (suc (suc (suc (suc (suc j))))) r low e = absurd (omega arith)
+-- whether no rule but the one at the place has the name
+abbrev is_only_at : List ℕ → List Rule → ℕ → Bool
+is_only_at name [] k = true
+is_only_at name (r ∷ rules) zero = not (list_any (λ r. bytes_eq r.id name) rules)
+is_only_at name (r ∷ rules) (suc k) = not (bytes_eq r.id name) && is_only_at name rules k
 
-size_place : (j : ℕ) (r : Rule) → j < 5 → bytes_eq (slice_index_or all_rules j r).id (codes "size") ≡ true → j ≡ 2
-size_place zero r low e = cc
-size_place (suc zero) r low e = cc
-size_place (suc (suc zero)) r low e = refl
-size_place (suc (suc (suc zero))) r low e = cc
-size_place (suc (suc (suc (suc zero)))) r low e = cc
-size_place (suc (suc (suc (suc (suc j))))) r low e = absurd (omega arith)
+place : (name : List ℕ) (rules : List Rule) (k : ℕ) → is_only_at name rules k ≡ true
+    → (j : ℕ) (d : Rule) → j < length rules → bytes_eq (slice_index_or rules j d).id name ≡ true → j ≡ k
+place name [] k only j d low same = absurd (omega (arith, low))
+place name (r ∷ rules) zero only zero d low same = refl
+place name (r ∷ rules) zero only (suc j) d low same =
+    let there : list_any (λ r. bytes_eq r.id name) rules ≡ true = list_any_at (λ r. bytes_eq r.id name) rules j d (omega (arith, low)) same in
+    absurd (true≢false (sym only ∙ ap not there))
+place name (r ∷ rules) (suc k) only zero d low same = absurd (true≢false (sym (both _ _ only).0 ∙ ap not same))
+place name (r ∷ rules) (suc k) only (suc j) d low same = ap suc (place name rules k (both _ _ only).1 j d (omega (arith, low)) same)
 
-trucks_place : (j : ℕ) (r : Rule) → j < 5 → bytes_eq (slice_index_or all_rules j r).id (codes "trucks") ≡ true → j ≡ 3
-trucks_place zero r low e = cc
-trucks_place (suc zero) r low e = cc
-trucks_place (suc (suc zero)) r low e = cc
-trucks_place (suc (suc (suc zero))) r low e = refl
-trucks_place (suc (suc (suc (suc zero)))) r low e = cc
-trucks_place (suc (suc (suc (suc (suc j))))) r low e = absurd (omega arith)
-
-gap_place : (j : ℕ) (r : Rule) → j < 5 → bytes_eq (slice_index_or all_rules j r).id (codes "gap") ≡ true → j ≡ 4
-gap_place zero r low e = cc
-gap_place (suc zero) r low e = cc
-gap_place (suc (suc zero)) r low e = cc
-gap_place (suc (suc (suc zero))) r low e = cc
-gap_place (suc (suc (suc (suc zero)))) r low e = refl
-gap_place (suc (suc (suc (suc (suc j))))) r low e = absurd (omega arith)
+-- whether an option may have the name: it is neither empty nor that of an option of `clap`'s own
+abbrev may_be_named : List ℕ → Bool
+may_be_named name = not (list_any (bytes_eq name) ([] ∷ codes "help" ∷ codes "version" ∷ []))
 
 is_none : {X : Type 0} (o : Option X) → not (is_some o) ≡ true → o ≡ None
 is_none None e = refl
@@ -85,8 +74,10 @@ module _ (cmd : Command) (is : app_of cmd ≡ office) where
 
   -- the number at an option, by its place and its rule
   module _ (option : NumberOption) (k : ℕ) (low : k < 5) (here : (d : Rule) → slice_index_or all_rules k d ≡ number_rule option)
-      (only : (j : ℕ) (r : Rule) → j < 5 → bytes_eq (slice_index_or all_rules j r).id option.name ≡ true → j ≡ k)
-      (named : option.name ≡ [] → ⊥) (own : (option.name ≡ codes "help") ⊎ (option.name ≡ codes "version") → ⊥) where
+      (only : is_only_at option.name all_rules k ≡ true) (may : may_be_named option.name ≡ true) where
+    not_named : (name : List ℕ) → option.name ≡ name → may_be_named name ≡ false → ⊥
+    not_named name e hidden = true≢false (sym may ∙ ap may_be_named e ∙ hidden)
+
     rule : (d : Arg) → rule_of (slice_index_or (args_of cmd) k d) ≡ number_rule option
     rule d = rule_at k d low ∙ here (rule_of d)
 
@@ -97,9 +88,9 @@ module _ (cmd : Command) (is : app_of cmd ≡ office) where
     unique d j e lt same =
         let within : j < 5 = omega (arith, long) in
         let id_at : (slice_index_or (args_of cmd) j e).id.now ≡ (slice_index_or all_rules j (rule_of e)).id = ap (λ (r : Rule). r.id) (rule_at j e within) in
-        only j (rule_of e) within (sym (ap (λ t. bytes_eq t option.name) id_at) ∙ sym (ap (bytes_eq (slice_index_or (args_of cmd) j e).id.now) (id_is d)) ∙ same)
+        place option.name all_rules k only j (rule_of e) within (sym (ap (λ t. bytes_eq t option.name) id_at) ∙ sym (ap (bytes_eq (slice_index_or (args_of cmd) j e).id.now) (id_is d)) ∙ same)
 
-    pub numbers : (m : ArgMatches) (p : IsParsedFrom cmd m) (d : Arg) → HasNumberIn option m
+    numbers : (m : ArgMatches) (p : IsParsedFrom cmd m) (d : Arg) → HasNumberIn option m
     numbers m p d =
         let fields = plain_fields cmd plain in
         let no_groups : groups_of p.built ≡ [] = (p.from.same_groups (simple_groups cmd (ap (λ (a : App). list_all (λ r. r.is_simple) a.top.rules) is))).1 ∙ fields.groups in
@@ -109,56 +100,19 @@ module _ (cmd : Command) (is : app_of cmd ≡ office) where
         let least_is : least_values (slice_index_or (args_of cmd) k d) ≡ 1 = ap (λ (r : Rule). (unwrap_or_range r.range).start_inclusive) (rule d) in
         let one_default : length (texts (items_of (slice_index_or (args_of cmd) k d).default_vals)) ≡ 1 = ap (λ (r : Rule). length r.defaults) (rule d) in
         let parts = simple_parts (slice_index_or (args_of cmd) k d) simple in
-        value cmd m p k d (omega (arith, long)) (unique d) (λ auto. own (elim auto [ inl h ↦ inl (sym (id_is d) ∙ h) | inr h ↦ inr (sym (id_is d) ∙ h) ])) (vp.Signed (pos option.least) (pos option.most)) parser
-        fields.globals no_groups (parts.0, omega (arith, one_default, length-map (items_of (slice_index_or (args_of cmd) k d).default_vals) (λ s. s.now))) set parts.1 (omega (arith, least_is)) option.name (sym (id_is d)) named
+        value cmd m p k d (omega (arith, long)) (unique d) (λ auto. elim auto [ inl h ↦ not_named _ (sym (id_is d) ∙ h) refl | inr h ↦ not_named _ (sym (id_is d) ∙ h) refl ]) (vp.Signed (pos option.least) (pos option.most)) parser
+        fields.globals no_groups (parts.0, omega (arith, one_default, length-map (items_of (slice_index_or (args_of cmd) k d).default_vals) (λ s. s.now))) set parts.1 (omega (arith, least_is)) option.name (sym (id_is d)) (λ empty. not_named [] empty refl)
 
 one_of_five : (xs : List Arg) → length xs ≡ 5 → Arg
 one_of_five [] e = absurd (omega (arith, e))
 one_of_five (x ∷ xs) e = x
 
-first_byte : List ℕ → ℕ
-first_byte text = slice_index_or text 0 0
-
-seed_numbers : (cmd : Command) (m : ArgMatches) → app_of cmd ≡ office → IsParsedFrom cmd m → HasNumberIn seed_option m
-unfolding first_byte
-seed_numbers cmd m is p =
-    numbers cmd is seed_option 1 (omega arith) (λ r. refl) seed_place
-    (λ e. let bad : 115 ≡ 0 = ap first_byte e in absurd (omega arith))
-    (λ auto. elim auto [
-      | inl e ↦ (let bad : 115 ≡ 104 = ap first_byte e in absurd (omega arith))
-      | inr e ↦ (let bad : 115 ≡ 118 = ap first_byte e in absurd (omega arith))
-    ]) m p (one_of_five (args_of cmd) (long cmd is))
-
-size_numbers : (cmd : Command) (m : ArgMatches) → app_of cmd ≡ office → IsParsedFrom cmd m → HasNumberIn size_option m
-unfolding first_byte
-size_numbers cmd m is p =
-    numbers cmd is size_option 2 (omega arith) (λ r. refl) size_place
-    (λ e. let bad : 115 ≡ 0 = ap first_byte e in absurd (omega arith))
-    (λ auto. elim auto [
-      | inl e ↦ (let bad : 115 ≡ 104 = ap first_byte e in absurd (omega arith))
-      | inr e ↦ (let bad : 115 ≡ 118 = ap first_byte e in absurd (omega arith))
-    ]) m p (one_of_five (args_of cmd) (long cmd is))
-
-trucks_numbers : (cmd : Command) (m : ArgMatches) → app_of cmd ≡ office → IsParsedFrom cmd m → HasNumberIn trucks_option m
-unfolding first_byte
-trucks_numbers cmd m is p =
-    numbers cmd is trucks_option 3 (omega arith) (λ r. refl) trucks_place
-    (λ e. let bad : 116 ≡ 0 = ap first_byte e in absurd (omega arith))
-    (λ auto. elim auto [
-      | inl e ↦ (let bad : 116 ≡ 104 = ap first_byte e in absurd (omega arith))
-      | inr e ↦ (let bad : 116 ≡ 118 = ap first_byte e in absurd (omega arith))
-    ]) m p (one_of_five (args_of cmd) (long cmd is))
-
-gap_numbers : (cmd : Command) (m : ArgMatches) → app_of cmd ≡ office → IsParsedFrom cmd m → HasNumberIn gap_option m
-unfolding first_byte
-gap_numbers cmd m is p =
-    numbers cmd is gap_option 4 (omega arith) (λ r. refl) gap_place
-    (λ e. let bad : 103 ≡ 0 = ap first_byte e in absurd (omega arith))
-    (λ auto. elim auto [
-      | inl e ↦ (let bad : 103 ≡ 104 = ap first_byte e in absurd (omega arith))
-      | inr e ↦ (let bad : 103 ≡ 118 = ap first_byte e in absurd (omega arith))
-    ]) m p (one_of_five (args_of cmd) (long cmd is))
-
 pub has_numbers : (cmd : Command) (m : ArgMatches) → app_of cmd ≡ office → IsParsedFrom cmd m → HasNumbers m
 has_numbers cmd m is p =
-    record { seed = seed_numbers cmd m is p; size = size_numbers cmd m is p; trucks = trucks_numbers cmd m is p; gap = gap_numbers cmd m is p }
+    let arg = one_of_five (args_of cmd) (long cmd is) in
+    record {
+      seed = numbers cmd is seed_option 1 (omega arith) (λ r. refl) refl refl m p arg;
+      size = numbers cmd is size_option 2 (omega arith) (λ r. refl) refl refl m p arg;
+      trucks = numbers cmd is trucks_option 3 (omega arith) (λ r. refl) refl refl m p arg;
+      gap = numbers cmd is gap_option 4 (omega arith) (λ r. refl) refl refl m p arg;
+    }

@@ -2,75 +2,40 @@
 
 ghost use Rattle.std.specs.Prelude.{◌≡◌, false, IfOk};
 ghost use Rattle.clap.specs.Words.{app_of, rule_of};
-ghost use Rattle.command_line.specs.Office.{gap_option, made_office, number_rule, office, seed_option, size_option, trucks_option, word_rule};
+ghost use Rattle.command_line.specs.Office.{made_office, number_rule, office};
 
 use clap::{Arg, ArgAction, Command};
 use std::alloc::{AllocError, Global};
 
-// The argument COMMAND.
-fn word_argument<'a>(alloc: Global) -> Arg<'a>
-    ensures rule { rule_of result ≡ word_rule }
+// An option with a whole number: its name, the number that it has where it is not given, and its range.
+fn number_option<'a>(
+    alloc: Global,
+    name: &'a str,
+    default: &'a str,
+    least: u32,
+    most: u32,
+) -> Arg<'a>
+    ensures rule { rule_of result ≡ number_rule (record {
+      name = name.entry.now;
+      default = default.entry.now;
+      least = least;
+      most = most;
+    }) }
     ensures local { result.global ≡ false }
 {
-    Arg::new(alloc, "COMMAND")
-        .required(true)
+    Arg::new(alloc, name)
+        .long(name)
         .action(ArgAction::Set)
-}
-
-// The option --seed.
-fn seed_option<'a>(alloc: Global) -> Arg<'a>
-    ensures rule { rule_of result ≡ number_rule seed_option }
-    ensures local { result.global ≡ false }
-{
-    Arg::new(alloc, "seed")
-        .long("seed")
-        .action(ArgAction::Set)
-        .default_value("1")
-        .value_parser(clap::value_parser!(u32).range(0..=65_535))
-}
-
-// The option --size.
-fn size_option<'a>(alloc: Global) -> Arg<'a>
-    ensures rule { rule_of result ≡ number_rule size_option }
-    ensures local { result.global ≡ false }
-{
-    Arg::new(alloc, "size")
-        .long("size")
-        .action(ArgAction::Set)
-        .default_value("1")
-        .value_parser(clap::value_parser!(u32).range(1..=40))
-}
-
-// The option --trucks.
-fn trucks_option<'a>(alloc: Global) -> Arg<'a>
-    ensures rule { rule_of result ≡ number_rule trucks_option }
-    ensures local { result.global ≡ false }
-{
-    Arg::new(alloc, "trucks")
-        .long("trucks")
-        .action(ArgAction::Set)
-        .default_value("2")
-        .value_parser(clap::value_parser!(u32).range(2..=16))
-}
-
-// The option --gap.
-fn gap_option<'a>(alloc: Global) -> Arg<'a>
-    ensures rule { rule_of result ≡ number_rule gap_option }
-    ensures local { result.global ≡ false }
-{
-    Arg::new(alloc, "gap")
-        .long("gap")
-        .action(ArgAction::Set)
-        .default_value("360")
-        .value_parser(clap::value_parser!(u32).range(1..=3000))
+        .default_value(default)
+        .value_parser(clap::value_parser!(u32).range(i64::from(least)..=i64::from(most)))
 }
 
 /// The office's command line.
 pub(crate) fn office<'a>(alloc: Global) -> Result<Command<'a>, AllocError>
     ensures { IfOk result (λ c. app_of c ≡ office) }
 {
-    let trucks = trucks_option(alloc);
-    let gap = gap_option(alloc);
+    let trucks = number_option(alloc, "trucks", "2", 2, 16);
+    let gap = number_option(alloc, "gap", "360", 1, 3000);
     made_office(alloc)?.arg(trucks)?.arg(gap)
 }
 
@@ -78,9 +43,11 @@ pub(crate) fn office<'a>(alloc: Global) -> Result<Command<'a>, AllocError>
 fn made_office<'a>(alloc: Global) -> Result<Command<'a>, AllocError>
     ensures { IfOk result (λ c. app_of c ≡ made_office) }
 {
-    let word = word_argument(alloc);
-    let seed = seed_option(alloc);
-    let size = size_option(alloc);
+    let word = Arg::new(alloc, "COMMAND")
+        .required(true)
+        .action(ArgAction::Set);
+    let seed = number_option(alloc, "seed", "1", 0, 65_535);
+    let size = number_option(alloc, "size", "1", 1, 40);
     Command::new(alloc, "permit_cli")
         .no_binary_name(true)
         .arg(word)?
