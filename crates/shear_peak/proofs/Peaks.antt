@@ -40,8 +40,3 @@ is_first span axles end lead k value num den best l e p left = record {
   earlier = λ i h. below_misses (reaction_to axles span end i) value num den span (best.first i h) e p;
   left_first = λ r i h. below_misses (reaction_to axles span Left i) value num den span (left r i h) e p;
 }
-
--- the better of both ends
-pub both_ends : (axles : List Axle) (span k j x y : ℕ) → IsFirstBest axles span Left k x → IsFirstBest axles span Right j y → (value : ℕ) → x ≤ value → y ≤ value → (e : End) (i : ℕ) → i < length axles → reaction_to axles span e i ≤ value
-both_ends axles span k j x y l r value h g Left i w = omega (arith, l.greatest i w)
-both_ends axles span k j x y l r value h g Right i w = omega (arith, r.greatest i w)
