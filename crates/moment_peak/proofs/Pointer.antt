@@ -15,7 +15,6 @@ use Rattle.moment_peak.specs.Runs.{run, run_weight, run_moment}
 use Rattle.moment_peak.specs.Sweeps.{AreSums, IsSummed, IsOnSpan, IsFullRun}
 use Rattle.moment_peak.proofs.Runs.{weight_of, moment_of, balance}
 use Rattle.moment_peak.proofs.Between.{rises_on, all_from, all_up_to, all_take, no_front, no_back, IsFrom}
-use Rattle.moment_peak.proofs.RunSums.{are_sums, sum_less}
 use Rattle.moment_peak.proofs.Sweep.{can_be-longer, can_be-shorter, can_be-alone}
 
 -- the centre of weight of a run is not in front of its first axle
@@ -179,17 +178,3 @@ shorter_fresh span axles pair next n first shear k t =
           let on : 2 * (run_weight axles next.run.first next.run.last * (off.place + span)) ≤ far_support span axles k next.run.first next.run.last = rw here at (t.front_off (omega (arith, first))) in
           absurd (omega (arith, under, rises, on, t.shear_to (omega (arith, n.to))))
     ]
-
--- the first axle is part of the sums of those before a later one
-pub front_part : (axles : List Axle) (first k : ℕ) (before : Sums) (axle : Axle) → first < k → k < length axles → AreSums axles first k before → axle ≡ axle_at axles first → (axle.weight ≤ before.weight) × (axle.weight * axle.place ≤ before.moment)
-front_part axles first k before axle behind within b here = (
-  omega (arith, b.weight, ap weight_of here, sum_less weight_of axles first k behind (omega arith)),
-  omega (arith, b.moment, ap moment_of here, sum_less moment_of axles first k behind (omega arith)),
-)
-
--- the sums of those before a later one without it
-pub before_without : (axles : List Axle) (first k : ℕ) (before next : Sums) (axle : Axle) → IsTrain axles → first < k → k < length axles → AreSums axles first k before → axle ≡ axle_at axles first → next.weight + axle.weight ≡ before.weight → next.moment + axle.weight * axle.place ≡ before.moment → AreSums axles (first + 1) k next
-before_without axles first k before next axle train behind within b here weight moment =
-    are_sums axles (first + 1) k next train
-    (omega (arith, b.weight, weight, ap weight_of here, sum_less weight_of axles first k behind (omega arith)))
-    (omega (arith, b.moment, moment, ap moment_of here, sum_less moment_of axles first k behind (omega arith)))

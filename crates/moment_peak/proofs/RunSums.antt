@@ -60,6 +60,13 @@ sums_with axles first k before after axle train from within here b weight moment
     (omega (arith, weight, b.weight, ap weight_of here, sum_more weight_of axles first k from within))
     (omega (arith, moment, b.moment, ap moment_of here, sum_more moment_of axles first k from within))
 
+-- and without the first of them
+pub sums_without : (axles : List Axle) (first k : ℕ) (before next : Sums) (axle : Axle) → IsTrain axles → first < k → k ≤ length axles → AreSums axles first k before → axle ≡ axle_at axles first → next.weight + axle.weight ≡ before.weight → next.moment + axle.weight * axle.place ≡ before.moment → AreSums axles (first + 1) k next
+sums_without axles first k before next axle train behind within b here weight moment =
+    are_sums axles (first + 1) k next train
+    (omega (arith, b.weight, weight, ap weight_of here, sum_less weight_of axles first k behind within))
+    (omega (arith, b.moment, moment, ap moment_of here, sum_less moment_of axles first k behind within))
+
 -- no axle
 pub sums_none : (axles : List Axle) (first : ℕ) (sums : Sums) → IsTrain axles → sums.weight ≡ 0 → sums.moment ≡ 0 → AreSums axles first first sums
 sums_none axles first sums train weight moment = are_sums axles first first sums train (omega (arith, weight, sum_none weight_of axles first)) (omega (arith, moment, sum_none moment_of axles first))
@@ -77,9 +84,7 @@ pub summed_without_first : (axles : List Axle) (run next : Run) (axle : Axle) �
 summed_without_first axles run next axle train s longer here first last weight moment = record {
   ordered = omega (arith, first, last);
   within = omega (arith, last, s.within);
-  sums = rw (first, last) (are_sums axles (run.first + 1) (run.last + 1) next.sums train
-      (omega (arith, s.sums.weight, weight, ap weight_of here, sum_less weight_of axles run.first (run.last + 1) (omega arith) (omega (arith, s.within))))
-      (omega (arith, s.sums.moment, moment, ap moment_of here, sum_less moment_of axles run.first (run.last + 1) (omega arith) (omega (arith, s.within)))));
+  sums = rw (first, last) (sums_without axles run.first (run.last + 1) run.sums next.sums axle train (omega arith) (omega (arith, s.within)) s.sums here weight moment);
 }
 
 -- a run without its last axle
@@ -92,11 +97,11 @@ summed_without_last axles run next axle train s longer here first last weight mo
       (omega (arith, s.sums.moment, moment, ap moment_of here, sum_more moment_of axles run.first run.last s.ordered s.within)));
 }
 
--- its first axle and its last are part of its sums
-pub first_part : (axles : List Axle) (run : Run) (axle : Axle) → IsSummed axles run → axle ≡ axle_at axles run.first → (axle.weight ≤ run.sums.weight) × (axle.weight * axle.place ≤ run.sums.moment)
-first_part axles run axle s here = (
-  omega (arith, s.sums.weight, ap weight_of here, sum_less weight_of axles run.first (run.last + 1) (omega (arith, s.ordered)) (omega (arith, s.within))),
-  omega (arith, s.sums.moment, ap moment_of here, sum_less moment_of axles run.first (run.last + 1) (omega (arith, s.ordered)) (omega (arith, s.within))),
+-- the first axle is part of the sums of those before a later one, and the last one of a run of its sums
+pub front_part : (axles : List Axle) (first k : ℕ) (before : Sums) (axle : Axle) → first < k → k ≤ length axles → AreSums axles first k before → axle ≡ axle_at axles first → (axle.weight ≤ before.weight) × (axle.weight * axle.place ≤ before.moment)
+front_part axles first k before axle behind within b here = (
+  omega (arith, b.weight, ap weight_of here, sum_less weight_of axles first k behind within),
+  omega (arith, b.moment, ap moment_of here, sum_less moment_of axles first k behind within),
 )
 
 pub last_part : (axles : List Axle) (run : Run) (axle : Axle) → IsSummed axles run → axle ≡ axle_at axles run.last → (axle.weight ≤ run.sums.weight) × (axle.weight * axle.place ≤ run.sums.moment)

@@ -1,5 +1,4 @@
 use Rattle.std.proofs.Common.{◌<◌, arith, inl, inr}
-use Rattle.moment_peak.specs.Centres.{IsFirstBestPair}
 use Rattle.moment_peak.proofs.BestSoFar.{attained_of, best_more, best_start, on_summed, start_some, value_summed}
 use Rattle.moment_peak.proofs.OneCentre.{summed_loaded}
 use Rattle.moment_peak.proofs.Ties.{still_some}
@@ -11,8 +10,7 @@ returns-clause-first c = λ k first last t. c.pairs.invariant.first k first last
 
 pub returns-clause-best : goal.returns-clause-best
 returns-clause-best c =
-    let first : IsFirstBestPair c.args.span c.args.train.now c.pairs.best = λ k first last t. c.pairs.invariant.first k first last t (c.in_default.ensures.last k first last t) in
-    best_of_tight c.args.span c.args.train.now c.pairs.best c.requires.some c.requires.long c.start-pair.ensures.bounds first
+    best_of_tight c.args.span c.args.train.now c.pairs.best c.requires.some c.requires.long c.start-pair.ensures.bounds (returns-clause-first c)
 
 pub pairs-init : goal.pairs-init
 pairs-init c =

@@ -15,7 +15,6 @@ returns-clause-next c =
     let self = c.args.self in
     let run = c.with_next.ensures in
     let next : Pair = record { run = c.with_next.result; axle = self.axle; before = self.before } in
-    let pair = longer_pair c.args.span c.args.train.now self next c.len-len.ensures.bounds c.requires.pair c.requires.more c.requires.fits run.summed run.first run.last refl refl run.more.weight run.more.moment in
     run_next c.args.span c.args.train.now self next c.len-len.ensures.bounds c.requires.pair c.requires.last
     (λ first last can later. omega (arith, later, run.first, run.last))
-    (longer_fresh c.args.span c.args.train.now self next c.requires.pair pair c.requires.more run.last refl refl run.more.weight run.more.moment)
+    (longer_fresh c.args.span c.args.train.now self next c.requires.pair (returns-clause-pair c) c.requires.more run.last refl refl run.more.weight run.more.moment)

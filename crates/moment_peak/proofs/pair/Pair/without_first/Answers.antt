@@ -1,8 +1,8 @@
-use Rattle.std.proofs.Common.{◌<◌, arith, refl, sym}
+use Rattle.std.proofs.Common.{◌<◌, arith, refl, rules, sym}
 use Rattle.moment_peak.specs.declared.pair.Pair.{Pair}
 use Rattle.moment_peak.proofs.Order.{run_next}
-use Rattle.moment_peak.proofs.Pointer.{shorter_on, shorter_pair, shorter_fresh, fresh_pair, front_part, before_without}
-use Rattle.moment_peak.proofs.RunSums.{sums_none}
+use Rattle.moment_peak.proofs.Pointer.{shorter_on, shorter_pair, shorter_fresh, fresh_pair}
+use Rattle.moment_peak.proofs.RunSums.{front_part, sums_none, sums_without}
 use Rattle.moment_peak.proofs.pair.Pair.without_first.Goals as goal
 
 pub returns-then-self-clause-pair : goal.returns-then-self-clause-pair
@@ -24,34 +24,28 @@ returns-then-self-clause-next c =
     (λ first last can later. omega (arith, later, run.first, run.last))
     (λ k t. t.is_run.from)
 
-pub without-requires-clause-part_weight : goal.without-requires-clause-part_weight
-without-requires-clause-part_weight c = (front_part c.args.train.now c.args.self.run.first c.args.self.axle c.args.self.before c.axle.result (omega (arith, c.requires.pair.from, c.if-self.false)) (omega (arith, c.requires.pair.to, c.requires.pair.on.can_be.within)) c.requires.pair.before c.axle.ensures.value).0
+pub without-requires : goal.without-requires
+without-requires c =
+    let p = c.requires.pair in
+    let part = front_part c.args.train.now c.args.self.run.first c.args.self.axle c.args.self.before c.axle.result (omega (arith, p.from, c.if-self.false)) (omega (arith, p.to, p.on.can_be.within)) p.before c.axle.ensures.value in
+    record { part_weight = part.0; part_moment = part.1; axle_light = c.axle.ensures.light; axle_near = c.axle.ensures.near }
 
-pub without-requires-clause-part_moment : goal.without-requires-clause-part_moment
-without-requires-clause-part_moment c = (front_part c.args.train.now c.args.self.run.first c.args.self.axle c.args.self.before c.axle.result (omega (arith, c.requires.pair.from, c.if-self.false)) (omega (arith, c.requires.pair.to, c.requires.pair.on.can_be.within)) c.requires.pair.before c.axle.ensures.value).1
-
-pub returns-clause-pair : goal.returns-clause-pair
-returns-clause-pair c =
+pub returns : goal.returns
+returns c =
     let self = c.args.self in
     let axles = c.args.train.now in
     let train = c.len-len.ensures.bounds in
     let p = c.requires.pair in
     let run = c.without_first-run.ensures in
     let behind : self.run.first < self.axle = omega (arith, p.from, c.if-self.false) in
-    let before = before_without axles self.run.first self.axle self.before c.without.result c.axle.result train behind (omega (arith, p.to, p.on.can_be.within)) p.before c.axle.ensures.value c.without.ensures.weight c.without.ensures.moment in
-    (shorter_pair c.args.span axles self (record { run = c.without_first-run.result; axle = self.axle; before = c.without.result }) train p behind c.requires.full run.summed run.first run.last refl before (rw c.axle.ensures.value at c.without.ensures.weight) (sym run.less.weight) (sym run.less.moment)).1
-
-pub returns-clause-next : goal.returns-clause-next
-returns-clause-next c =
-    let self = c.args.self in
-    let axles = c.args.train.now in
-    let train = c.len-len.ensures.bounds in
-    let p = c.requires.pair in
-    let run = c.without_first-run.ensures in
-    let behind : self.run.first < self.axle = omega (arith, p.from, c.if-self.false) in
-    let before = before_without axles self.run.first self.axle self.before c.without.result c.axle.result train behind (omega (arith, p.to, p.on.can_be.within)) p.before c.axle.ensures.value c.without.ensures.weight c.without.ensures.moment in
+    let before = sums_without axles self.run.first self.axle self.before c.without.result c.axle.result train behind (omega (arith, p.to, p.on.can_be.within)) p.before c.axle.ensures.value c.without.ensures.weight c.without.ensures.moment in
     let next : Pair = record { run = c.without_first-run.result; axle = self.axle; before = c.without.result } in
     let pair = shorter_pair c.args.span axles self next train p behind c.requires.full run.summed run.first run.last refl before (rw c.axle.ensures.value at c.without.ensures.weight) (sym run.less.weight) (sym run.less.moment) in
-    run_next c.args.span axles self next train p c.requires.last
-    (λ first last can later. omega (arith, later, run.first, run.last))
-    (shorter_fresh c.args.span axles self next pair.1 run.first pair.0)
+    record {
+      pair = pair.1;
+      later = search rules;
+      axle = omega arith;
+      next = run_next c.args.span axles self next train p c.requires.last
+          (λ first last can later. omega (arith, later, run.first, run.last))
+          (shorter_fresh c.args.span axles self next pair.1 run.first pair.0);
+    }

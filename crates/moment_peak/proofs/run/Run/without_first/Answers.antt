@@ -1,12 +1,13 @@
-use Rattle.std.proofs.Common.{refl, sym}
-use Rattle.moment_peak.proofs.RunSums.{first_part, summed_without_first}
+use Rattle.std.proofs.Common.{◌+◌, arith, refl, sym}
+use Rattle.moment_peak.proofs.RunSums.{front_part, summed_without_first}
 use Rattle.moment_peak.proofs.run.Run.without_first.Goals as goal
 
-pub without-requires-clause-part_weight : goal.without-requires-clause-part_weight
-without-requires-clause-part_weight c = (first_part c.args.train.now c.args.self c.axle.result c.requires.summed c.axle.ensures.value).0
-
-pub without-requires-clause-part_moment : goal.without-requires-clause-part_moment
-without-requires-clause-part_moment c = (first_part c.args.train.now c.args.self c.axle.result c.requires.summed c.axle.ensures.value).1
+pub without-requires : goal.without-requires
+without-requires c =
+    let self = c.args.self in
+    let s = c.requires.summed in
+    let part = front_part c.args.train.now self.first (self.last + 1) self.sums c.axle.result (omega (arith, s.ordered)) (omega (arith, s.within)) s.sums c.axle.ensures.value in
+    record { part_weight = part.0; part_moment = part.1; axle_light = c.axle.ensures.light; axle_near = c.axle.ensures.near }
 
 pub returns-clause-summed : goal.returns-clause-summed
 returns-clause-summed c =

@@ -2,11 +2,10 @@ use Rattle.std.proofs.Common.{arith, refl}
 use Rattle.moment_peak.proofs.RunSums.{last_part, summed_without_last}
 use Rattle.moment_peak.proofs.run.Run.without_last.Goals as goal
 
-pub without-requires-clause-part_weight : goal.without-requires-clause-part_weight
-without-requires-clause-part_weight c = (last_part c.args.train.now c.args.self c.axle.result c.requires.summed c.axle.ensures.value).0
-
-pub without-requires-clause-part_moment : goal.without-requires-clause-part_moment
-without-requires-clause-part_moment c = (last_part c.args.train.now c.args.self c.axle.result c.requires.summed c.axle.ensures.value).1
+pub without-requires : goal.without-requires
+without-requires c =
+    let part = last_part c.args.train.now c.args.self c.axle.result c.requires.summed c.axle.ensures.value in
+    record { part_weight = part.0; part_moment = part.1; axle_light = c.axle.ensures.light; axle_near = c.axle.ensures.near }
 
 pub returns-clause-summed : goal.returns-clause-summed
 returns-clause-summed c =
