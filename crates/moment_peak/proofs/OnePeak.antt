@@ -36,11 +36,7 @@ cross d e ss sq ts tq S Q s1 q1 s2 q2 dp ep =
     eq_of_mul-eq-mul_right (d * e) (mul-pos dp ep) (ss * tq) (ts * sq) (omega (arith, ap (λ t. t * (e * tq)) s1, ap (λ t. S * t) q2, ap (λ t. t * (d * sq)) s2, ap (λ t. S * t) q1))
 
 place_same : (a b : Place) → a.q ≡ b.q → a.lead ≡ b.lead → a.section ≡ b.section → a ≡ b
-place_same a b h k l =
-    let by_q : ℕ → Place = λ x. record { q = x; lead = a.lead; section = a.section } in
-    let by_lead : ℤ → Place = λ x. record { q = b.q; lead = x; section = a.section } in
-    let by_section : ℕ → Place = λ x. record { q = b.q; lead = b.lead; section = x } in
-    ap by_q h ∙ (ap by_lead k ∙ ap by_section l)
+place_same a b h k l = λ i. record { q = h i; lead = k i; section = l i }
 
 -- a place has one form at the coarsest scale
 lowest_place_unique : (whole a b : Place) → 1 ≤ whole.q → IsLowestPlace whole a → IsLowestPlace whole b → a ≡ b
@@ -86,13 +82,7 @@ module _ (axles : List Axle) (span num den : ℕ) where
       ]
 
 peak_same : (a b : MomentPeak) → a.value ≡ b.value → a.place ≡ b.place → a.axle ≡ b.axle → a.first ≡ b.first → a.last ≡ b.last → a ≡ b
-peak_same a b h1 h2 h3 h4 h5 =
-    let by_value : Ratio → MomentPeak = λ x. record { value = x; place = a.place; axle = a.axle; first = a.first; last = a.last } in
-    let by_place : Place → MomentPeak = λ x. record { value = b.value; place = x; axle = a.axle; first = a.first; last = a.last } in
-    let by_axle : ℕ → MomentPeak = λ x. record { value = b.value; place = b.place; axle = x; first = a.first; last = a.last } in
-    let by_first : ℕ → MomentPeak = λ x. record { value = b.value; place = b.place; axle = b.axle; first = x; last = a.last } in
-    let by_last : ℕ → MomentPeak = λ x. record { value = b.value; place = b.place; axle = b.axle; first = b.first; last = x } in
-    ap by_value h1 ∙ (ap by_place h2 ∙ (ap by_axle h3 ∙ (ap by_first h4 ∙ ap by_last h5)))
+peak_same a b h1 h2 h3 h4 h5 = λ i. record { value = h1 i; place = h2 i; axle = h3 i; first = h4 i; last = h5 i }
 
 -- the run of a vertex has weight
 scale_some : (axles : List Axle) (span k first last : ℕ) (a : Place) → IsVertex axles span k first last a → IsTrain axles → 1 ≤ a.q

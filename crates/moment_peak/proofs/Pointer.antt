@@ -126,19 +126,25 @@ longer_pair span axles pair next train p more fits summed first last axle before
       to_next = λ further. rw last (omega (arith, shear, mul-le-mul_left next.run.sums.weight (place_ordered axles 0 (pair.run.last + 1) (pair.run.last + 1 + 1) train.rising (omega arith) (rw last at further))));
     }
 
--- no tight pair of the longer run is in front
-pub longer_fresh : (span : ℕ) (axles : List Axle) (pair next : Pair) → IsPair span axles pair → IsPair span axles next → pair.run.last + 1 < length axles → next.run.last ≡ pair.run.last + 1 → next.axle ≡ pair.axle → next.before ≡ pair.before → next.run.sums.weight ≡ pair.run.sums.weight + (axle_at axles (pair.run.last + 1)).weight → next.run.sums.moment ≡ pair.run.sums.moment + (axle_at axles (pair.run.last + 1)).weight * (axle_at axles (pair.run.last + 1)).place → (k : ℕ) → IsTight span axles k next.run.first next.run.last → next.axle ≤ k
-longer_fresh span axles pair next p n more last axle before weight moment k t =
+-- where the shear under a pair's axle is at least 0 while the far support is in front of a place, and the vertices of its run's tight pairs have it there or behind, none of these is in front
+fresh : (span : ℕ) (axles : List Axle) (next : Pair) (place : ℕ) → IsPair span axles next → IsShearFrom span next place
+    → ((k : ℕ) → IsTight span axles k next.run.first next.run.last → 2 * (run_weight axles next.run.first next.run.last * place) ≤ far_support span axles k next.run.first next.run.last)
+    → (k : ℕ) → IsTight span axles k next.run.first next.run.last → next.axle ≤ k
+fresh span axles next place n shear on k t =
     elim (cases_lt k next.axle) [
       | inr rest ↦ rest
       | inl front ↦
-          let end = axle_at axles (pair.run.last + 1) in
-          let shear : IsShearFrom span next end.place = rw (before, weight, moment) (omega (arith, p.to_next more)) in
-          let under : span * weight_to axles next.run.first next.axle + run_moment axles next.run.first next.run.last ≤ run_weight axles next.run.first next.run.last * end.place = rw (n.before.weight, n.on.sums.weight, n.on.sums.moment) at shear in
+          let under : span * weight_to axles next.run.first next.axle + run_moment axles next.run.first next.run.last ≤ run_weight axles next.run.first next.run.last * place = rw (n.before.weight, n.on.sums.weight, n.on.sums.moment) at shear in
           let rises = mul-le-mul_left span (weight_rises axles next.run.first (k + 1) next.axle (omega arith)) in
-          let on : 2 * (run_weight axles next.run.first next.run.last * end.place) ≤ far_support span axles k next.run.first next.run.last = omega (arith, t.last_on, ap (λ (i : ℕ). run_weight axles next.run.first next.run.last * (axle_at axles i).place) last) in
-          absurd (omega (arith, under, rises, on, t.shear_to (omega (arith, n.to))))
+          absurd (omega (arith, under, rises, on k t, t.shear_to (omega (arith, n.to))))
     ]
+
+-- no tight pair of the longer run is in front
+pub longer_fresh : (span : ℕ) (axles : List Axle) (pair next : Pair) → IsPair span axles pair → IsPair span axles next → pair.run.last + 1 < length axles → next.run.last ≡ pair.run.last + 1 → next.axle ≡ pair.axle → next.before ≡ pair.before → next.run.sums.weight ≡ pair.run.sums.weight + (axle_at axles (pair.run.last + 1)).weight → next.run.sums.moment ≡ pair.run.sums.moment + (axle_at axles (pair.run.last + 1)).weight * (axle_at axles (pair.run.last + 1)).place → (k : ℕ) → IsTight span axles k next.run.first next.run.last → next.axle ≤ k
+longer_fresh span axles pair next p n more last axle before weight moment =
+    let end = (axle_at axles (pair.run.last + 1)).place in
+    fresh span axles next end n (rw (before, weight, moment) (omega (arith, p.to_next more)))
+    (λ k t. omega (arith, t.last_on, ap (λ (i : ℕ). run_weight axles next.run.first next.run.last * (axle_at axles i).place) last))
 
 -- what the shear loses with the first axle, the run loses too
 shear_without : (span B' B R' R S' S w p : ℕ) → B' + w ≡ B → R' + w ≡ R → S' + w * p ≡ S → span * B + S ≤ R * (p + span) → span * B' + S' ≤ R' * (p + span)
@@ -167,14 +173,6 @@ shorter_pair span axles pair next train p behind full summed first last axle bef
 
 -- no tight pair of the shorter run is in front
 pub shorter_fresh : (span : ℕ) (axles : List Axle) (pair next : Pair) → IsPair span axles next → next.run.first ≡ pair.run.first + 1 → IsShearFrom span next ((axle_at axles pair.run.first).place + span) → (k : ℕ) → IsTight span axles k next.run.first next.run.last → next.axle ≤ k
-shorter_fresh span axles pair next n first shear k t =
-    elim (cases_lt k next.axle) [
-      | inr rest ↦ rest
-      | inl front ↦
-          let off = axle_at axles pair.run.first in
-          let under : span * weight_to axles next.run.first next.axle + run_moment axles next.run.first next.run.last ≤ run_weight axles next.run.first next.run.last * (off.place + span) = rw (n.before.weight, n.on.sums.weight, n.on.sums.moment) at shear in
-          let rises = mul-le-mul_left span (weight_rises axles next.run.first (k + 1) next.axle (omega arith)) in
-          let here : next.run.first - 1 ≡ pair.run.first = omega (arith, first) in
-          let on : 2 * (run_weight axles next.run.first next.run.last * (off.place + span)) ≤ far_support span axles k next.run.first next.run.last = rw here at (t.front_off (omega (arith, first))) in
-          absurd (omega (arith, under, rises, on, t.shear_to (omega (arith, n.to))))
-    ]
+shorter_fresh span axles pair next n first shear =
+    let here : next.run.first - 1 ≡ pair.run.first = omega (arith, first) in
+    fresh span axles next ((axle_at axles pair.run.first).place + span) n shear (λ k t. rw here at (t.front_off (omega (arith, first))))
