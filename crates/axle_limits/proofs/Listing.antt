@@ -56,8 +56,7 @@ all_group_findings axles f is =
     let high : computed_limit_of axles f.i f.j < group_weight axles f.i f.j = omega (arith, limit, is.weight_is, is.over) in
     let passes = lt-ltb (computed_limit_of axles f.i f.j) (group_weight axles f.i f.j) high in
     let told : finding_of axles (group_at axles f.i f.j) ≡ f =
-    ap (λ (w : ℕ). record { i = f.i; j = f.j; weight = w; limit = (group_limit_of axles f.i f.j).limit; rule = (group_limit_of axles f.i f.j).rule }) (sym is.weight_is)
-    ∙ ap (λ (l : GroupLimit). record { i = f.i; j = f.j; weight = f.weight; limit = l.limit; rule = l.rule }) only in
+    λ t. record { i = f.i; j = f.j; weight = sym is.weight_is t; limit = (only t).limit; rule = (only t).rule } in
     subst (Contains (over_limit axles (groups_of axles))) told
     (contains_map (finding_of axles) (over axles) (group_at axles f.i f.j)
     (contains_filter is_over_limit (groups_of axles) (group_at axles f.i f.j) passes (groups_contain axles f.i f.j is.ordered is.within)))
@@ -83,12 +82,7 @@ gross_computed axles = record { i = 0; j = length axles - 1; weight = gross_of a
 
 -- a finding of the gross weight is this one
 gross_only : (axles : List Axle) (f : Finding) → IsGrossFinding axles f → gross_computed axles ≡ f
-gross_only axles f h =
-    ap (λ (t : ℕ). record { i = t; j = length axles - 1; weight = gross_of axles; limit = GROSS_LIMIT; rule = Gross }) (sym h.from_first)
-    ∙ ap (λ (t : ℕ). record { i = f.i; j = t; weight = gross_of axles; limit = GROSS_LIMIT; rule = Gross }) (sym h.to_last)
-    ∙ ap (λ (t : ℕ). record { i = f.i; j = f.j; weight = t; limit = GROSS_LIMIT; rule = Gross }) (sym h.weight_is)
-    ∙ ap (λ (t : ℕ). record { i = f.i; j = f.j; weight = f.weight; limit = t; rule = Gross }) (sym h.limit_is)
-    ∙ ap (λ (t : Rule). record { i = f.i; j = f.j; weight = f.weight; limit = f.limit; rule = t }) (sym h.rule_is)
+gross_only axles f h = λ t. record { i = sym h.from_first t; j = sym h.to_last t; weight = sym h.weight_is t; limit = sym h.limit_is t; rule = sym h.rule_is t }
 
 -- the list of the gross weight's finding: it is empty, or has this one
 record GrossIsTold (axles : List Axle) (list : List Finding) : Type 0 where

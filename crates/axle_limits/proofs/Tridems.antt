@@ -98,7 +98,7 @@ one_heaviest axles g h is other =
     let first : g.i ≡ h.i = omega (arith, low, high) in
     let last : g.j ≡ h.j = omega (arith, first, is.is_tridem.three, other.is_tridem.three) in
     let weight : g.weight ≡ h.weight = is.weight_is ∙ ap (λ i. group_weight axles i g.j) first ∙ ap (group_weight axles h.i) last ∙ sym other.weight_is in
-    ap (λ i. record { i = i; j = g.j; weight = g.weight }) first ∙ ap (λ j. record { i = h.i; j = j; weight = g.weight }) last ∙ ap (λ w. record { i = h.i; j = h.j; weight = w }) weight
+    λ t. record { i = first t; j = last t; weight = weight t }
 
 -- the definition finds the heaviest tridem group
 pub heaviest_is_found : (axles : List Axle) (g : Heaviest) → IsHeaviestTridem axles g → heaviest_tridem_of axles ≡ Some g
