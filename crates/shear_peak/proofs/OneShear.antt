@@ -30,11 +30,7 @@ module _ (axles : List Axle) (span num den : ℕ) where
       p.lead_is ∙ (ap (λ k. lead_to span e (axle_at axles k).place) axle ∙ sym r.lead_is)
 
 peak_same : (a b : ShearPeak) → a.value ≡ b.value → a.lead ≡ b.lead → a.end ≡ b.end → a ≡ b
-peak_same a b h k l =
-    let by_value : Ratio → ShearPeak = λ x. record { value = x; lead = a.lead; end = a.end } in
-    let by_lead : ℤ → ShearPeak = λ x. record { value = b.value; lead = x; end = a.end } in
-    let by_end : End → ShearPeak = λ x. record { value = b.value; lead = b.lead; end = x } in
-    ap by_value h ∙ (ap by_lead k ∙ ap by_end l)
+peak_same a b h k l = λ i. record { value = h i; lead = k i; end = l i }
 
 pub shear_peak_is_one : ShearPeakIsOne
 shear_peak_is_one axles span a b some p r =
