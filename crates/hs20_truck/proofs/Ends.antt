@@ -18,6 +18,13 @@ hs20_reaction n end lead first second = 8000 * reaction_line n end lead + 32000 
 same_at : (n : ℕ) (end : End) (x y : ℤ) → x ≡ y → reaction_line n end x ≤ reaction_line n end y
 same_at n end x y e = rw e (omega arith)
 
+-- the lead itself is such a one, where the last axle gives no less there
+stays : (n : ℕ) (end : End) (lead : ℤ) (first second : ℕ) → reaction_line n end (lead +ℤ pos (first + second)) ≤ reaction_line n end (lead +ℤ pos (first + first))
+    → (d : ℕ) × (hs20_reaction n end lead first second ≤ hs20_reaction n end (lead +ℤ pos d) first first)
+stays n end lead first second last =
+    let here : lead +ℤ pos 0 ≡ lead = omega (arith, ints) in
+    (0, rw here (omega (arith, last)))
+
 -- there is a lead at which the smallest spacing is no better
 pub reaction_closest : (n : ℕ) (end : End) (lead : ℤ) (first second : ℕ) → first ≤ second → (d : ℕ) × (hs20_reaction n end lead first second ≤ hs20_reaction n end (lead +ℤ pos d) first first)
 reaction_closest n Left lead first second k =
@@ -29,13 +36,7 @@ reaction_closest n Left lead first second k =
           let at : lead +ℤ pos (first + second) ≡ (lead +ℤ pos d) +ℤ pos (first + first) = omega (arith, ints) in
           let three = same_at n Left (lead +ℤ pos (first + second)) ((lead +ℤ pos d) +ℤ pos (first + first)) at in
           (d, omega (arith, one, two, three))
-      | inr on ↦
-          let at_one : lead ≡ lead +ℤ pos 0 = omega (arith, ints) in
-          let at_two : lead +ℤ pos first ≡ (lead +ℤ pos 0) +ℤ pos first = omega (arith, ints) in
-          let one = same_at n Left lead (lead +ℤ pos 0) at_one in
-          let two = same_at n Left (lead +ℤ pos first) ((lead +ℤ pos 0) +ℤ pos first) at_two in
-          let three = left_nearer n (lead +ℤ pos (first + second)) ((lead +ℤ pos 0) +ℤ pos (first + first)) (omega (arith, ints, on)) (omega (arith, ints)) in
-          (0, omega (arith, one, two, three))
+      | inr on ↦ stays n Left lead first second (left_nearer n (lead +ℤ pos (first + second)) (lead +ℤ pos (first + first)) (omega (arith, ints, on)) (omega (arith, ints)))
     ]
 reaction_closest n Right lead first second k =
     elim (either_side (lead +ℤ pos (first + second)) (n + 1)) [
@@ -46,13 +47,7 @@ reaction_closest n Right lead first second k =
           let two = right_nearer n (lead +ℤ pos first) ((lead +ℤ pos d) +ℤ pos first) (omega (arith, ints)) (omega (arith, ints, on)) in
           let three = same_at n Right (lead +ℤ pos (first + second)) ((lead +ℤ pos d) +ℤ pos (first + first)) at in
           (d, omega (arith, one, two, three))
-      | inr off ↦
-          let at_one : lead ≡ lead +ℤ pos 0 = omega (arith, ints) in
-          let at_two : lead +ℤ pos first ≡ (lead +ℤ pos 0) +ℤ pos first = omega (arith, ints) in
-          let one = same_at n Right lead (lead +ℤ pos 0) at_one in
-          let two = same_at n Right (lead +ℤ pos first) ((lead +ℤ pos 0) +ℤ pos first) at_two in
-          let three = right_past n (lead +ℤ pos (first + second)) (omega (arith, ints, off)) in
-          (0, omega (arith, one, two, three))
+      | inr off ↦ stays n Right lead first second (omega (arith, right_past n (lead +ℤ pos (first + second)) (omega (arith, ints, off))))
     ]
 
 hs20_sum : (q n : ℕ) (end : End) (lead : ℤ) (second : ℕ) → reaction_sum n end (hs20_loads q lead second) ≡ hs20_reaction n end lead (168 * q) second

@@ -1,7 +1,6 @@
 -- The effects of a train and those of the design truck are their peaks, and no others are. The crates above turn peaks into these functions by the lemmas here.
-use Rattle.std.proofs.Common.{◌≡◌, ℕ, ◌≤◌, List, arith, refl, ap, ◌∙◌}
+use Rattle.std.proofs.Common.{◌≡◌, ℕ, ◌≤◌, List, arith, refl}
 use Rattle.axle_train.specs.Bounds.{IsTrain}
-use Rattle.influence_line.specs.Fractions.{Ratio}
 use Rattle.influence_line.specs.Placed.{Load}
 use Rattle.influence_line.specs.Peaks.{IsTrainPlaced, IsHs20Placed}
 use Rattle.influence_line.proofs.Unique.{moment_unique, shear_unique}
@@ -45,17 +44,12 @@ unfolding design_of
 design_is_the_peaks span some long =
     of_all_spacings span (effects_of design_axles span) (effects_are_the_peaks design_axles span design_is_train some long)
 
-same_fields : (e f : Effects) → e.moment ≡ f.moment → e.shear ≡ f.shear → e ≡ f
-same_fields e f m s =
-    let by_moment : Ratio → Effects = λ x. record { moment = x; shear = e.shear } in
-    let by_shear : Ratio → Effects = λ x. record { moment = f.moment; shear = x } in
-    ap by_moment m ∙ ap by_shear s
-
 -- one set of placements has one pair of effects
 same_effects : (Allowed : ℕ → List Load → Type 0) (span : ℕ) (e f : Effects) → 1 ≤ span → AreEffects Allowed span e → AreEffects Allowed span f → e ≡ f
-same_effects Allowed span e f some a b = same_fields e f
-    (moment_unique Allowed span e.moment f.moment some a.small.moment.lowest b.small.moment.lowest a.moment b.moment)
-    (shear_unique Allowed span e.shear f.shear some a.small.shear.lowest b.small.shear.lowest a.shear b.shear)
+same_effects Allowed span e f some a b = λ i. record {
+  moment = moment_unique Allowed span e.moment f.moment some a.small.moment.lowest b.small.moment.lowest a.moment b.moment i;
+  shear = shear_unique Allowed span e.shear f.shear some a.small.shear.lowest b.small.shear.lowest a.shear b.shear i;
+}
 
 -- what are the peaks of a train are its effects
 pub effects_are_one : EffectsAreOne

@@ -2,7 +2,6 @@
 
 ghost use Rattle.std.specs.Prelude.{◌≡◌, ◌≤◌, List, IfOk};
 ghost use Rattle.axle_train.specs.declared.axle.Axle.{Axle};
-ghost use Rattle.span_rating.specs.Carrying.{CarriesFrom};
 ghost use Rattle.hs20_truck.specs.Kept.{IsTableKept, IsNumberFor, IsTable};
 
 use crate::live::{is_carried, study_of};
@@ -63,7 +62,8 @@ impl Kept {
         if number_of(&self.numbers, inches) != 0 {
             return Ok(());
         }
-        let least = least_for(&self.train, inches);
+        let study = study_of(&self.train, inches);
+        let least = least_rating(&study.truck, &study.design);
         let mut numbers = table_of(alloc, self.numbers.take())?;
         numbers[inches as usize] = least + 1;
         self.numbers = Some(numbers);
@@ -108,15 +108,4 @@ fn table_of(alloc: Global, numbers: Option<Vec<u32>>) -> Result<Vec<u32>, AllocE
         Some(numbers) => Ok(numbers),
         None => vec![in alloc; 0; 6001],
     }
-}
-
-// The least rating with which spans of this length carry the train.
-fn least_for(train: &Train, inches: u32) -> u32
-    requires some { 1 ≤ inches }
-    requires long { inches ≤ 6000 }
-    ensures bound { result ≤ 100001 }
-    ensures least { CarriesFrom train.now inches result }
-{
-    let study = study_of(train, inches);
-    least_rating(&study.truck, &study.design)
 }
