@@ -1,5 +1,5 @@
 -- The greatest of the peaks of the three design loads, and the first load that reaches it, are one.
-use Rattle.std.proofs.Common.{◌≡◌, ℕ, ◌*◌, ◌≤◌, List, arith, refl, ap, ◌∙◌}
+use Rattle.std.proofs.Common.{◌≡◌, ℕ, ◌*◌, ◌≤◌, List, arith, refl}
 use Rattle.std.proofs.Math.Nat.{le_antisymm}
 use Rattle.influence_line.specs.Fractions.{Ratio}
 use Rattle.influence_line.specs.Placed.{Load}
@@ -106,16 +106,6 @@ same_load IsPeakBy f g a b one is other =
 abbrev pub put_together : Ratio → By → Ratio → By → GreatestEffects
 put_together m mb s sb = record { moment = m; moment_by = mb; shear = s; shear_by = sb }
 
-same_fields : (e f : GreatestEffects) → e.moment ≡ f.moment → e.moment_by ≡ f.moment_by → e.shear ≡ f.shear
-    → e.shear_by ≡ f.shear_by
-    → e ≡ f
-same_fields e f m mb s sb =
-    let by_moment : Ratio → GreatestEffects = λ x. put_together x e.moment_by e.shear e.shear_by in
-    let by_moment_load : By → GreatestEffects = λ x. put_together f.moment x e.shear e.shear_by in
-    let by_shear : Ratio → GreatestEffects = λ x. put_together f.moment f.moment_by x e.shear_by in
-    let by_shear_load : By → GreatestEffects = λ x. put_together f.moment f.moment_by f.shear x in
-    ap by_moment m ∙ ap by_moment_load mb ∙ ap by_shear s ∙ ap by_shear_load sb
-
 -- on a span there is one
 pub greatest_unique : (span : ℕ) (e f : GreatestEffects) → 1 ≤ span → AreGreatest span e → AreGreatest span f → e ≡ f
 greatest_unique span e f some a b =
@@ -123,8 +113,9 @@ greatest_unique span e f some a b =
     let shears = shears_have_one span some in
     let moment = greatest_same (IsPeakMomentBy span) e.moment f.moment e.moment_by f.moment_by moments a.moment b.moment in
     let shear = greatest_same (IsPeakShearBy span) e.shear f.shear e.shear_by f.shear_by shears a.shear b.shear in
-    same_fields e f
-    (lowest_unique e.moment f.moment a.small.moment.lowest b.small.moment.lowest moment)
-    (same_load (IsPeakMomentBy span) e.moment f.moment e.moment_by f.moment_by moments a.moment b.moment)
-    (lowest_unique e.shear f.shear a.small.shear.lowest b.small.shear.lowest shear)
-    (same_load (IsPeakShearBy span) e.shear f.shear e.shear_by f.shear_by shears a.shear b.shear)
+    λ i. record {
+      moment = lowest_unique e.moment f.moment a.small.moment.lowest b.small.moment.lowest moment i;
+      moment_by = same_load (IsPeakMomentBy span) e.moment f.moment e.moment_by f.moment_by moments a.moment b.moment i;
+      shear = lowest_unique e.shear f.shear a.small.shear.lowest b.small.shear.lowest shear i;
+      shear_by = same_load (IsPeakShearBy span) e.shear f.shear e.shear_by f.shear_by shears a.shear b.shear i;
+    }

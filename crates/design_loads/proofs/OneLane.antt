@@ -1,12 +1,11 @@
 -- The effects of the lane load by each fraction of their value; they are its peaks, and no others are.
-use Rattle.std.proofs.Common.{◌≡◌, ℕ, ◌+◌, ◌*◌, ◌<◌, ◌≤◌, arith, ap, ◌∙◌}
+use Rattle.std.proofs.Common.{◌≡◌, ℕ, ◌+◌, ◌*◌, ◌<◌, ◌≤◌, arith}
 use Rattle.std.proofs.Math.Nat.{le_antisymm, mul-le-mul, mul-pos}
 use Rattle.influence_line.specs.Fractions.{Ratio, IsLowest, IsRatio, IsSmall}
 use Rattle.influence_line.proofs.Lowest.{lowest_least, lowest_unique}
 use Rattle.influence_line.proofs.LowestTerms.{lowest_is, lowest_same}
 use Rattle.influence_line.specs.Greatest.{lowest_of}
 use Rattle.moment_peak.proofs.Cross.{cross_trans}
-use Rattle.span_rating.specs.declared.loading.Effects.{Effects}
 use Rattle.design_loads.specs.LanePeaks.{IsPeakLaneMoment, IsPeakLaneShear, AreLaneEffects}
 use Rattle.design_loads.specs.SpanEffects.{lane_of}
 use Rattle.design_loads.specs.Laws.{LaneIsOne, LaneIsThePeaks}
@@ -104,18 +103,13 @@ lane_is_the_peaks span some long =
     (lowest_is moment (omega arith)) (lowest_same moment (omega arith))
     (lowest_is shear (omega arith)) (lowest_same shear (omega arith))
 
-same_fields : (e f : Effects) → e.moment ≡ f.moment → e.shear ≡ f.shear → e ≡ f
-same_fields e f m s =
-    let by_moment : Ratio → Effects = λ x. record { moment = x; shear = e.shear } in
-    let by_shear : Ratio → Effects = λ x. record { moment = f.moment; shear = x } in
-    ap by_moment m ∙ ap by_shear s
-
 pub lane_is_one : LaneIsOne
 lane_is_one span e some long peaks =
     let f = lane_of span in
     let are = lane_is_the_peaks span some long in
     let moment = lane_moment_same span e.moment.num e.moment.den f.moment.num f.moment.den some peaks.moment are.moment in
     let shear = lane_shear_same span e.shear.num e.shear.den f.shear.num f.shear.den some peaks.shear are.shear in
-    same_fields e f
-    (lowest_unique e.moment f.moment peaks.small.moment.lowest are.small.moment.lowest moment)
-    (lowest_unique e.shear f.shear peaks.small.shear.lowest are.small.shear.lowest shear)
+    λ i. record {
+      moment = lowest_unique e.moment f.moment peaks.small.moment.lowest are.small.moment.lowest moment i;
+      shear = lowest_unique e.shear f.shear peaks.small.shear.lowest are.small.shear.lowest shear i;
+    }
