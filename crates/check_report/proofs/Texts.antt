@@ -1,11 +1,8 @@
--- Texts that follow one another: one more of them, and that there is only one whole where each part has no other text.
-use Rattle.std.proofs.Common.{◌≡◌, ◌∙◌, ◌∷◌, ◌++◌, [], ℕ, List, refl, ap, sym, append_assoc, append-nil}
+-- Texts that follow one another: the next of them, and that there is only one whole where each part has no other text.
+use Rattle.std.proofs.Common.{◌≡◌, ◌∙◌, ◌+◌, ◌<◌, ◌∷◌, ◌++◌, [], ℕ, List, length, take, get_or, refl, ap, sym, append_assoc, append-nil}
+use Rattle.std.proofs.lemmas.List.{take_more}
 use Rattle.std.specs.List.{AllByRecursion}
 use Rattle.check_report.specs.Probes.{AddsOne, AreTexts}
-
--- a text that grew twice grew by both
-pub joined : (old between new first second : List ℕ) → between ≡ old ++ first → new ≡ between ++ second → new ≡ old ++ (first ++ second)
-joined old between new first second h k = k ∙ (ap (λ t. t ++ second) h ∙ append_assoc old first second)
 
 module _ {X : Type 0} (IsText : X → List ℕ → Type 0) where
   texts_more : (xs : List X) (x : X) (text one : List ℕ) → AreTexts IsText xs text → IsText x one
@@ -16,11 +13,10 @@ module _ {X : Type 0} (IsText : X → List ℕ → Type 0) where
       (first, rest ++ one, is, texts_more xs x rest one are k, ap (λ t. t ++ one) e ∙ append_assoc first rest one)
 
   -- the next thing adds its text
-  pub adds_more : (xs : List X) (x : X) (old text new one : List ℕ) → AddsOne (AreTexts IsText xs) old text → IsText x one
-      → new ≡ text ++ one → AddsOne (AreTexts IsText (xs ++ x ∷ [])) old new
-  adds_more xs x old text new one h k e =
-      let (more, are, grown) = h in
-      (more ++ one, texts_more xs x more one are k, e ∙ (ap (λ t. t ++ one) grown ∙ append_assoc old more one))
+  pub adds_next : (xs : List X) (i : ℕ) (d : X) (old text new : List ℕ) → i < length xs → AddsOne (AreTexts IsText (take i xs)) old text
+      → AddsOne (IsText (get_or xs i d)) text new → AddsOne (AreTexts IsText (take (i + 1) xs)) old new
+  adds_next xs i d old text new within (more, are, grown) (one, is, longer) =
+      rw (take_more xs i d within) (more ++ one, texts_more (take i xs) (get_or xs i d) more one are is, longer ∙ (ap (λ t. t ++ one) grown ∙ append_assoc old more one))
 
   -- where each has one text, all have one
   pub texts_are_one : (IsSound : X → Type 0) → ((x : X) (a b : List ℕ) → IsSound x → IsText x a → IsText x b → a ≡ b)

@@ -2,7 +2,6 @@
 use Rattle.std.proofs.Common.{◌≡◌, ◌∙◌, ◌++◌, ℕ, List, ap, sym}
 use Rattle.std.proofs.lemmas.List.Elements.{recursion_from_All}
 use Rattle.convoy_moves.specs.Convoys.{EqualTrucks, IsConvoyPlaced}
-use Rattle.influence_line.specs.Fractions.{Ratio}
 use Rattle.influence_line.proofs.Unique.{moment_unique, shear_unique}
 use Rattle.day_text.specs.declared.check_file.Probe.{Probe}
 use Rattle.day_text.specs.Spans.{AreSpans, IsProbeSpan}
@@ -16,9 +15,8 @@ one_probe c probe a b span h k =
     h.peaks.small.moment.lowest k.peaks.small.moment.lowest h.peaks.moment k.peaks.moment in
     let shear = shear_unique Allowed probe.inches h.convoy.shear k.convoy.shear span.some
     h.peaks.small.shear.lowest k.peaks.small.shear.lowest h.peaks.shear k.peaks.shear in
-    let by_moment : Ratio → List ℕ = λ x. convoy_text probe (record { moment = x; shear = h.convoy.shear }) in
-    let by_shear : Ratio → List ℕ = λ x. convoy_text probe (record { moment = k.convoy.moment; shear = x }) in
-    h.lines ∙ (ap by_moment moment ∙ (ap by_shear shear ∙ sym k.lines))
+    let effects : h.convoy ≡ k.convoy = λ i. record { moment = moment i; shear = shear i } in
+    h.lines ∙ (ap (convoy_text probe) effects ∙ sym k.lines)
 
 pub one_convoy : (c : EqualTrucks) (probes : List Probe) (a b : List ℕ) → AreSpans probes
     → IsConvoyReport c probes a → IsConvoyReport c probes b → a ≡ b

@@ -3,14 +3,13 @@
 ghost use Rattle.std.specs.Prelude.{◌≡◌, IfOk, OnOk};
 ghost use Rattle.std.specs.String.{string_bytes};
 ghost use Rattle.day_text.specs.Spans.{IsProbeSpan};
-ghost use Rattle.check_report.specs.Probes.{AddsOne, TextGrew};
-ghost use Rattle.loading_report.specs.Convoys.{IsConvoyReport, IsConvoyText, IsOnlyConvoyReport, convoy_refusal_line, moment_fraction_line, shear_fraction_line};
+ghost use Rattle.check_report.specs.Probes.{AddsOne};
+ghost use Rattle.loading_report.specs.Convoys.{IsConvoyReport, IsConvoyText, IsOnlyConvoyReport, convoy_refusal_line};
 
 use check_report::{add_rating, add_span};
 use convoy_moves::{Convoy, ConvoyRefusal};
 use day_text::{Probe, Probes};
 use hs20_truck::effects;
-use influence_line::Frac;
 use names::NoMemory;
 use span_rating::{Effects, fits};
 use std::alloc::{AllocError, Global};
@@ -51,27 +50,12 @@ fn add_probe(text: &mut String, convoy: &Convoy, probe: &Probe) -> Result<(), Al
     requires { IsProbeSpan probe.now }
     ensures { OnOk result (AddsOne (IsConvoyText convoy.now probe.now) (string_bytes text.old) (string_bytes text.new)) }
 {
-    let peaks = Effects {
-        moment: convoy.moment(probe.inches),
-        shear: convoy.shear(probe.inches),
-    };
+    let moment = convoy.moment(probe.inches);
+    let shear = convoy.shear(probe.inches);
+    let peaks = Effects { moment, shear };
     let design = effects(probe.inches);
     add_span(text, probe)?;
-    add_moment(text, &peaks.moment)?;
-    add_shear(text, &peaks.shear)?;
+    write!(text, "moment {moment}\n")?;
+    write!(text, "shear {shear}\n")?;
     add_rating(text, probe.rating, fits(&peaks, &design, probe.rating))
-}
-
-// The convoy's peak moment.
-fn add_moment(text: &mut String, moment: &Frac) -> Result<(), AllocError>
-    ensures { OnOk result (TextGrew text.old text.new (moment_fraction_line moment.now)) }
-{
-    write!(text, "moment {moment}\n")
-}
-
-// The convoy's peak end shear.
-fn add_shear(text: &mut String, shear: &Frac) -> Result<(), AllocError>
-    ensures { OnOk result (TextGrew text.old text.new (shear_fraction_line shear.now)) }
-{
-    write!(text, "shear {shear}\n")
 }

@@ -3,15 +3,14 @@
 ghost use Rattle.std.specs.Prelude.{◌≡◌, IfOk, OnOk};
 ghost use Rattle.std.specs.String.{string_bytes};
 ghost use Rattle.day_text.specs.Spans.{IsProbeSpan};
-ghost use Rattle.check_report.specs.Probes.{AddsOne, TextGrew};
-ghost use Rattle.loading_report.specs.Designs.{IsDesignReport, IsDesignText, IsOnlyDesignReport, governing_moment_line, governing_shear_line, load_name};
+ghost use Rattle.check_report.specs.Probes.{AddsOne};
+ghost use Rattle.loading_report.specs.Designs.{IsDesignReport, IsDesignText, IsOnlyDesignReport, load_name};
 
 use axle_train::Train;
 use check_report::{add_rating, add_span};
 use day_text::{CheckFile, Probe};
 use design_loads::{By, fits_greatest, greatest};
 use hs20_truck::effects_of;
-use influence_line::Frac;
 use names::NoMemory;
 use std::alloc::{AllocError, Global};
 
@@ -30,37 +29,26 @@ pub fn design_report(alloc: Global, file: &CheckFile) -> Result<String, NoMemory
     Ok(text)
 }
 
-// The truck on one probe: the span, the greatest effects of the design loads on it, and the judgement by the rating.
+// The truck on one probe: the span, the greatest effects of the design loads on it, each with the load that it is of, and the
+// judgement by the rating.
 fn add_probe(text: &mut String, train: &Train, probe: &Probe) -> Result<(), AllocError>
     requires { IsProbeSpan probe.now }
     ensures { OnOk result (AddsOne (IsDesignText train.now probe.now) (string_bytes text.old) (string_bytes text.new)) }
 {
     let truck = effects_of(train, probe.inches);
     let design = greatest(probe.inches);
+    let moment = design.moment;
+    let moment_by = load_name(design.moment_by);
+    let shear = design.shear;
+    let shear_by = load_name(design.shear_by);
     add_span(text, probe)?;
-    add_moment(text, &design.moment, design.moment_by)?;
-    add_shear(text, &design.shear, design.shear_by)?;
+    write!(text, "moment {moment} {moment_by}\n")?;
+    write!(text, "shear {shear} {shear_by}\n")?;
     add_rating(
         text,
         probe.rating,
         fits_greatest(&truck, &design, probe.rating),
     )
-}
-
-// The greatest moment, and the load that it is of.
-fn add_moment(text: &mut String, moment: &Frac, by: By) -> Result<(), AllocError>
-    ensures { OnOk result (TextGrew text.old text.new (governing_moment_line moment.now by)) }
-{
-    let name = load_name(by);
-    write!(text, "moment {moment} {name}\n")
-}
-
-// The greatest end shear, and the load that it is of.
-fn add_shear(text: &mut String, shear: &Frac, by: By) -> Result<(), AllocError>
-    ensures { OnOk result (TextGrew text.old text.new (governing_shear_line shear.now by)) }
-{
-    let name = load_name(by);
-    write!(text, "shear {shear} {name}\n")
 }
 
 // The name of a design load.

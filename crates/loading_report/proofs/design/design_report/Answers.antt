@@ -1,21 +1,14 @@
-use Rattle.std.proofs.Common.{rules, sym, subst, arith}
-use Rattle.std.proofs.lemmas.List.{take_all, take_more}
+use Rattle.std.proofs.Common.{rules, arith}
+use Rattle.std.proofs.lemmas.List.{take_all}
 use Rattle.std.specs.String.{string_bytes}
 use Rattle.check_report.specs.Probes.{AddsOne, AreTexts}
-use Rattle.check_report.proofs.Texts.{adds_more}
+use Rattle.check_report.proofs.Texts.{adds_next}
 use Rattle.loading_report.specs.Designs.{IsDesignText}
 use Rattle.loading_report.proofs.OneDesign.{one_design}
 use Rattle.loading_report.proofs.design.design_report.Goals as goal
 
 pub loop-probe-preserved : goal.loop-probe-preserved
-loop-probe-preserved c =
-    let train = c.train-train.result.now in
-    let probes = c.as_slice-probes.result.now in
-    let old = string_bytes c.new-text.result in
-    let new = string_bytes c.add_probe.new.text in
-    let (one, is, grown) = c.in_ok-add_probe.ensures in
-    subst (λ ps. AddsOne (AreTexts (IsDesignText train) ps) old new) (sym (take_more probes c.loop-probe.probe-index _ (omega arith)))
-    (adds_more (IsDesignText train) _ _ old _ new one c.loop-probe.invariant is grown)
+loop-probe-preserved c = adds_next (IsDesignText c.train-train.result.now) _ _ _ _ _ _ (omega arith) c.loop-probe.invariant c.in_ok-add_probe.ensures
 
 pub returns-clause-only : goal.returns-clause-only
 returns-clause-only c = λ other h.
