@@ -1,12 +1,13 @@
 -- The closest convoy is one train, and its peaks are those of all placements of the convoy.
-use Rattle.std.proofs.Common.{◌≡◌, ℕ, zero, suc, ◌+◌, ◌*◌, ◌≤◌, List, [], ◌∷◌, length, flat_map, arith, refl, ap, ◌∙◌, ℤ, pos, ◌+ℤ◌}
+use Rattle.std.proofs.Common.{◌≡◌, ℕ, zero, suc, ◌+◌, ◌*◌, ◌≤◌, List, [], ◌∷◌, length, flat_map, sum_by, arith, refl, ap, ◌∙◌, ℤ, pos, ◌+ℤ◌}
 use Rattle.std.proofs.Math.Nat.{mul-le-mul_right}
 use Rattle.std.proofs.lemmas.Int.{ints}
 use Rattle.std.proofs.lemmas.List.{map-append}
-use Rattle.std.specs.List.{AllByRecursion, range_with_len}
+use Rattle.std.specs.List.{range_with_len}
+use Rattle.axle_train.specs.Bounds.{IsTrain}
 use Rattle.axle_train.specs.declared.axle.Axle.{Axle}
-use Rattle.influence_line.specs.Placed.{moment_line, moment_sum, placed}
-use Rattle.influence_line.specs.Reactions.{reaction_line, reaction_sum}
+use Rattle.influence_line.specs.Placed.{moment_line, placed}
+use Rattle.influence_line.specs.Reactions.{reaction_line}
 use Rattle.influence_line.specs.Peaks.{IsPeakMoment, IsPeakShear, IsTrainPlaced}
 use Rattle.influence_line.proofs.Totals.{total, total_is}
 use Rattle.convoy_moves.specs.Convoys.{EqualTrucks, AreBehind, AreApart, IsConvoyPlaced, IsConvoyKept, StandsAsConvoy, closest_axles, convoy_loads, moved_back, truck_spacing}
@@ -65,71 +66,52 @@ stands_as_convoy c q lead =
 -- the closest convoy has a lead at which it gives no less than trucks at these leads
 abbrev GivesNoLess : (ℤ → ℕ) → EqualTrucks → ℕ → List ℤ → Type 0
 GivesNoLess line c q leads =
-    (from : ℤ) × (total (by_line line) (convoy_loads q c.axles leads) ≤ total (by_line line) (placed q from (closest_axles c)))
+    (from : ℤ) × (sum_by (by_line line) (convoy_loads q c.axles leads) ≤ sum_by (by_line line) (placed q from (closest_axles c)))
 
 -- it has one for each placement of the convoy
-gives_no_less : (line : ℤ → ℕ) (top : ℕ) → IsUnimodal line top
-    → (c : EqualTrucks) → AllByRecursion (λ a. a.place ≤ truck_spacing c) c.axles
+gives_no_less : (line : ℤ → ℕ) (top : ℕ) → IsUnimodal line top → (c : EqualTrucks) → IsTrain c.axles
     → (q : ℕ) (leads : List ℤ) → length leads ≡ c.trucks → AreApart (q * truck_spacing c) leads → GivesNoLess line c q leads
-gives_no_less line top hump c short q [] many apart = (pos 0, omega arith)
-gives_no_less line top hump c short q (lead ∷ rest) many apart =
-    let up = closes_up line top hump q (truck_spacing c) c.axles lead rest short apart in
+gives_no_less line top hump c truck q [] many apart = (pos 0, omega arith)
+gives_no_less line top hump c truck q (lead ∷ rest) many apart =
+    let up = closes_up line top hump q (truck_spacing c) c.axles lead rest (within_spacing c truck) apart in
     let even = even_leads (q * truck_spacing c) up.from in
     let trucks = ap (λ n. of_trucks line q c.axles (even n)) many in
     let train = ap (total (by_line line)) (closest_is q up.from c) in
-    let these = of_trucks_is line q c.axles (lead ∷ rest) in
-    (up.from, omega (arith, up.no_less, trucks, train, these, of_trucks_is line q c.axles (even c.trucks)))
+    let these = of_trucks_is line q c.axles (lead ∷ rest) in (
+      up.from,
+      omega (arith, up.no_less, trucks, train, these, of_trucks_is line q c.axles (even c.trucks), total_is (by_line line) (convoy_loads q c.axles (lead ∷ rest)), total_is (by_line line) (placed q up.from (closest_axles c))),
+    )
 
--- the peak moment of the closest convoy is that of all placements
-moment_of_all : (c : EqualTrucks) (span num den : ℕ) → AllByRecursion (λ a. a.place ≤ truck_spacing c) c.axles
-    → IsPeakMoment (IsTrainPlaced (closest_axles c)) span num den → IsPeakMoment (IsConvoyPlaced c) span num den
-moment_of_all c span num den short h =
+-- the closest train that a convoy keeps stands as the convoy
+pub kept_stands : (c : EqualTrucks) (closest : List Axle) → IsConvoyKept c closest → StandsAsConvoy c closest
+kept_stands c closest kept = rw kept.together (stands_as_convoy c)
+
+-- its peak moment is that of all placements of the convoy
+pub kept_moment : (c : EqualTrucks) (closest : List Axle) (span num den : ℕ) → IsConvoyKept c closest
+    → IsPeakMoment (IsTrainPlaced closest) span num den → IsPeakMoment (IsConvoyPlaced c) span num den
+kept_moment c closest span num den kept peak =
+    let h : IsPeakMoment (IsTrainPlaced (closest_axles c)) span num den = rw kept.together at peak in
     let r = h.reached in
     record {
       some = h.some;
       reached = (r.0, r.1, r.2, r.3, r.4, rw r.5.1 (stands_as_convoy c r.0 r.5.0), r.6);
       greatest = λ q section loads some within is_placed.
-          let line = moment_line (q * span) section in
-          let trucks = convoy_loads q c.axles is_placed.0 in
-          let hump = moment_unimodal (q * span) section within in
-          let less = gives_no_less line section hump c short q is_placed.0 is_placed.1 is_placed.2 in
-          let closest = placed q less.0 (closest_axles c) in
-          let bound = h.greatest q section closest some within (less.0, refl) in
-          let sums : moment_sum (q * span) section trucks ≤ moment_sum (q * span) section closest =
-          omega (arith, less.1, total_is (by_line line) trucks, total_is (by_line line) closest) in
-          rw is_placed.3 (omega (arith, mul-le-mul_right den sums, bound));
+          let less = gives_no_less (moment_line (q * span) section) section (moment_unimodal (q * span) section within) c kept.truck q is_placed.0 is_placed.1 is_placed.2 in
+          let bound = h.greatest q section (placed q less.0 (closest_axles c)) some within (less.0, refl) in
+          rw is_placed.3 (omega (arith, mul-le-mul_right den less.1, bound));
     }
 
 -- and so is its peak end shear
-shear_of_all : (c : EqualTrucks) (span num den : ℕ) → AllByRecursion (λ a. a.place ≤ truck_spacing c) c.axles
-    → IsPeakShear (IsTrainPlaced (closest_axles c)) span num den → IsPeakShear (IsConvoyPlaced c) span num den
-shear_of_all c span num den short h =
+pub kept_shear : (c : EqualTrucks) (closest : List Axle) (span num den : ℕ) → IsConvoyKept c closest
+    → IsPeakShear (IsTrainPlaced closest) span num den → IsPeakShear (IsConvoyPlaced c) span num den
+kept_shear c closest span num den kept peak =
+    let h : IsPeakShear (IsTrainPlaced (closest_axles c)) span num den = rw kept.together at peak in
     let r = h.reached in
     record {
       some = h.some;
       reached = (r.0, r.1, r.2, r.3, rw r.4.1 (stands_as_convoy c r.0 r.4.0), r.5);
       greatest = λ q end loads some is_placed.
-          let line = reaction_line (q * span) end in
-          let trucks = convoy_loads q c.axles is_placed.0 in
-          let hump = reaction_unimodal (q * span) end in
-          let less = gives_no_less line (support_at (q * span) end) hump c short q is_placed.0 is_placed.1 is_placed.2 in
-          let closest = placed q less.0 (closest_axles c) in
-          let bound = h.greatest q end closest some (less.0, refl) in
-          let sums : reaction_sum (q * span) end trucks ≤ reaction_sum (q * span) end closest =
-          omega (arith, less.1, total_is (by_line line) trucks, total_is (by_line line) closest) in
-          rw is_placed.3 (omega (arith, mul-le-mul_right den sums, bound));
+          let less = gives_no_less (reaction_line (q * span) end) (support_at (q * span) end) (reaction_unimodal (q * span) end) c kept.truck q is_placed.0 is_placed.1 is_placed.2 in
+          let bound = h.greatest q end (placed q less.0 (closest_axles c)) some (less.0, refl) in
+          rw is_placed.3 (omega (arith, mul-le-mul_right den less.1, bound));
     }
-
--- the peaks of the train that a convoy keeps are those of the convoy
-pub kept_stands : (c : EqualTrucks) (closest : List Axle) → IsConvoyKept c closest → StandsAsConvoy c closest
-kept_stands c closest kept = rw kept.together (stands_as_convoy c)
-
-pub kept_moment : (c : EqualTrucks) (closest : List Axle) (span num den : ℕ) → IsConvoyKept c closest
-    → IsPeakMoment (IsTrainPlaced closest) span num den → IsPeakMoment (IsConvoyPlaced c) span num den
-kept_moment c closest span num den kept peak =
-    moment_of_all c span num den (within_spacing c kept.truck) (rw kept.together at peak)
-
-pub kept_shear : (c : EqualTrucks) (closest : List Axle) (span num den : ℕ) → IsConvoyKept c closest
-    → IsPeakShear (IsTrainPlaced closest) span num den → IsPeakShear (IsConvoyPlaced c) span num den
-kept_shear c closest span num den kept peak =
-    shear_of_all c span num den (within_spacing c kept.truck) (rw kept.together at peak)
