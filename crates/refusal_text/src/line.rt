@@ -3,7 +3,7 @@
 ghost use Rattle.std.specs.Prelude.{◌≡◌, IfOk};
 ghost use Rattle.std.specs.String.{string_bytes};
 ghost use Rattle.refusal_text.specs.Laws.{RefusalLinesDiffer};
-ghost use Rattle.refusal_text.specs.Lines.{bad_word, kind_word, cause_number_of, refusal_line_of, refusal_status_of, word_of};
+ghost use Rattle.refusal_text.specs.Lines.{bad_word, kind_word, cause_number_of, refusal_line_of, refusal_status_of};
 
 use names::NoMemory;
 use record_text::{Cause, Kind, RecordCause};
@@ -13,7 +13,10 @@ use std::alloc::Global;
 pub fn refusal_line(alloc: Global, row: u64, cause: Cause) -> Result<String, NoMemory>
     ensures { IfOk result (λ text. string_bytes text ≡ refusal_line_of row cause) }
 {
-    let word = word(cause);
+    let word = match cause {
+        Cause::Bad(cause) => bad_word(cause),
+        Cause::TooMany(kind) => kind_word(kind),
+    };
     let mut text = String::new(alloc);
     match number(cause) {
         Some(number) => write!(text, "refused: record {row} {word} {number}\n")?,
@@ -34,16 +37,6 @@ pub fn refusal_status(cause: Cause) -> u8
     match cause {
         Cause::Bad(_) => 5,
         Cause::TooMany(_) => 6,
-    }
-}
-
-// The word for a cause.
-fn word(cause: Cause) -> &'static str
-    ensures { result.now ≡ word_of cause }
-{
-    match cause {
-        Cause::Bad(cause) => bad_word(cause),
-        Cause::TooMany(kind) => kind_word(kind),
     }
 }
 
