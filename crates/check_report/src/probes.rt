@@ -1,7 +1,7 @@
 // The two lines that the reports on probes have in common.
 
-ghost use Rattle.std.specs.Prelude.{◌≡◌, OnOk};
-ghost use Rattle.check_report.specs.Probes.{TextGrew, fit_name, rating_line, span_line};
+ghost use Rattle.std.specs.Prelude.{OnOk};
+ghost use Rattle.check_report.specs.Probes.{TextGrew, rating_line, span_line};
 
 use day_text::Probe;
 use span_rating::Fit;
@@ -19,17 +19,10 @@ pub fn add_span(text: &mut String, probe: &Probe) -> Result<(), AllocError>
 pub fn add_rating(text: &mut String, rating: u32, fit: Fit) -> Result<(), AllocError>
     ensures { OnOk result (TextGrew text.old text.new (rating_line rating fit)) }
 {
-    let name = fit_name(fit);
-    write!(text, "rating {rating} {name}\n")
-}
-
-// The name of a judgement.
-fn fit_name(fit: Fit) -> &'static str
-    ensures { result.now ≡ fit_name fit }
-{
-    match fit {
+    let name = match fit {
         Fit::Fits => "fits",
         Fit::Moment => "moment",
         Fit::Shear => "shear",
-    }
+    };
+    write!(text, "rating {rating} {name}\n")
 }

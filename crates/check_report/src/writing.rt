@@ -5,7 +5,7 @@ ghost use Rattle.std.specs.List.{flat_map};
 ghost use Rattle.std.specs.String.{string_bytes};
 ghost use Rattle.day_text.specs.Spans.{IsProbeSpan};
 ghost use Rattle.check_report.specs.Probes.{AddsOne, TextGrew};
-ghost use Rattle.check_report.specs.Reports.{IsOnlyReport, IsProbeText, IsReport, ReportIsOne, design_line, end_name, moment_peak_line, over_line, rule_name, shear_peak_line, truck_text};
+ghost use Rattle.check_report.specs.Reports.{IsOnlyReport, IsProbeText, IsReport, ReportIsOne, design_line, moment_peak_line, over_line, rule_name, shear_peak_line, truck_text};
 
 use crate::probes::{add_rating, add_span};
 use axle_limits::{Finding, LEGAL_HEIGHT, LEGAL_WIDTH, Rule, findings};
@@ -134,7 +134,10 @@ fn add_shear(text: &mut String, peak: &ShearPeak) -> Result<(), AllocError>
 {
     let value = peak.value;
     let lead = peak.lead;
-    let end = end_name(peak.end);
+    let end = match peak.end {
+        End::Left => "left",
+        End::Right => "right",
+    };
     write!(text, "shear {value} at {lead} {end}\n")
 }
 
@@ -145,14 +148,4 @@ fn add_design(text: &mut String, design: &Effects) -> Result<(), AllocError>
     let moment = design.moment;
     let shear = design.shear;
     write!(text, "hs20 {moment} {shear}\n")
-}
-
-// The name of an end.
-fn end_name(end: End) -> &'static str
-    ensures { result.now ≡ end_name end }
-{
-    match end {
-        End::Left => "left",
-        End::Right => "right",
-    }
 }
