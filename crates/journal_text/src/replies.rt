@@ -33,14 +33,8 @@ pub fn reply<'a>(
             version,
             routes,
         } => issued(out, last, *number, *version, routes),
-        Reply::Refused {
-            version,
-            limit: why,
-        } => refused(out, *version, why),
-        Reply::Outdated {
-            version,
-            cause: why,
-        } => outdated(out, *version, why),
+        Reply::Refused { version, limit } => refused(out, *version, limit),
+        Reply::Outdated { version, cause } => outdated(out, *version, cause),
         Reply::NotNeeded => word(out, "notneeded"),
         Reply::NoRoad => word(out, "noroad"),
         Reply::Late { day: kept } => named_day(out, "late", *kept),
@@ -51,10 +45,7 @@ pub fn reply<'a>(
         Reply::Surrendered => word(out, "surrendered"),
         Reply::NotYours => word(out, "notyours"),
         Reply::Unknown => word(out, "unknown"),
-        Reply::NotInForce { status: now } => {
-            word(out, "notinforce")?;
-            status(out, *now)
-        }
+        Reply::NotInForce { status } => not_in_force(out, *status),
         Reply::Shown {
             number,
             caller,
@@ -115,6 +106,14 @@ fn posted(out: &mut Vec<u8>, version: u32, recalled: &[u32]) -> Result<(), Alloc
 {
     named(out, "posted", version)?;
     named_numbers(out, "recalled", recalled)
+}
+
+// That a permit is not in force.
+fn not_in_force(out: &mut Vec<u8>, now: Status) -> Result<(), AllocError>
+    ensures { OnOk result (Adds out.old.items out.new.items (reply_words (Reply.NotInForce now))) }
+{
+    word(out, "notinforce")?;
+    status(out, now)
 }
 
 // Whose permit is shown.

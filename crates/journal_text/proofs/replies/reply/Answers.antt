@@ -8,10 +8,6 @@ returns-in-NotNeeded-clause-words c = rw c.in-NotNeeded.is c.word.ensures
 pub returns-in-Surrendered-clause-words : goal.returns-in-Surrendered-clause-words
 returns-in-Surrendered-clause-words c = rw c.in-Surrendered.is c.word-in-Surrendered.ensures
 
-pub returns-in_ok-word-in-NotInForce-clause-words : goal.returns-in_ok-word-in-NotInForce-clause-words
-returns-in_ok-word-in-NotInForce-clause-words c =
-    on_ok_weaker c.status.result (λ last ws. rw c.in-NotInForce.is (c.in_ok-word-in-NotInForce.ensures _ ∙ last ws)) c.status.ensures
-
 pub returns-in_ok-days-in-Shown-clause-words : goal.returns-in_ok-days-in-Shown-clause-words
 returns-in_ok-days-in-Shown-clause-words c =
     on_ok_weaker c.standing.result (λ last ws. rw c.in-Shown.is (c.in_ok-shown-in-Shown.ensures _ ∙ (c.in_ok-days-in-Shown.ensures _ ∙ last ws))) c.standing.ensures
