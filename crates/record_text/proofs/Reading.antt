@@ -1,7 +1,8 @@
 -- How the iterator of csv goes over the records of a text.
 use Rattle.std.proofs.Common.{◌≡◌, ◌≢◌, ◌⊎◌, ◌<◌, ◌∙◌, ◌∷◌, [], ℕ, List, length, Option, Some, None, Result, Ok, Err, Bool, true, false, Bor, refl, ap, sym, inl, inr, ◌&&◌, eqb}
+use Rattle.std.specs.Cmp.{first_so, second_so}
 use Rattle.std.specs.List.{list_all}
-use Rattle.std.specs.Str.{IsUtf8, is_utf8}
+use Rattle.std.specs.Str.{is_utf8}
 use Rattle.std.proofs.lemmas.Str.{IsUtf8-from_is_utf8, is_utf8-from_IsUtf8}
 use Rattle.std.proofs.lemmas.Bool.{eqb-true}
 use Rattle.csv.specs.Machine.{Read, next_record}
@@ -34,11 +35,7 @@ Steps a b left r = TextStep rem a b left r × FailStep a b left r × FlexibleSte
 pub all_text : (fields : List (List ℕ)) → list_all is_utf8 fields ≡ true → AllText fields
 unfolding AllText
 all_text [] h = tt
-all_text (f ∷ fields) h = by (is_utf8 f) refl h (all_text fields)
-  where
-    by : (b : Bool) → is_utf8 f ≡ b → (b && list_all is_utf8 fields) ≡ true → (list_all is_utf8 fields ≡ true → AllText fields) → IsUtf8 f × AllText fields
-    by true e g more = (IsUtf8-from_is_utf8 f e, more g)
-    by false e g more = cc g
+all_text (f ∷ fields) h = (IsUtf8-from_is_utf8 f (first_so (is_utf8 f) (list_all is_utf8 fields) h), all_text fields (second_so (is_utf8 f) (list_all is_utf8 fields) h))
 
 pub all_utf8 : (fields : List (List ℕ)) → AllText fields → list_all is_utf8 fields ≡ true
 unfolding AllText

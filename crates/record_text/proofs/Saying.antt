@@ -1,11 +1,10 @@
 -- What fields of some forms say.
-use Rattle.std.proofs.Common.{◌≡◌, ◌+◌, ◌∷◌, [], List, ℕ, Result, Ok, Err, Option, Some, None, refl, subst}
+use Rattle.std.proofs.Common.{◌≡◌, ◌+◌, ◌∷◌, [], List, ℕ, Some}
 use Rattle.std.specs.Prelude.{◌-◌, length}
-use Rattle.record_text.specs.Causes.{◌>>=◌, or_bad}
+use Rattle.record_text.specs.Causes.{or_bad}
 use Rattle.record_text.specs.Fields.{field_of}
-use Rattle.record_text.specs.Forms.{AllSaid, Form, Said, said_as, said_from, said_in}
+use Rattle.record_text.specs.Forms.{AllSaid, Form, said_as, said_from, said_in}
 use Rattle.record_text.specs.Records.{Row, has_only}
-use Rattle.record_text.specs.declared.refusal.Cause.{Cause}
 use Rattle.record_text.specs.declared.refusal.RecordCause.TheVariants as bad
 use Rattle.record_text.proofs.Steps.{Gives, found_some, gives, then_gives}
 

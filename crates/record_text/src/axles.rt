@@ -53,16 +53,14 @@ fn parse_axle(alloc: Global, text: &str) -> Result<Option<Axle>, AllocError>
     ensures { IfOk result (λ axle. axle ≡ axle_of text.now) }
 {
     let parts = split_at(alloc, text, ':')?;
-    if parts.len() != 2 {
-        return Ok(None);
+    if parts.len() == 2
+        && let Some(place) = parse_number(parts[0])
+        && let Some(weight) = parse_number(parts[1])
+    {
+        Ok(Some(Axle { place, weight }))
+    } else {
+        Ok(None)
     }
-    let Some(place) = parse_number(parts[0]) else {
-        return Ok(None);
-    };
-    let Some(weight) = parse_number(parts[1]) else {
-        return Ok(None);
-    };
-    Ok(Some(Axle { place, weight }))
 }
 
 // The parts of a text around each separator, which is a byte.

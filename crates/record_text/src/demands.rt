@@ -57,10 +57,8 @@ pub fn name_in(row: &StringRecord, number: u32) -> Result<Name, Cause>
     requires { 1 ≤ number }
     ensures { result ≡ name_in number (fields_of row.now) }
 {
-    or_bad(
-        parse_name(field(row, number as usize - 1)),
-        RecordCause::Field(number),
-    )
+    let found = parse_name(field(row, number as usize - 1));
+    or_bad(found, RecordCause::Field(number))
 }
 
 /// The number in a field, counted from 1, or else that field is bad.
@@ -68,10 +66,8 @@ pub fn number_in(row: &StringRecord, number: u32) -> Result<u32, Cause>
     requires { 1 ≤ number }
     ensures { result ≡ number_in number (fields_of row.now) }
 {
-    or_bad(
-        parse_number(field(row, number as usize - 1)),
-        RecordCause::Field(number),
-    )
+    let found = parse_number(field(row, number as usize - 1));
+    or_bad(found, RecordCause::Field(number))
 }
 
 /// The day in a field, counted from 1; none where the calendar lacks it. A text of another form makes that
@@ -80,8 +76,6 @@ pub fn day_in(row: &StringRecord, number: u32) -> Result<Option<Day>, Cause>
     requires { 1 ≤ number }
     ensures { result ≡ day_in number (fields_of row.now) }
 {
-    or_bad(
-        parse_day(field(row, number as usize - 1)),
-        RecordCause::Field(number),
-    )
+    let found = parse_day(field(row, number as usize - 1));
+    or_bad(found, RecordCause::Field(number))
 }
