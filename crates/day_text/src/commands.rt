@@ -15,7 +15,7 @@ use office_words::Command;
 use permit_days::Day;
 use record_text::{
     Cause, Posted, RecordCause, RecordRefusal, RouteField, day_in, demand, field, has_only,
-    name_in, number_in, parse_posted, parse_routes,
+    name_in, number_in, or_bad, parse_posted, parse_routes,
 };
 use restriction_log::Change;
 use road_graph::{Network, Span};
@@ -49,12 +49,8 @@ pub(crate) fn parse_apply(
     let from = known(so_far.network.node_named(&fields.from), 4)?;
     let to = known(so_far.network.node_named(&fields.to), 5)?;
     let asked = find_asked(alloc, &so_far.network, &fields.routes)?;
-    let Some(first) = fields.first else {
-        return Err(RecordRefusal::bad(RecordCause::Range(7)));
-    };
-    let Some(last) = fields.last else {
-        return Err(RecordRefusal::bad(RecordCause::Range(8)));
-    };
+    let first = or_bad(fields.first, RecordCause::Range(7))?;
+    let last = or_bad(fields.last, RecordCause::Range(8))?;
     let application = Application::of_fields(truck, from, to, asked, first, last);
     match application.checked_on(&so_far.network) {
         Ok(application) => Ok(Order {
@@ -73,9 +69,7 @@ pub(crate) fn parse_post(so_far: &DaySoFar, row: &StringRecord) -> Result<Order,
     has_only(row, 5)?;
     let actor = name_in(row, 2)?;
     let item = name_in(row, 3)?;
-    let Some(what) = parse_posted(field(row, 3)) else {
-        return Err(RecordRefusal::bad(RecordCause::Field(4)));
-    };
+    let what = or_bad(parse_posted(field(row, 3)), RecordCause::Field(4))?;
     let value = number_in(row, 5)?;
     let actor = known(so_far.actors.number(&actor), 2)?;
     let change = posting(&so_far.network, what, &item, value)?;
@@ -94,9 +88,7 @@ pub(crate) fn parse_set_day(so_far: &DaySoFar, row: &StringRecord) -> Result<Ord
     let actor = name_in(row, 2)?;
     let day = day_in(row, 3)?;
     let actor = known(so_far.actors.number(&actor), 2)?;
-    let Some(day) = day else {
-        return Err(RecordRefusal::bad(RecordCause::Range(3)));
-    };
+    let day = or_bad(day, RecordCause::Range(3))?;
     Ok(Order {
         actor,
         command: Command::Day(day),
@@ -113,9 +105,7 @@ fn parse_apply_fields(row: &StringRecord) -> Result<ApplyFields<'_>, Cause>
     let truck = name_in(row, 3)?;
     let from = name_in(row, 4)?;
     let to = name_in(row, 5)?;
-    let Some(routes) = parse_routes(field(row, 5)) else {
-        return Err(Cause::Bad(RecordCause::Field(6)));
-    };
+    let routes = or_bad(parse_routes(field(row, 5)), RecordCause::Field(6))?;
     let first = day_in(row, 7)?;
     let last = day_in(row, 8)?;
     Ok(ApplyFields {

@@ -15,7 +15,7 @@ use crate::name_set::Names;
 use crate::orders::Orders;
 use crate::trucks::Fleet;
 use csv::StringRecord;
-use record_text::{Progress, RecordCause, RecordRefusal, day_in, field, has_only};
+use record_text::{Progress, RecordCause, RecordRefusal, day_in, field, has_only, or_bad};
 use road_graph::Network;
 use std::alloc::Global;
 
@@ -72,9 +72,7 @@ fn take_opening(
     match kind {
         RecordKind::Day => {
             has_only(row, 2)?;
-            let Some(day) = day_in(row, 2)? else {
-                return Err(RecordRefusal::bad(RecordCause::Range(2)));
-            };
+            let day = or_bad(day_in(row, 2)?, RecordCause::Range(2))?;
             let so_far = DaySoFar {
                 network: Network::new(alloc),
                 day,

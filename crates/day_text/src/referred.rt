@@ -4,15 +4,12 @@ ghost use Rattle.std.specs.Prelude.{◌≡◌, IfOk, Some};
 ghost use Rattle.record_text.specs.Causes.{or_bad};
 ghost use Rattle.record_text.specs.declared.refusal.RecordCause.{RecordCause};
 
-use record_text::{Cause, RecordCause};
+use record_text::{Cause, RecordCause, or_bad};
 
 /// The number of what a field, counted from 1, refers to by its name, or else that name is unknown.
 pub(crate) fn known(found: Option<u32>, field: u32) -> Result<u32, Cause>
     ensures number { result ≡ or_bad (RecordCause.Unknown field) found }
     ensures found { IfOk result (λ number. found ≡ Some number) }
 {
-    match found {
-        Some(number) => Ok(number),
-        None => Err(Cause::Bad(RecordCause::Unknown(field))),
-    }
+    or_bad(found, RecordCause::Unknown(field))
 }

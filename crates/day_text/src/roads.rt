@@ -8,7 +8,7 @@ ghost use Rattle.day_text.specs.Roads.{with_limit_of, with_node_of, with_segment
 use crate::referred::known;
 use csv::StringRecord;
 use record_text::{
-    Kind, RecordCause, RecordRefusal, demand, field, has_only, limit, name_in, number_in,
+    Kind, RecordCause, RecordRefusal, demand, field, has_only, limit, name_in, number_in, or_bad,
 };
 use road_graph::{AddRefusal, Network, Span, What};
 
@@ -57,9 +57,10 @@ pub(crate) fn set_limit(network: &mut Network, row: &StringRecord) -> Result<(),
 {
     has_only(row, 4)?;
     let segment = name_in(row, 2)?;
-    let Some(what) = What::of_word(field(row, 2).as_bytes()) else {
-        return Err(RecordRefusal::bad(RecordCause::Field(3)));
-    };
+    let what = or_bad(
+        What::of_word(field(row, 2).as_bytes()),
+        RecordCause::Field(3),
+    )?;
     let value = number_in(row, 4)?;
     let segment = known(network.segment_named(&segment), 2)?;
     match network.set_limit(segment, what, value) {

@@ -10,7 +10,7 @@ use clearance_rules::{Load, is_cross_section, is_length};
 use csv::StringRecord;
 use names::Name;
 use record_text::{
-    Axles, Cause, RecordCause, RecordRefusal, demand, field, has_only, name_in, number_in,
+    Axles, Cause, RecordCause, RecordRefusal, demand, field, has_only, name_in, number_in, or_bad,
     parse_axles,
 };
 use std::alloc::Global;
@@ -37,9 +37,7 @@ pub(crate) fn parse_truck(alloc: Global, row: &StringRecord) -> Result<TruckFiel
     let height = number_in(row, 4)?;
     let width = number_in(row, 5)?;
     let length = number_in(row, 6)?;
-    let Some(axles) = parse_axles(alloc, field(row, 6))? else {
-        return Err(RecordRefusal::bad(RecordCause::Field(7)));
-    };
+    let axles = or_bad(parse_axles(alloc, field(row, 6))?, RecordCause::Field(7))?;
     Ok(TruckFields {
         name,
         carrier,
