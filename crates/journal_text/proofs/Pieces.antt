@@ -1,7 +1,7 @@
 -- A text that grows word by word.
-use Rattle.std.proofs.Common.{◌≡◌, ◌∙◌, ◌<◌, ◌≤◌, ◌+◌, ◌∷◌, ◌++◌, [], ℕ, zero, suc, List, sym, refl, ap, arith, append_assoc, length, get_or, take}
+use Rattle.std.proofs.Common.{◌≡◌, ◌∙◌, ◌<◌, ◌≤◌, ◌+◌, ◌∷◌, ◌++◌, [], ℕ, zero, suc, List, sym, ap, arith, append_assoc, length, get_or, take}
 use Rattle.std.specs.Prelude.{codes, flat_map}
-use Rattle.std.proofs.lemmas.List.{take_more}
+use Rattle.std.proofs.lemmas.List.{append-nil, take_more}
 use Rattle.journal_text.specs.Words.{Adds, Words, index, joined, list_text, routes_text, spaced}
 
 pub adds_word : (old middle new text : List ℕ) → middle ≡ old ++ (32 ∷ []) → new ≡ middle ++ text → Adds old new (λ ws. text ∷ ws)
@@ -25,16 +25,12 @@ pair_adds old a new one two sep h i = rw (i, h) (simp append_assoc)
 pub list_adds : (text : ℕ → List ℕ) (old a new numbers rest : List ℕ) (before first : ℕ) → numbers ≡ first ∷ rest → a ≡ old ++ (before ∷ text first) → new ≡ a ++ flat_map (λ n. 44 ∷ text n) rest → new ≡ old ++ (before ∷ list_text text numbers)
 list_adds text old a new numbers rest before first is one more = rw (more, one, is) (simp append_assoc)
 
-append_nil : (xs : List ℕ) → xs ++ [] ≡ xs
-append_nil [] = refl
-append_nil (x ∷ xs) = ap (λ t. x ∷ t) (append_nil xs)
-
 -- one text more behind a separator
 joined_last : {A : Type 0} (sep : ℕ) (text : A → List ℕ) (x : A) (xs : List A) (last : A) → joined sep text ((x ∷ xs) ++ (last ∷ [])) ≡ joined sep text (x ∷ xs) ++ (sep ∷ text last)
 joined_last sep text x xs last = ap (λ t. text x ++ t) (rest xs) ∙ sym (append_assoc (text x) (flat_map (λ y. sep ∷ text y) xs) (sep ∷ text last))
   where
     rest : (ys : List _) → flat_map (λ y. sep ∷ text y) (ys ++ (last ∷ [])) ≡ flat_map (λ y. sep ∷ text y) ys ++ (sep ∷ text last)
-    rest [] = append_nil (sep ∷ text last)
+    rest [] = append-nil (sep ∷ text last)
     rest (y ∷ ys) = ap (λ t. (sep ∷ text y) ++ t) (rest ys) ∙ sym (append_assoc (sep ∷ text y) (flat_map (λ z. sep ∷ text z) ys) (sep ∷ text last))
 
 joined_more : {A : Type 0} (sep : ℕ) (text : A → List ℕ) (xs : List A) (i : ℕ) (d : A) → 1 ≤ i → i < length xs → joined sep text (take (i + 1) xs) ≡ joined sep text (take i xs) ++ (sep ∷ text (get_or xs i d))
@@ -45,7 +41,7 @@ joined_more sep text (x ∷ xs) (suc i) d some low = ap (joined sep text) (take_
 -- the first route, behind a space
 pub first_route : (old new : List ℕ) (routes : List (List ℕ)) → 0 < length routes → new ≡ old ++ (32 ∷ list_text index (get_or routes 0 [])) → new ≡ old ++ (32 ∷ routes_text (take 1 routes))
 first_route old new [] some h = absurd (omega arith)
-first_route old new (route ∷ routes) some h = h ∙ ap (λ t. old ++ (32 ∷ t)) (sym (append_nil (list_text index route)))
+first_route old new (route ∷ routes) some h = h ∙ ap (λ t. old ++ (32 ∷ t)) (sym (append-nil (list_text index route)))
 
 -- one route more, behind a slash
 pub one_more_route : (old out new : List ℕ) (routes : List (List ℕ)) (i : ℕ) → 1 ≤ i → i < length routes → out ≡ old ++ (32 ∷ routes_text (take i routes)) → new ≡ out ++ (47 ∷ list_text index (get_or routes i []))
@@ -60,7 +56,7 @@ pub line_adds : (old a b c d new caller : List ℕ) (call reply : Words → Word
 unfolding spaced
 line_adds old a b c d new caller call reply h i j k l =
     let text : a ++ spaced (call (codes "=" ∷ reply [])) ≡ d ++ [] = i _ ∙ (j _ ∙ k []) in
-    let whole : d ≡ old ++ (caller ++ spaced (call (codes "=" ∷ reply []))) = sym (append_nil d) ∙ (sym text ∙ (ap (λ t. t ++ spaced (call (codes "=" ∷ reply []))) h ∙ append_assoc old caller _)) in
+    let whole : d ≡ old ++ (caller ++ spaced (call (codes "=" ∷ reply []))) = sym (append-nil d) ∙ (sym text ∙ (ap (λ t. t ++ spaced (call (codes "=" ∷ reply []))) h ∙ append_assoc old caller _)) in
     l ∙ (ap (λ t. t ++ (10 ∷ [])) whole ∙ append_assoc old _ (10 ∷ []))
 
 pub journal_adds : (z a b c d new head lines number : List ℕ) → z ≡ head → a ≡ z ++ (10 ∷ []) → b ≡ a ++ lines → c ≡ b ++ codes "end " → d ≡ c ++ number → new ≡ d ++ (10 ∷ []) → new ≡ (head ++ (10 ∷ [])) ++ (lines ++ ((codes "end " ++ number) ++ (10 ∷ [])))
