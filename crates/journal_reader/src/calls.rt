@@ -63,9 +63,7 @@ fn plain_call<'a>(kind: &[u8], rest: &'a [u8]) -> Option<(Call, &'a [u8])>
     if is(kind, "snapshot") {
         Some((Call::Snapshot, rest))
     } else if is(kind, "post") {
-        let Some((change, rest)) = change(rest) else {
-            return None;
-        };
+        let (change, rest) = change(rest)?;
         Some((Call::Post { change }, rest))
     } else if is(kind, "day") {
         let Some((day, rest)) = day(rest) else {
@@ -73,14 +71,10 @@ fn plain_call<'a>(kind: &[u8], rest: &'a [u8]) -> Option<(Call, &'a [u8])>
         };
         Some((Call::Day { day }, rest))
     } else if is(kind, "surrender") {
-        let Some((number, rest)) = number(rest) else {
-            return None;
-        };
+        let (number, rest) = number(rest)?;
         Some((Call::Surrender { number }, rest))
     } else if is(kind, "show") {
-        let Some((number, rest)) = number(rest) else {
-            return None;
-        };
+        let (number, rest) = number(rest)?;
         Some((Call::Show { number }, rest))
     } else {
         None

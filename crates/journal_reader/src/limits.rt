@@ -23,9 +23,7 @@ pub fn change(rest: &[u8]) -> Option<(Change, &[u8])>
     ensures exact { seen result ≡ change_at (left rest.now) }
     ensures sound { Spells change_words FitsChange (left rest.now) result }
 {
-    let Some((kind, rest)) = word(rest) else {
-        return None;
-    };
+    let (kind, rest) = word(rest)?;
     if is(kind, "segment") {
         segment_change(rest)
     } else if is(kind, "span") {
@@ -41,18 +39,14 @@ pub fn cause(rest: &[u8]) -> Option<(Cause, &[u8])>
     ensures exact { seen result ≡ cause_at (left rest.now) }
     ensures sound { Spells cause_words FitsCause (left rest.now) result }
 {
-    let Some((kind, rest)) = word(rest) else {
-        return None;
-    };
+    let (kind, rest) = word(rest)?;
     if is(kind, "fails") {
         let Some((limit, rest)) = limit(rest) else {
             return None;
         };
         Some((Cause::NowFails { limit }, rest))
     } else if is(kind, "meets") {
-        let Some((segment, rest)) = named_place(rest, "segment") else {
-            return None;
-        };
+        let (segment, rest) = named_place(rest, "segment")?;
         Some((Cause::NowMeets { segment }, rest))
     } else {
         None
@@ -65,12 +59,8 @@ pub fn limit(rest: &[u8]) -> Option<(Limit, &[u8])>
     ensures exact { seen result ≡ limit_at (left rest.now) }
     ensures sound { Spells limit_words FitsLimit (left rest.now) result }
 {
-    let Some((segment, rest)) = named_place(rest, "segment") else {
-        return None;
-    };
-    let Some((named, rest)) = word(rest) else {
-        return None;
-    };
+    let (segment, rest) = named_place(rest, "segment")?;
+    let (named, rest) = word(rest)?;
     if is(named, "closed") {
         Some((Limit::Closed { segment }, rest))
     } else if is(named, "group") {
@@ -118,13 +108,9 @@ fn span_change(rest: &[u8]) -> Option<(Change, &[u8])>
     ensures exact { seen result ≡ span_change (left rest.now) }
     ensures sound { Spells change_words FitsChange (codes "span" ∷ left rest.now) result }
 {
-    if let Some((span, rest)) = place(rest)
-        && let Some((permille, rest)) = named_number(rest, "rating")
-    {
-        Some((Change::Rating { span, permille }, rest))
-    } else {
-        None
-    }
+    let (span, rest) = place(rest)?;
+    let (permille, rest) = named_number(rest, "rating")?;
+    Some((Change::Rating { span, permille }, rest))
 }
 
 // What the load has, over what is posted.
@@ -171,24 +157,20 @@ fn group_limit(segment: u32, rest: &[u8]) -> Option<(Limit, &[u8])>
     ensures exact { seen result ≡ read_group_limit segment (left rest.now) }
     ensures sound { SpellsLimitOf segment (codes "group") (left rest.now) result }
 {
-    if let Some((axles, rest)) = word(rest)
-        && let Some((i, j)) = group_in(axles)
-        && let Some((weight, rest)) = named_number(rest, "weight")
-        && let Some((limit, rest)) = named_number(rest, "limit")
-        && let Some((allowance, rest)) = named_number(rest, "allowance")
-    {
-        let limit = Limit::Group {
-            segment,
-            i,
-            j,
-            weight,
-            limit,
-            allowance,
-        };
-        Some((limit, rest))
-    } else {
-        None
-    }
+    let (axles, rest) = word(rest)?;
+    let (i, j) = group_in(axles)?;
+    let (weight, rest) = named_number(rest, "weight")?;
+    let (limit, rest) = named_number(rest, "limit")?;
+    let (allowance, rest) = named_number(rest, "allowance")?;
+    let limit = Limit::Group {
+        segment,
+        i,
+        j,
+        weight,
+        limit,
+        allowance,
+    };
+    Some((limit, rest))
 }
 
 // A tridem group over its posted weight.
@@ -197,22 +179,18 @@ fn tridem_limit(segment: u32, rest: &[u8]) -> Option<(Limit, &[u8])>
     ensures exact { seen result ≡ read_tridem_limit segment (left rest.now) }
     ensures sound { SpellsLimitOf segment (codes "tridem") (left rest.now) result }
 {
-    if let Some((axles, rest)) = word(rest)
-        && let Some((i, j)) = group_in(axles)
-        && let Some((weight, rest)) = named_number(rest, "weight")
-        && let Some((pounds, rest)) = named_number(rest, "over")
-    {
-        let limit = Limit::Tridem {
-            segment,
-            i,
-            j,
-            weight,
-            allowed: pounds,
-        };
-        Some((limit, rest))
-    } else {
-        None
-    }
+    let (axles, rest) = word(rest)?;
+    let (i, j) = group_in(axles)?;
+    let (weight, rest) = named_number(rest, "weight")?;
+    let (pounds, rest) = named_number(rest, "over")?;
+    let limit = Limit::Tridem {
+        segment,
+        i,
+        j,
+        weight,
+        allowed: pounds,
+    };
+    Some((limit, rest))
 }
 
 // An effect over the rating of a span.

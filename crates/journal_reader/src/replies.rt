@@ -77,9 +77,7 @@ fn plain_reply<'a>(kind: &[u8], rest: &'a [u8]) -> Option<(Reply, &'a [u8])>
     ensures sound { Spells reply_words FitsReply (kind.now ∷ left rest.now) result }
 {
     if is(kind, "at") {
-        let Some((version, rest)) = number(rest) else {
-            return None;
-        };
+        let (version, rest) = number(rest)?;
         Some((Reply::SnapshotAt { version }, rest))
     } else if is(kind, "refused") {
         refused(rest)
@@ -101,17 +99,12 @@ fn plain_reply<'a>(kind: &[u8], rest: &'a [u8]) -> Option<(Reply, &'a [u8])>
         };
         Some((Reply::DayBack { day }, rest))
     } else if is(kind, "notinforce") {
-        let Some((status, rest)) = status(rest) else {
-            return None;
-        };
+        let (status, rest) = status(rest)?;
         Some((Reply::NotInForce { status }, rest))
     } else if is(kind, "shown") {
         shown(rest)
     } else {
-        let Some(reply) = bare_reply(kind) else {
-            return None;
-        };
-        Some((reply, rest))
+        Some((bare_reply(kind)?, rest))
     }
 }
 
@@ -206,15 +199,11 @@ fn status(rest: &[u8]) -> Option<(Status, &[u8])>
     ensures exact { seen result ≡ status_at (left rest.now) }
     ensures sound { Spells status_words FitsStatus (left rest.now) result }
 {
-    let Some((kind, rest)) = word(rest) else {
-        return None;
-    };
+    let (kind, rest) = word(rest)?;
     if is(kind, "inforce") {
         Some((Status::InForce, rest))
     } else if is(kind, "recalled") {
-        let Some((version, rest)) = number(rest) else {
-            return None;
-        };
+        let (version, rest) = number(rest)?;
         Some((Status::Recalled { version }, rest))
     } else if is(kind, "surrendered") {
         Some((Status::Surrendered, rest))

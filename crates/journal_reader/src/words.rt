@@ -1,4 +1,7 @@
 // Words that stand next in what is left of a line, with what is left behind them.
+//
+// A day, a fraction or what holds one, beside what is left, is taken by `if let` or `let .. else`: the proof has no rule for
+// `?` there.
 
 ghost use Rattle.std.specs.Prelude.{◌≡◌, ◌≢◌, ◌<◌, ◌^◌, ◌∷◌, IfSome, IfOk, IsTrue, codes, ℕ, List, get_or, length, option_map};
 ghost use Rattle.std.specs.Fmt.{decimal};
@@ -44,11 +47,8 @@ pub fn number(rest: &[u8]) -> Option<(u32, &[u8])>
     ensures exact { seen result ≡ read_number (left rest.now) }
     ensures sound { Spells (λ n ws. decimal n ∷ ws) FitsNumber (left rest.now) result }
 {
-    if let Some((_, Some(n), rest)) = next_number(rest, b' ') {
-        Some((n, rest))
-    } else {
-        None
-    }
+    let (_, n, rest) = next_number(rest, b' ')?;
+    Some((n?, rest))
 }
 
 /// An index.
@@ -57,11 +57,8 @@ pub fn place(rest: &[u8]) -> Option<(u32, &[u8])>
     ensures exact { seen result ≡ place_at (left rest.now) }
     ensures sound { Spells (λ i ws. index i ∷ ws) FitsIndex (left rest.now) result }
 {
-    if let Some((_, Some(i), rest)) = next_place(rest, b' ') {
-        Some((i, rest))
-    } else {
-        None
-    }
+    let (_, i, rest) = next_place(rest, b' ')?;
+    Some((i?, rest))
 }
 
 /// A day.
@@ -70,13 +67,8 @@ pub fn day(rest: &[u8]) -> Option<(Day, &[u8])>
     ensures exact { seen result ≡ day_at (left rest.now) }
     ensures sound { Spells (λ day ws. day ∷ ws) FitsDay (left rest.now) result }
 {
-    if let Some((word, rest)) = word(rest)
-        && let Some(day) = day_in(word)
-    {
-        Some((day, rest))
-    } else {
-        None
-    }
+    let (word, rest) = word(rest)?;
+    Some((day_in(word)?, rest))
 }
 
 /// A fraction in lowest terms.
@@ -85,13 +77,8 @@ pub fn fraction(rest: &[u8]) -> Option<(Frac, &[u8])>
     ensures exact { seen result ≡ fraction_at (left rest.now) }
     ensures sound { Spells (λ f ws. ratio_text f ∷ ws) FitsRatio (left rest.now) result }
 {
-    if let Some((word, rest)) = word(rest)
-        && let Some(f) = fraction_in(word)
-    {
-        Some((f, rest))
-    } else {
-        None
-    }
+    let (word, rest) = word(rest)?;
+    Some((fraction_in(word)?, rest))
 }
 
 /// A word and a number.
@@ -100,11 +87,7 @@ pub fn named_number<'a>(rest: &'a [u8], text: &str) -> Option<(u32, &'a [u8])>
     ensures exact { seen result ≡ named_number text.now (left rest.now) }
     ensures sound { Spells (λ n ws. text.now ∷ decimal n ∷ ws) FitsNumber (left rest.now) result }
 {
-    if let Some(rest) = after(rest, text) {
-        number(rest)
-    } else {
-        None
-    }
+    number(after(rest, text)?)
 }
 
 /// A word and an index.
@@ -113,11 +96,7 @@ pub fn named_place<'a>(rest: &'a [u8], text: &str) -> Option<(u32, &'a [u8])>
     ensures exact { seen result ≡ named_place text.now (left rest.now) }
     ensures sound { Spells (λ i ws. text.now ∷ index i ∷ ws) FitsIndex (left rest.now) result }
 {
-    if let Some(rest) = after(rest, text) {
-        place(rest)
-    } else {
-        None
-    }
+    place(after(rest, text)?)
 }
 
 /// A list of indices.
