@@ -1,16 +1,19 @@
 -- Words hold no space and no line feed.
-use Rattle.std.proofs.Common.{◌≡◌, ◌∙◌, ◌<◌, ◌≤◌, ◌+◌, ◌/◌, ◌%◌, ◌∷◌, ◌++◌, [], ℕ, zero, suc, List, Option, Some, None, Bool, true, false, cond, eqb, ltb, refl, ap, sym, arith, length, map, get_or, inl, inr}
-use Rattle.std.specs.Prelude.{codes, ◌&&◌, flat_map}
+use Rattle.std.proofs.Common.{◌≡◌, ◌∙◌, ◌<◌, ◌≤◌, ◌+◌, ◌/◌, ◌%◌, ◌∷◌, ◌++◌, [], ℕ, zero, suc, List, Option, Some, None, Bool, true, false, cond, eqb, ltb, refl, ap, sym, arith, map, get_or, inl, inr}
+use Rattle.std.specs.Prelude.{codes, flat_map}
 use Rattle.std.specs.Fmt.{decimal, digits, digits_onto, digit_glyph}
 use Rattle.std.specs.List.{All, AllByRecursion, list_all, slice_split}
 use Rattle.std.specs.Str.{bytes_eq}
-use Rattle.std.specs.Cmp.{first_so}
-use Rattle.std.proofs.lemmas.Bool.{cases_eq}
+use Rattle.std.specs.Cmp.{first_so, second_so}
+use Rattle.std.proofs.lemmas.Bool.{cases_eq, eq-eqb}
 use Rattle.std.proofs.lemmas.Bool.Decides.{nat_tests}
 use Rattle.std.proofs.lemmas.Slice.Eq.{bytes_eq-Decides}
 use Rattle.std.proofs.lemmas.Nat.{mod_below}
-use Rattle.std.proofs.lemmas.List.Elements.{All-cons}
+use Rattle.std.proofs.lemmas.List.{append-nil}
+use Rattle.std.proofs.lemmas.List.Elements.{All-from_get_or, All-weaker}
+use Rattle.std.proofs.lemmas.List.Folds.{list_all-append}
 use Rattle.std.proofs.lemmas.List.Splits.{slice_split_at, slice_split_none}
+use Rattle.std.proofs.lemmas.List.Sums.{AllPass-from_list_all, list_all-from_AllPass}
 use Rattle.permit_days.specs.Days.{day_of_month as day_in_month, has_shape, is_day, month_of, year_of}
 use Rattle.permit_days.proofs.Shapes.{IsShaped, shaped}
 use Rattle.journal_text.specs.Words.{Words, index, joined, list_text, routes_text, spaced}
@@ -19,16 +22,7 @@ use Rattle.journal_reader.specs.Fits.{FitsDay}
 
 -- each byte has a property
 pub all_append : (P : ℕ → Bool) (xs ys : List ℕ) → list_all P xs ≡ true → list_all P ys ≡ true → list_all P (xs ++ ys) ≡ true
-all_append P [] ys h k = k
-all_append P (x ∷ xs) ys h k = by (P x) refl h (λ g. all_append P xs ys g k)
-  where
-    by : (b : Bool) → P x ≡ b → (b && list_all P xs) ≡ true → (list_all P xs ≡ true → list_all P (xs ++ ys) ≡ true) → (P x && list_all P (xs ++ ys)) ≡ true
-    by true e g more = rw e (more g)
-    by false e g more = absurd (cc g)
-
-all_at : (P : ℕ → Bool) (xs : List ℕ) → ((i : ℕ) → i < length xs → P (get_or xs i 0) ≡ true) → list_all P xs ≡ true
-all_at P [] h = refl
-all_at P (x ∷ xs) h = rw (h 0 (omega arith)) (all_at P xs (λ i low. h (suc i) (omega (arith, low))))
+all_append P xs ys h k = rw (list_all-append P xs ys, h) k
 
 -- a property that each digit has
 abbrev pub Digits : (ℕ → Bool) → Type 0
@@ -92,7 +86,7 @@ pub word_routes : (routes : List (List ℕ)) → is_word (routes_text routes) �
 word_routes routes = joined_all is_dark 47 (list_text index) refl word_indices routes
 
 pub word_day : (day : List ℕ) → FitsDay day → is_word day ≡ true
-word_day day h = all_at is_dark day (λ i low. above (get_or day i 0) (byte i (omega (arith, low, s.long))))
+word_day day h = list_all-from_AllPass is_dark day (All-from_get_or (λ b. is_dark b ≡ true) day 0 (λ i low. above (get_or day i 0) (byte i (omega (arith, low, s.long)))))
   where
     s : IsShaped day
     s = shaped day (first_so (has_shape day) (is_day (year_of day) (month_of day) (day_in_month day)) h)
@@ -119,53 +113,39 @@ no_digit sep s n = decimal_all (is_no sep) (λ b low high. rw (other b low) refl
     other : (b : ℕ) → 48 ≤ b → eqb b sep ≡ false
     other b low = grind (arith, nat_tests)
 
-pub keeps : (sep : ℕ) (xs : List ℕ) → list_all (is_no sep) xs ≡ true → All (λ b. eqb b sep ≡ false) xs
-keeps sep [] h = λ k d l. absurd (omega arith)
-keeps sep (x ∷ xs) h = by (eqb x sep) refl h (keeps sep xs)
+pub unequal : (sep b : ℕ) → is_no sep b ≡ true → eqb b sep ≡ false
+unequal sep b h = by (eqb b sep) h
   where
-    by : (b : Bool) → eqb x sep ≡ b → (cond b false true && list_all (is_no sep) xs) ≡ true → (list_all (is_no sep) xs ≡ true → All (λ b. eqb b sep ≡ false) xs) → All (λ b. eqb b sep ≡ false) (x ∷ xs)
-    by true e g more = absurd (cc g)
-    by false e g more = All-cons (λ b. eqb b sep ≡ false) x xs e (more g)
+    by : (same : Bool) → cond same false true ≡ true → same ≡ false
+    by true e = cc
+    by false e = refl
+
+pub keeps : (sep : ℕ) (xs : List ℕ) → list_all (is_no sep) xs ≡ true → All (λ b. eqb b sep ≡ false) xs
+keeps sep xs h = All-weaker (λ b. is_no sep b ≡ true) (λ b. eqb b sep ≡ false) (unequal sep) xs (AllPass-from_list_all (is_no sep) xs h)
 
 pub dark_is_no : (sep : ℕ) → sep ≤ 32 → (xs : List ℕ) → is_word xs ≡ true → list_all (is_no sep) xs ≡ true
-dark_is_no sep s [] h = refl
-dark_is_no sep s (x ∷ xs) h = by (ltb 32 x) refl h (dark_is_no sep s xs)
+dark_is_no sep s xs h = list_all-from_AllPass (is_no sep) xs (All-weaker (λ b. is_dark b ≡ true) (λ b. is_no sep b ≡ true) (λ b dark. rw (other b dark) refl) xs (AllPass-from_list_all is_dark xs h))
   where
-    other : ltb 32 x ≡ true → eqb x sep ≡ false
-    other e = grind (arith, nat_tests)
-
-    by : (b : Bool) → ltb 32 x ≡ b → (b && is_word xs) ≡ true → (is_word xs ≡ true → list_all (is_no sep) xs ≡ true) → (is_no sep x && list_all (is_no sep) xs) ≡ true
-    by true e g more = rw (other e) (more g)
-    by false e g more = absurd (cc g)
-
-pub append_nil : (xs : List ℕ) → xs ++ [] ≡ xs
-append_nil [] = refl
-append_nil (x ∷ xs) = ap (λ t. x ∷ t) (append_nil xs)
-
-same : (a : ℕ) → eqb a a ≡ true
-same a = grind (arith, nat_tests)
+    other : (b : ℕ) → ltb 32 b ≡ true → eqb b sep ≡ false
+    other b e = grind (arith, nat_tests)
 
 -- words that stand behind spaces are what is left
 pub left_spaced : (ws : Words) → all_words ws ≡ true → left (spaced ws) ≡ ws
 unfolding spaced
 left_spaced [] h = refl
-left_spaced (w ∷ ws) h = by (is_word w) refl h (left_spaced ws)
+left_spaced (w ∷ ws) h = tail ws (left_spaced ws (second_so (is_word w) (all_words ws) h))
   where
-    by : (b : Bool) → is_word w ≡ b → (b && all_words ws) ≡ true → (all_words ws ≡ true → left (spaced ws) ≡ ws) → slice_split (λ x. eqb x 32) (w ++ spaced ws) ≡ w ∷ ws
-    by false e g more = absurd (cc g)
-    by true e g more = tail ws (more g)
-      where
-        clean : All (λ b. eqb b 32 ≡ false) w
-        clean = keeps 32 w (dark_is_no 32 (omega arith) w e)
+    clean : All (λ b. eqb b 32 ≡ false) w
+    clean = keeps 32 w (dark_is_no 32 (omega arith) w (first_so (is_word w) (all_words ws) h))
 
-        tail : (vs : Words) → left (spaced vs) ≡ vs → slice_split (λ x. eqb x 32) (w ++ spaced vs) ≡ w ∷ vs
-        tail [] k = ap (slice_split (λ x. eqb x 32)) (append_nil w) ∙ slice_split_none (λ x. eqb x 32) w clean
-        tail (v ∷ vs) k = slice_split_at (λ x. eqb x 32) w 32 (v ++ spaced vs) clean refl ∙ ap (λ t. w ∷ t) k
+    tail : (vs : Words) → left (spaced vs) ≡ vs → slice_split (λ x. eqb x 32) (w ++ spaced vs) ≡ w ∷ vs
+    tail [] k = ap (slice_split (λ x. eqb x 32)) (append-nil w) ∙ slice_split_none (λ x. eqb x 32) w clean
+    tail (v ∷ vs) k = slice_split_at (λ x. eqb x 32) w 32 (v ++ spaced vs) clean refl ∙ ap (λ t. w ∷ t) k
 
 -- the parts of items that are joined
 pub parts_joined : {A : Type 0} (sep : ℕ) (text : A → List ℕ) → ((x : A) → list_all (is_no sep) (text x) ≡ true) → (x : A) (xs : List A) → parts sep (joined sep text (x ∷ xs)) ≡ map text (x ∷ xs)
-parts_joined sep text t x [] = ap (parts sep) (append_nil (text x)) ∙ slice_split_none (λ b. eqb b sep) (text x) (keeps sep (text x) (t x))
-parts_joined sep text t x (y ∷ ys) = slice_split_at (λ b. eqb b sep) (text x) sep _ (keeps sep (text x) (t x)) (same sep) ∙ ap (λ p. text x ∷ p) (parts_joined sep text t y ys)
+parts_joined sep text t x [] = ap (parts sep) (append-nil (text x)) ∙ slice_split_none (λ b. eqb b sep) (text x) (keeps sep (text x) (t x))
+parts_joined sep text t x (y ∷ ys) = slice_split_at (λ b. eqb b sep) (text x) sep _ (keeps sep (text x) (t x)) (eq-eqb sep sep refl) ∙ ap (λ p. text x ∷ p) (parts_joined sep text t y ys)
 
 pub all_again : {A : Type 0} (read : List ℕ → Option A) (text : A → List ℕ) (Fits : A → Type 0) → ((x : A) → Fits x → read (text x) ≡ Some x) → (xs : List A) → AllByRecursion Fits xs → all_of read (map text xs) ≡ Some xs
 all_again read text Fits r [] h = refl

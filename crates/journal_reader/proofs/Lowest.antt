@@ -1,8 +1,9 @@
 -- Which fractions are in lowest terms.
-use Rattle.std.proofs.Common.{◌≡◌, ◌<◌, ◌≤◌, ◌+◌, ◌%◌, ◌↔◌, ℕ, zero, suc, List, Option, Some, None, Bool, true, false, cond, eqb, leb, refl, subst, arith}
-use Rattle.std.specs.Prelude.{◌&&◌, IsSome, IfSome}
+use Rattle.std.proofs.Common.{◌≡◌, ◌<◌, ◌+◌, ◌%◌, ◌↔◌, ℕ, zero, suc, List, Option, Some, None, Bool, true, false, cond, eqb, leb, refl, subst, arith}
+use Rattle.std.specs.Prelude.{IsSome, IfSome}
+use Rattle.std.specs.Cmp.{first_so, second_so}
 use Rattle.std.specs.Int.{IsGcd}
-use Rattle.std.proofs.lemmas.Bool.{eqb-true}
+use Rattle.std.proofs.lemmas.Bool.{eqb-true, le-leb, leb-true}
 use Rattle.std.proofs.lemmas.Bool.Decides.{nat_tests}
 use Rattle.std.proofs.lemmas.Nat.{mod_below}
 use Rattle.std.proofs.lemmas.Nat.Gcd.{IsGcd-from_zero, IsGcd-from_mod, same_from_IsGcd}
@@ -24,25 +25,18 @@ divisor_is (suc steps) a b h = by (eqb b 0) refl (divisor_is steps b (a % b))
 -- the test says what it should
 pub lowest_from : (f : Ratio) → is_lowest f ≡ true → IsLowest f
 unfolding is_lowest
-lowest_from f h = by (leb 1 f.den) (eqb (divisor_in (f.den + 1) f.num f.den) 1) refl refl h
-  where
-    by : (a b : Bool) → leb 1 f.den ≡ a → eqb (divisor_in (f.den + 1) f.num f.den) 1 ≡ b → (a && b) ≡ true → IsLowest f
-    by true true p q k =
-        record { some = some p; coprime = subst (IsGcd f.num f.den) (eqb-true _ 1 q) (divisor_is (f.den + 1) f.num f.den (omega arith)) }
-      where
-        some : leb 1 f.den ≡ true → 1 ≤ f.den
-        some e = grind (arith, nat_tests)
-    by true false p q k = absurd (cc k)
-    by false b p q k = absurd (cc k)
+lowest_from f h =
+    let greatest = divisor_in (f.den + 1) f.num f.den in
+    record {
+      some = leb-true 1 f.den (first_so (leb 1 f.den) (eqb greatest 1) h);
+      coprime = subst (IsGcd f.num f.den) (eqb-true _ 1 (second_so (leb 1 f.den) (eqb greatest 1) h)) (divisor_is (f.den + 1) f.num f.den (omega arith));
+    }
 
 pub lowest_test : (f : Ratio) → IsLowest f → is_lowest f ≡ true
 unfolding is_lowest
 lowest_test f h =
     let one : divisor_in (f.den + 1) f.num f.den ≡ 1 = same_from_IsGcd f.num f.den _ 1 (divisor_is (f.den + 1) f.num f.den (omega arith)) h.coprime in
-    rw (some h.some, one) refl
-  where
-    some : 1 ≤ f.den → leb 1 f.den ≡ true
-    some e = grind (arith, nat_tests)
+    rw (le-leb 1 f.den h.some, one) refl
 
 -- a fraction that is made exactly of lowest terms
 pub lowest_taken : (f : Ratio) (made : Option Ratio) → (IsSome made ↔ IsLowest f) → IfSome made (λ g. g ≡ f) → made ≡ cond (is_lowest f) (Some f) None

@@ -9,7 +9,7 @@ use Rattle.std.proofs.lemmas.Str.Parse.{IsNumeralModel, digit_at, digits_value_s
 use Rattle.std.specs.List.{slice_split}
 use Rattle.std.proofs.lemmas.List.{get_or-drop, get_or-take, length-take}
 use Rattle.std.proofs.lemmas.Slice.Eq.{bytes_eq-Decides}
-use Rattle.std.proofs.lemmas.Bool.Decides.{nat_tests}
+use Rattle.std.proofs.lemmas.Bool.{false≢true, lt-ltb, ltb-true}
 use Rattle.journal_reader.specs.Words.{number_spelled, parts_left, value_from}
 use Rattle.journal_reader.proofs.Pieces.{first_part_is}
 
@@ -29,25 +29,19 @@ pub number_yes : (most : ℕ) (word : List ℕ) (value : ℕ) → most < 10 ^ 64
 unfolding number_spelled
 number_yes most word value small below same =
     let v : digits_value 10 word ≡ value = ap (digits_value 10) (sym same) ∙ (decimal_is_IsNumeral_wide value (omega arith)).1 in
-    rw (v, (bytes_eq-Decides (decimal value) word).1 same, lt_true value (most + 1) (omega arith)) refl
-  where
-    lt_true : (a b : ℕ) → a < b → ltb a b ≡ true
-    lt_true a b h = grind (arith, nat_tests)
+    rw (v, (bytes_eq-Decides (decimal value) word).1 same, lt-ltb value (most + 1) (omega arith)) refl
 
 pub number_no : (most : ℕ) (word : List ℕ) (value : ℕ) → most < 10 ^ 64 → value ≡ min (value_from 0 word) most → (decimal value ≡ word → ⊥) → number_spelled (most + 1) word ≡ None
 unfolding number_spelled
 number_no most word value small is other = by (bytes_eq (decimal (digits_value 10 word)) word) (ltb (digits_value 10 word) (most + 1)) refl refl
   where
-    lt_of : (a b : ℕ) → ltb a b ≡ true → a < b
-    lt_of a b h = grind (arith, nat_tests)
-
     by : (a b : Bool) → bytes_eq (decimal (digits_value 10 word)) word ≡ a → ltb (digits_value 10 word) (most + 1) ≡ b → cond (a && b) (Some (digits_value 10 word)) None ≡ None
     by false b p q = refl
     by true false p q = refl
     by true true p q =
         let n : ℕ = digits_value 10 word in
         let text : decimal n ≡ word = (bytes_eq-Decides (decimal n) word).0 p in
-        let low : n < most + 1 = lt_of n (most + 1) q in
+        let low : n < most + 1 = ltb-true n (most + 1) q in
         let digits : AllDigits 10 word = subst (AllDigits 10) text (decimal_is_IsNumeral_wide n (omega arith)).0.1 in
         let v : value_from 0 word ≡ n = own.same word digits in
         let same : value ≡ n = omega arith in
@@ -59,10 +53,7 @@ value_more most xs i value ten digit next h a b c d = rw (value_step xs 0 i h) (
 
 -- what is read of a word
 pub number_is : (most : ℕ) (word : List ℕ) (value : ℕ) (b : Bool) → most < 10 ^ 64 → value ≡ min (value_from 0 word) most → b ≡ bytes_eq (decimal value) word → (b ≡ true → Some value ≡ number_spelled (most + 1) word) × (b ≡ false → None ≡ number_spelled (most + 1) word)
-number_is most word value b small is test = (λ yes. sym (number_yes most word value small (omega arith) ((bytes_eq-Decides (decimal value) word).0 (sym test ∙ yes))), λ no. sym (number_no most word value small is (λ e. absurd (differs no (test ∙ (bytes_eq-Decides (decimal value) word).1 e)))))
-  where
-    differs : {x : Bool} → x ≡ false → x ≡ true → ⊥
-    differs p q = cc
+number_is most word value b small is test = (λ yes. sym (number_yes most word value small (omega arith) ((bytes_eq-Decides (decimal value) word).0 (sym test ∙ yes))), λ no. sym (number_no most word value small is (λ e. false≢true (sym no ∙ (test ∙ (bytes_eq-Decides (decimal value) word).1 e)))))
 
 -- digits with no zero in front of others spell their number
 pub digits_spell : (word : List ℕ) (n : ℕ) → AllDigits 10 word → 0 < length word → (get_or word 0 0 ≡ 48 → length word ≡ 1) → n ≡ value_from 0 word → n ≤ 4294967295 → (Some n ≡ number_spelled (2 ^ 32) word) × (word ≡ decimal n)

@@ -3,25 +3,10 @@ use Rattle.std.proofs.Common.{◌≡◌, ◌∷◌, ◌++◌, ◌⊎◌, [], ℕ
 use Rattle.std.specs.List.{AllByRecursion}
 use Rattle.std.proofs.lemmas.Bool.{true≢false}
 use Rattle.std.proofs.lemmas.List.{append-nil, append_assoc, append_cancel_right}
-use Rattle.journal_reader.proofs.Whole.{no_feed}
+use Rattle.journal_reader.proofs.Whole.{first_lines, no_feed}
 use Rattle.journal_reader.specs.Cuts.{CutsAreOne, IsOther, begins_end}
 use Rattle.journal_text.specs.Journals.{ended}
 use Rattle.journal_reader.specs.Journals.{IsLine, lines_text}
-
-head_is : {a b : ℕ} {x y : List ℕ} → a ∷ x ≡ b ∷ y → a ≡ b
-head_is e = cc e
-
-tail_is : {a b : ℕ} {x y : List ℕ} → a ∷ x ≡ b ∷ y → x ≡ y
-tail_is e = cc e
-
--- two texts that begin with a line each begin with the same one
-first_lines : (a b x y : List ℕ) → IsLine a → IsLine b → ended a ++ x ≡ ended b ++ y → (a ≡ b) × (x ≡ y)
-first_lines [] [] x y la lb e = (refl, tail_is e)
-first_lines [] (c ∷ b) x y la lb e = absurd (lb.0 (sym (head_is e)))
-first_lines (c ∷ a) [] x y la lb e = absurd (la.0 (head_is e))
-first_lines (c ∷ a) (d ∷ b) x y la lb e =
-    let next = first_lines a b x y la.1 lb.1 (tail_is e) in
-    (ap (λ n. n ∷ a) (head_is e) ∙ ap (λ l. d ∷ l) next.0, next.1)
 
 -- what the lines in front leave: the line that begins with `end ` and what follows, or a line that has no line feed
 abbrev Left : List ℕ → List ℕ → List ℕ → Type 0

@@ -1,13 +1,15 @@
 -- A word that is read is the text of what was read.
-use Rattle.std.proofs.Common.{◌≡◌, ◌∙◌, ◌<◌, ◌≤◌, ◌+◌, ◌^◌, ◌∷◌, ◌++◌, [], ℕ, List, Option, Some, None, Bool, true, false, cond, eqb, ltb, leb, refl, ap, sym, subst, arith, length, map}
-use Rattle.std.specs.Prelude.{codes, option_map, option_and_then, ◌&&◌, not, IfOk, IfSome, Result, Ok, Err}
+use Rattle.std.proofs.Common.{◌≡◌, ◌∙◌, ◌<◌, ◌+◌, ◌^◌, ◌∷◌, ◌++◌, [], ℕ, List, Option, Some, None, Bool, true, false, cond, eqb, leb, refl, ap, sym, subst, arith, length, map}
+use Rattle.std.specs.Prelude.{codes, option_map, option_and_then, not, IfOk, IfSome, Result, Ok, Err}
 use Rattle.std.specs.Result.{result_ok}
 use Rattle.std.specs.Fmt.{decimal}
+use Rattle.std.specs.Cmp.{first_so, second_so}
 use Rattle.std.specs.List.{AllByRecursion, join_with_byte}
 use Rattle.std.specs.Str.{bytes_eq}
+use Rattle.std.proofs.lemmas.Bool.{leb-true, ltb-true}
+use Rattle.std.proofs.lemmas.List.{append-nil}
 use Rattle.std.proofs.lemmas.List.Splits.{join_with_byte-slice_split}
 use Rattle.std.proofs.lemmas.Slice.Eq.{bytes_eq-Decides}
-use Rattle.std.proofs.lemmas.Bool.Decides.{nat_tests}
 use Rattle.influence_line.specs.Fractions.{Ratio, ratio_text}
 use Rattle.permit_days.specs.Days.{day_of_month as day_in_month, has_shape, is_day, is_day_text, month_of, year_of}
 use Rattle.permit_days.specs.declared.refusal.DayRefusal.{DayRefusal}
@@ -17,12 +19,6 @@ use Rattle.journal_reader.specs.Words.{IsTextOf, all_of, day_spelled, fraction_o
 use Rattle.journal_reader.specs.Fits.{FitsDay, FitsIndex, FitsIndices, FitsNumbers, FitsRatio, FitsRoutes}
 use Rattle.journal_reader.proofs.Pieces.{split_some}
 use Rattle.journal_reader.proofs.Lowest.{lowest_from}
-
-ltb_true : (a b : ℕ) → ltb a b ≡ true → a < b
-ltb_true a b h = grind (arith, nat_tests)
-
-leb_true : (a b : ℕ) → leb a b ≡ true → a ≤ b
-leb_true a b h = grind (arith, nat_tests)
 
 -- steps of a reader
 bind_some : {A B : Type 0} (o : Option A) (f : A → Option B) (y : B) → option_and_then f o ≡ Some y → (x : A) × (o ≡ Some x) × (f x ≡ Some y)
@@ -37,34 +33,24 @@ if_some : {A : Type 0} (b : Bool) (x : A) (y : A) → cond b (Some x) None ≡ S
 if_some true x y e = (refl, cc)
 if_some false x y e = absurd (cc e)
 
-both : (a b : Bool) → (a && b) ≡ true → (a ≡ true) × (b ≡ true)
-both true b e = (refl, e)
-both false b e = absurd (cc e)
-
 pub number_only : (bound : ℕ) (word : List ℕ) (n : ℕ) → number_spelled bound word ≡ Some n → (word ≡ decimal n) × (n < bound)
 unfolding number_spelled
 number_only bound word n e =
     let (passed, is) = if_some _ _ n e in
-    let (same, low) = both _ _ passed in
-    (sym ((bytes_eq-Decides _ word).0 same) ∙ ap decimal is, subst (λ k. k < bound) is (ltb_true _ bound low))
+    (sym ((bytes_eq-Decides _ word).0 (first_so _ _ passed)) ∙ ap decimal is, subst (λ k. k < bound) is (ltb-true _ bound (second_so _ _ passed)))
 
 pub place_only : (word : List ℕ) (i : ℕ) → place_of word ≡ Some i → (word ≡ index i) × (i < 65536)
 unfolding place_of
 place_only word i e =
     let (n, read, rest) = bind_some (number_spelled (2 ^ 32) word) _ i e in
     let (passed, is) = if_some _ _ i rest in
-    let (low, high) = both _ _ passed in
-    let l = leb_true 1 n low in
-    let h = leb_true n 65536 high in
+    let l = leb-true 1 n (first_so (leb 1 n) (leb n 65536) passed) in
+    let h = leb-true n 65536 (second_so (leb 1 n) (leb n 65536) passed) in
     let k : n ≡ i + 1 = omega arith in
     ((number_only (2 ^ 32) word n read).0 ∙ ap decimal k, omega arith)
 
 no_parts : (sep : ℕ) (word : List ℕ) → parts sep word ≡ [] → ⊥
 no_parts sep word e = let f : is_empty (parts sep word) ≡ false = split_some (λ x. eqb x sep) word in let t : is_empty (parts sep word) ≡ true = ap is_empty e in cc (f, t)
-
-append_nil : (xs : List ℕ) → xs ++ [] ≡ xs
-append_nil [] = refl
-append_nil (x ∷ xs) = ap (λ t. x ∷ t) (append_nil xs)
 
 module _ {A : Type 0} (read : List ℕ → Option A) (text : A → List ℕ) (Fits : A → Type 0) (only : (w : List ℕ) (x : A) → read w ≡ Some x → (w ≡ text x) × Fits x) where
   all_only : (ws : Words) (xs : List A) → all_of read ws ≡ Some xs → (ws ≡ map text xs) × AllByRecursion Fits xs
@@ -77,7 +63,7 @@ module _ {A : Type 0} (read : List ℕ → Option A) (text : A → List ℕ) (Fi
       subst (λ (ys : List A). (w ∷ ws ≡ map text ys) × AllByRecursion Fits ys) is (cc, (fits, all_fit))
 
   joined_is : (sep : ℕ) (x : A) (xs : List A) → join_with_byte sep (map text (x ∷ xs)) ≡ joined sep text (x ∷ xs)
-  joined_is sep x [] = simp append_nil
+  joined_is sep x [] = simp append-nil
   joined_is sep x (y ∷ xs) = ap (λ t. text x ++ (sep ∷ t)) (joined_is sep y xs)
 
   parts_only : (sep : ℕ) (word : List ℕ) (xs : List A) → all_of read (parts sep word) ≡ Some xs → (word ≡ joined sep text xs) × AllByRecursion Fits xs × (0 < length xs)
@@ -114,7 +100,7 @@ routes_only word routes e =
     let (all, read, rest) = bind_some (all_of (list_of place_of) (parts 47 word)) if_few routes e in
     let (passed, is) = if_some (leb (length all) 8) all routes rest in
     let (spelled, fits, some) = parts_only (list_of place_of) (list_text index) FitsIndices indices_only 47 word all read in
-    subst (λ (r : List (List ℕ)). (word ≡ routes_text r) × FitsRoutes r) is (spelled, (record { some = omega (arith, some); few = leb_true (length all) 8 passed }, fits))
+    subst (λ (r : List (List ℕ)). (word ≡ routes_text r) × FitsRoutes r) is (spelled, (record { some = omega (arith, some); few = leb-true (length all) 8 passed }, fits))
 
 -- two parts
 pub pair_only : {A B : Type 0} (sep : ℕ) (one : List ℕ → Option A) (two : List ℕ → Option B) (word : List ℕ) (p : A × B) → pair_of sep one two word ≡ Some p

@@ -1,27 +1,16 @@
 -- The parts of a text around a separator.
-use Rattle.std.proofs.Common.{◌≡◌, ◌≢◌, ◌∙◌, ◌<◌, ◌≤◌, ◌+◌, ◌-◌, ◌∷◌, ◌++◌, [], ℕ, zero, suc, List, Bool, true, false, cond, eqb, refl, ap, sym, arith, length, get_or, take, drop, inl, inr, ◌⊎◌, Option, Some, None, append_assoc, leb, ltb, length-append}
+use Rattle.std.proofs.Common.{◌≡◌, ◌≢◌, ◌∙◌, ◌<◌, ◌≤◌, ◌+◌, ◌-◌, ◌∷◌, ◌++◌, [], ℕ, zero, suc, List, Bool, true, false, cond, eqb, refl, ap, sym, arith, length, get_or, take, drop, inl, inr, ◌⊎◌, Option, Some, None, append_assoc, ltb, length-append}
 use Rattle.std.specs.Prelude.{option_map}
 use Rattle.std.specs.List.{slice_split, onto_first}
-use Rattle.std.proofs.lemmas.Bool.{cases_lt, eqb-true}
+use Rattle.std.proofs.lemmas.Bool.{cases_lt, eq-eqb, le-leb, ltb-true, ne_eqb}
 use Rattle.std.proofs.lemmas.List.Splits.{slice_split-cons_yes, slice_split-cons_no}
-use Rattle.std.proofs.lemmas.Bool.Decides.{nat_tests}
 use Rattle.std.specs.Str.{bytes_eq}
-use Rattle.std.proofs.lemmas.List.{get_or-drop, get_or-take}
+use Rattle.std.proofs.lemmas.List.{append-nil, get_or-drop, get_or-take}
 use Rattle.std.proofs.lemmas.Slice.Eq.{bytes_eq-Decides}
 use Rattle.journal_text.specs.Words.{Words}
 use Rattle.journal_text.specs.Journals.{ended}
 use Rattle.journal_reader.specs.Words.{after_word, all_of, is_empty, left, list_of, parts, parts_left, place_of, routes_spelled, word_at}
 use Rattle.journal_reader.specs.Journals.{IsLine}
-
-eqb_no : (a b : ℕ) → a ≢ b → eqb a b ≡ false
-eqb_no a b h = by (eqb a b) refl
-  where
-    by : (t : Bool) → eqb a b ≡ t → t ≡ false
-    by true e = absurd (h (eqb-true a b e))
-    by false e = refl
-
-eqb_same : (a : ℕ) → eqb a a ≡ true
-eqb_same a = grind (arith, nat_tests)
 
 -- the first separator of what follows some bytes that are none
 pub none_before : (bytes : List ℕ) (sep near far : ℕ) → ((k : ℕ) → k < near → get_or bytes k 0 ≢ sep) → ((k : ℕ) → k < far → get_or (drop near bytes) k 0 ≢ sep) → (k : ℕ) → k < near + far → get_or bytes k 0 ≢ sep
@@ -39,9 +28,9 @@ pub first_part_is : (bytes : List ℕ) (sep i : ℕ) → i ≤ length bytes → 
 first_part_is [] sep zero w none end = refl
 first_part_is [] sep (suc i) w none end = absurd (omega arith)
 first_part_is (b ∷ bytes) sep zero w none (inl e) = absurd (omega arith)
-first_part_is (b ∷ bytes) sep zero w none (inr e) = slice_split-cons_yes (λ x. eqb x sep) b bytes (rw e (eqb_same sep))
+first_part_is (b ∷ bytes) sep zero w none (inr e) = slice_split-cons_yes (λ x. eqb x sep) b bytes (eq-eqb b sep e)
 first_part_is (b ∷ bytes) sep (suc i) w none end =
-    slice_split-cons_no (λ x. eqb x sep) b bytes (eqb_no b sep (none 0 (omega arith))) ∙ rw (first_part_is bytes sep i (omega arith) (λ k h. none (suc k) (omega arith)) (next end)) refl
+    slice_split-cons_no (λ x. eqb x sep) b bytes (ne_eqb b sep (none 0 (omega arith))) ∙ rw (first_part_is bytes sep i (omega arith) (λ k h. none (suc k) (omega arith)) (next end)) refl
   where
     next : (suc i ≡ length (b ∷ bytes)) ⊎ (get_or (b ∷ bytes) (suc i) 0 ≡ sep) → (i ≡ length bytes) ⊎ (get_or bytes i 0 ≡ sep)
     next (inl e) = inl (omega arith)
@@ -106,22 +95,12 @@ read_more read done new words ws w x whole next is grown before = rw grown (by (
 -- all routes are read, and are few
 pub routes_read : (word : List ℕ) (routes : List (List ℕ)) (words : Words) → word_at words ≡ None → option_map (λ more. routes ++ more) (all_of (list_of place_of) words) ≡ all_of (list_of place_of) (parts 47 word) → length routes ≤ 8 → Some routes ≡ routes_spelled word
 unfolding routes_spelled
-routes_read word routes [] none all few = rw (sym all, nil routes, low (length routes) few) refl
-  where
-    nil : (xs : List (List ℕ)) → xs ++ [] ≡ xs
-    nil [] = refl
-    nil (x ∷ xs) = ap (λ t. x ∷ t) (nil xs)
-
-    low : (a : ℕ) → a ≤ 8 → leb a 8 ≡ true
-    low a h = grind (arith, nat_tests)
+routes_read word routes [] none all few = rw (sym all, append-nil routes, le-leb (length routes) 8 few) refl
 routes_read word routes (w ∷ ws) none all few = absurd (cc none)
 
 -- there was room for one route more
 pub still_few : (old new : List (List ℕ)) (route : List ℕ) → ltb (length old) 8 ≡ true → new ≡ old ++ (route ∷ []) → length new ≤ 8
 still_few old new route room grown =
     let long = length-append old (route ∷ []) in
-    let below = low (length old) room in
+    let below = ltb-true (length old) 8 room in
     rw grown (omega (arith, long, below))
-  where
-    low : (a : ℕ) → ltb a 8 ≡ true → a < 8
-    low a h = grind (arith, nat_tests)

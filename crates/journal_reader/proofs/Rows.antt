@@ -3,6 +3,7 @@ use Rattle.std.proofs.Common.{◌≡◌, ◌∙◌, ◌<◌, ◌≤◌, ◌+◌,
 use Rattle.std.specs.List.{AllByRecursion}
 use Rattle.std.specs.Str.{bytes_eq}
 use Rattle.std.proofs.Math.ListN.{length-append}
+use Rattle.std.proofs.lemmas.List.{append-nil}
 use Rattle.std.proofs.lemmas.Slice.Eq.{bytes_eq-Decides}
 use Rattle.std.proofs.lemmas.Bool.{cases_eq, eqb-true}
 use Rattle.std.proofs.lemmas.Bool.Decides.{nat_tests}
@@ -13,7 +14,6 @@ use Rattle.journal_text.specs.Journals.{end_line, ended, first_line, journal_in,
 use Rattle.journal_reader.specs.Formats.{FitsIn, HasJournalIn, if_said}
 use Rattle.journal_reader.specs.Readers.{entry_in}
 use Rattle.journal_reader.specs.Journals.{BeginsAJournal, IsBadLine, IsBadNext, IsFirstLine, IsJournalOf, IsLine, front_of, lines_of, lines_text}
-use Rattle.journal_reader.proofs.Clean.{append_nil}
 use Rattle.journal_reader.proofs.Spelled.{entry_again}
 use Rattle.journal_reader.proofs.Whole.{end_is_line, entry_line, first_lines, header_is_line, journal_front, never_unended, next_line, no_feed, nothing_follows}
 
@@ -94,7 +94,7 @@ behind_end f h text line more fits whole at open_ =
       lines = (header_is_line f, with_end h fits);
       whole = whole ∙ (apart ∙ ap (λ t. t ++ more) (sym text_is));
       counted = omega (arith, long);
-      good = (h, [], (f, (fits, append_nil _ ∙ text_is)));
+      good = (h, [], (f, (fits, append-nil _ ∙ text_is)));
       bad = subst (λ (t : List ℕ). IsBadNext t more) (sym text_is) (by (one_line more));
     }
   where
@@ -112,7 +112,7 @@ behind_end f h text line more fits whole at open_ =
     with_end (e ∷ g) (fit, fits') = (entry_line e fit.0, with_end g fits')
 
     lines_end : (g : List Entry) → lines_text (map line_of g ++ (end_line n ∷ [])) ≡ lines_of g ++ ended (end_line n)
-    lines_end [] = append_nil (ended (end_line n))
+    lines_end [] = append-nil (ended (end_line n))
     lines_end (e ∷ g) = ap (λ t. ended (line_of e) ++ t) (lines_end g) ∙ sym (append_assoc (ended (line_of e)) (lines_of g) (ended (end_line n)))
 
     all_text : (g : List Entry) → lines_text (before g) ≡ ended (first_line f) ++ (lines_of g ++ ended (end_line n))
@@ -132,30 +132,25 @@ behind_end f h text line more fits whole at open_ =
         feed [] x = omega arith
         feed (b ∷ a) x = omega arith
 
--- the first line is another, or has no line feed
+-- the first line is bad
+bad_first : (text : List ℕ) → IsBadNext [] text → IsBadLine text 1
+bad_first text bad = record {
+  before = [];
+  rest = text;
+  lines = tt;
+  whole = refl;
+  counted = refl;
+  good = ([], journal_in One [], (One, (tt, refl)));
+  bad = bad;
+}
+
+-- it is another, or has no line feed
 pub no_header : (text line rest : List ℕ) → text ≡ ended line ++ rest → IsLine line → (IsFirstLine line → ⊥) → IsBadLine text 1
 no_header text line rest whole clean other =
-    record {
-      before = [];
-      rest = text;
-      lines = tt;
-      whole = refl;
-      counted = refl;
-      good = ([], journal_in One [], (One, (tt, refl)));
-      bad = inr (line, rest, clean, whole, λ (k, x, (g, (fits, is))). other (g, (first_lines line (first_line g) x _ clean (header_is_line g) is).0));
-    }
+    bad_first text (inr (line, rest, clean, whole, λ (k, x, (g, (fits, is))). other (g, (first_lines line (first_line g) x _ clean (header_is_line g) is).0)))
 
 pub no_lines : (text : List ℕ) → IsLine text → IsBadLine text 1
-no_lines text clean =
-    record {
-      before = [];
-      rest = text;
-      lines = tt;
-      whole = refl;
-      counted = refl;
-      good = ([], journal_in One [], (One, (tt, refl)));
-      bad = inl (clean, λ k (g, (fits, is)). no_feed (first_line g) _ (subst (λ (t : List ℕ). IsLine t) is clean));
-    }
+no_lines text clean = bad_first text (inl (clean, λ k (g, (fits, is)). no_feed (first_line g) _ (subst (λ (t : List ℕ). IsLine t) is clean)))
 
 -- the whole text
 pub whole_journal : (f : Format) (h : List Entry) (text line more : List ℕ) → HasJournalIn f h → text ≡ front_of f h ++ (ended line ++ more) → bytes_eq line (end_line (length h)) ≡ true → eqb (length more) 0 ≡ true → IsJournalOf h text
@@ -165,7 +160,7 @@ whole_journal f h text line more fits whole at none = (f, (fits, by more whole (
     is = (bytes_eq-Decides line (end_line (length h))).0 at
 
     by : (m : List ℕ) → text ≡ front_of f h ++ (ended line ++ m) → length m ≡ 0 → text ≡ journal_in f h
-    by [] w z = w ∙ (ap (λ t. front_of f h ++ t) (append_nil (ended line)) ∙ (ap (λ (t : List ℕ). front_of f h ++ ended t) is ∙ sym (journal_front f h)))
+    by [] w z = w ∙ (ap (λ t. front_of f h ++ t) (append-nil (ended line)) ∙ (ap (λ (t : List ℕ). front_of f h ++ ended t) is ∙ sym (journal_front f h)))
     by (b ∷ m) w z = absurd (omega (arith, z))
 
 -- one line more
@@ -175,7 +170,7 @@ one_more f h text rest line more e new whole next is last =
     ∙ (sym (append_assoc (front_of f h) (ended (line_of e)) more) ∙ ap (λ t. t ++ more) (append_assoc (ended (first_line f)) (lines_of h) (ended (line_of e)) ∙ (ap (λ t. ended (first_line f) ++ t) (sym (lines_more h)) ∙ ap (λ (x : List Entry). front_of f x) (sym last)))))
   where
     lines_more : (g : List Entry) → lines_of (g ++ (e ∷ [])) ≡ lines_of g ++ ended (line_of e)
-    lines_more [] = append_nil (ended (line_of e))
+    lines_more [] = append-nil (ended (line_of e))
     lines_more (d ∷ g) = ap (λ t. ended (line_of d) ++ t) (lines_more g) ∙ sym (append_assoc (ended (line_of d)) (lines_of g) (ended (line_of e)))
 
 pub one_more_fits : (f : Format) (h : List Entry) (e : Entry) (new : List Entry) → HasJournalIn f h → FitsIn f e → new ≡ h ++ (e ∷ []) → HasJournalIn f new

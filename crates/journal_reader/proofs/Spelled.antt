@@ -1,18 +1,16 @@
 -- What is spelled so is read, and holds no space and no line feed.
-use Rattle.std.proofs.Common.{◌≡◌, ◌∙◌, ◌<◌, ◌≤◌, ◌+◌, ◌^◌, ◌∷◌, ◌++◌, [], ℕ, List, Option, Some, None, Bool, true, false, cond, eqb, ltb, leb, refl, ap, sym, arith, length}
-use Rattle.std.specs.Prelude.{codes, ◌&&◌, not, option_map, Ok, Err}
-use Rattle.std.specs.Result.{result_ok}
+use Rattle.std.proofs.Common.{◌≡◌, ◌∙◌, ◌<◌, ◌+◌, ◌^◌, ◌∷◌, ◌++◌, [], ℕ, List, Option, Some, None, Bool, true, false, cond, eqb, refl, ap, sym, arith, length}
+use Rattle.std.specs.Prelude.{codes, option_map}
 use Rattle.std.specs.Fmt.{decimal, digits}
+use Rattle.std.specs.Cmp.{first_so, second_so}
 use Rattle.std.specs.List.{list_all}
 use Rattle.std.specs.Str.{bytes_eq}
 use Rattle.std.proofs.lemmas.Fmt.{decimal_is_IsNumeral_wide}
 use Rattle.std.proofs.lemmas.Slice.Eq.{bytes_eq-Decides}
-use Rattle.std.proofs.lemmas.Bool.Decides.{nat_tests}
+use Rattle.std.proofs.lemmas.Bool.{eq-eqb, le-leb, lt-ltb}
 use Rattle.std.proofs.lemmas.List.Splits.{slice_split_at, slice_split_none}
 use Rattle.influence_line.specs.Fractions.{Ratio, ratio_text}
 use Rattle.permit_days.specs.Days.{day_of_month as day_in_month, has_shape, is_day, month_of, year_of}
-use Rattle.permit_days.specs.declared.refusal.DayRefusal.{DayRefusal}
-use Rattle.permit_days.specs.declared.refusal.DayRefusal.TheVariants.{Shape, NoSuchDay}
 use Rattle.restriction_log.specs.declared.change.Change.{Change}
 use Rattle.restriction_log.specs.declared.change.Change.TheVariants as change
 use Rattle.restriction_log.specs.declared.change.Replaced.{Replaced}
@@ -45,16 +43,10 @@ use Rattle.journal_reader.proofs.Lowest.{lowest_test}
 use Rattle.journal_reader.proofs.Clean.{all_again, all_append, all_words, is_dark, is_no, is_word, joined_all, keeps, left_spaced, list_again, no_digit, parts_joined, word_day, word_index, word_indices, word_number, word_numbers, word_routes}
 
 -- single words
-lt_true : (a b : ℕ) → a < b → ltb a b ≡ true
-lt_true a b h = grind (arith, nat_tests)
-
-le_true : (a b : ℕ) → a ≤ b → leb a b ≡ true
-le_true a b h = grind (arith, nat_tests)
-
 number_again : (bound n : ℕ) → n < bound → n < 10 ^ 64 → number_spelled bound (decimal n) ≡ Some n
 unfolding number_spelled
 number_again bound n h k =
-    rw ((decimal_is_IsNumeral_wide n k).1, (bytes_eq-Decides (decimal n) (decimal n)).1 refl, lt_true n bound h) refl
+    rw ((decimal_is_IsNumeral_wide n k).1, (bytes_eq-Decides (decimal n) (decimal n)).1 refl, lt-ltb n bound h) refl
 
 number_at_again : (n : ℕ) (ws : Words) → n < 2 ^ 32 → read_number (decimal n ∷ ws) ≡ Some (n, ws)
 unfolding read_number
@@ -62,7 +54,7 @@ number_at_again n ws h = rw (number_again (2 ^ 32) n h (omega arith)) refl
 
 place_again : (i : ℕ) → i < 65536 → place_of (index i) ≡ Some i
 unfolding place_of
-place_again i h = rw (number_again (2 ^ 32) (i + 1) (omega arith) (omega arith), le_true 1 (i + 1) (omega arith), le_true (i + 1) 65536 (omega arith)) (ap Some (omega arith))
+place_again i h = rw (number_again (2 ^ 32) (i + 1) (omega arith) (omega arith), le-leb 1 (i + 1) (omega arith), le-leb (i + 1) 65536 (omega arith)) (ap Some (omega arith))
 
 place_at_again : (i : ℕ) (ws : Words) → i < 65536 → place_at (index i ∷ ws) ≡ Some (i, ws)
 unfolding place_at
@@ -70,12 +62,9 @@ place_at_again i ws h = rw (place_again i h) refl
 
 day_again : (day : List ℕ) → FitsDay day → day_spelled day ≡ Some day
 unfolding day_spelled
-day_again day h = by (has_shape day) (is_day (year_of day) (month_of day) (day_in_month day)) h
-  where
-    by : (a b : Bool) → (a && b) ≡ true → result_ok {E = DayRefusal} (cond (not a) (Err Shape) (cond (not b) (Err NoSuchDay) (Ok day))) ≡ Some day
-    by true true k = refl
-    by true false k = absurd (cc k)
-    by false b k = absurd (cc k)
+day_again day h =
+    let is_there = is_day (year_of day) (month_of day) (day_in_month day) in
+    rw (first_so (has_shape day) is_there h, second_so (has_shape day) is_there h) refl
 
 day_at_again : (day : List ℕ) (ws : Words) → FitsDay day → day_at (day ∷ ws) ≡ Some (day, ws)
 unfolding day_at
@@ -107,16 +96,13 @@ routes_again : (routes : List (List ℕ)) → FitsRoutes routes → routes_spell
 unfolding routes_spelled
 routes_again [] (are, fits) = absurd (omega (arith, are.some))
 routes_again (route ∷ routes) (are, fits) =
-    rw (parts_joined 47 (list_text index) no_slash route routes, all_again (list_of place_of) (list_text index) FitsIndices indices_again (route ∷ routes) fits, le_true (length (route ∷ routes)) 8 are.few) refl
+    rw (parts_joined 47 (list_text index) no_slash route routes, all_again (list_of place_of) (list_text index) FitsIndices indices_again (route ∷ routes) fits, le-leb (length (route ∷ routes)) 8 are.few) refl
 
 pair_again : {A B : Type 0} (sep : ℕ) (one : List ℕ → Option A) (two : List ℕ → Option B) (a b : List ℕ) (x : A) (y : B) → list_all (is_no sep) a ≡ true → list_all (is_no sep) b ≡ true → one a ≡ Some x → two b ≡ Some y → pair_of sep one two (a ++ (sep ∷ b)) ≡ Some (x, y)
 unfolding pair_of
 pair_again sep one two a b x y h k p q =
-    let cut : parts sep (a ++ (sep ∷ b)) ≡ a ∷ b ∷ [] = slice_split_at (λ c. eqb c sep) a sep b (keeps sep a h) (same sep) ∙ ap (λ t. a ∷ t) (slice_split_none (λ c. eqb c sep) b (keeps sep b k)) in
+    let cut : parts sep (a ++ (sep ∷ b)) ≡ a ∷ b ∷ [] = slice_split_at (λ c. eqb c sep) a sep b (keeps sep a h) (eq-eqb sep sep refl) ∙ ap (λ t. a ∷ t) (slice_split_none (λ c. eqb c sep) b (keeps sep b k)) in
     rw (cut, p, q) refl
-  where
-    same : (c : ℕ) → eqb c c ≡ true
-    same c = grind (arith, nat_tests)
 
 fraction_again : (f : Ratio) → FitsRatio f → fraction_of (ratio_text f) ≡ Some f
 unfolding fraction_of

@@ -1,12 +1,12 @@
 -- Journals, line by line: what follows lines that are read, and that each text is the journal of one history.
-use Rattle.std.proofs.Common.{◌≡◌, ◌≢◌, ◌∙◌, ◌∷◌, ◌++◌, [], ℕ, List, Some, None, Bool, true, false, cond, eqb, refl, ap, sym, subst, arith, length, append_assoc, inl, inr, ◌⊎◌}
-use Rattle.std.specs.Prelude.{◌&&◌}
+use Rattle.std.proofs.Common.{◌≡◌, ◌≢◌, ◌∙◌, ◌∷◌, ◌++◌, [], ℕ, List, Some, None, true, false, refl, ap, sym, subst, arith, length, append_assoc, inl, inr, ◌⊎◌}
 use Rattle.std.specs.Fmt.{digits}
+use Rattle.std.specs.Cmp.{first_so, second_so}
 use Rattle.std.specs.List.{join_with_byte, list_all}
-use Rattle.std.proofs.lemmas.Bool.{true≢false}
-use Rattle.std.proofs.lemmas.Bool.Decides.{nat_tests}
+use Rattle.std.proofs.lemmas.Bool.{eqb-false, true≢false}
 use Rattle.std.specs.Str.{bytes_eq}
 use Rattle.std.proofs.lemmas.Slice.Eq.{bytes_eq-Decides}
+use Rattle.std.proofs.lemmas.List.{append-nil, append_cancel_left}
 use Rattle.std.proofs.lemmas.List.Splits.{join_with_byte-slice_split}
 use Rattle.office_words.specs.declared.entry.Entry.{Entry}
 use Rattle.journal_text.specs.Words.{Words, index, spaced}
@@ -19,13 +19,13 @@ use Rattle.journal_reader.specs.Formats.{FitsIn, HasJournalIn}
 use Rattle.journal_reader.specs.Laws.{NoProperPrefix}
 use Rattle.journal_reader.specs.Readers.{entry_of, entry_words}
 use Rattle.journal_reader.specs.Journals.{IsJournalOf, IsLine, front_of, lines_of}
-use Rattle.journal_reader.proofs.Clean.{all_append, all_words, append_nil, dark_is_no, is_no, is_word, no_digit}
+use Rattle.journal_reader.proofs.Clean.{all_append, all_words, dark_is_no, is_no, is_word, no_digit, unequal}
 use Rattle.journal_reader.proofs.Spelled.{entry_again, line_words}
 
 -- the words of a line are its text
 join_spaced : (w : List ℕ) (ws : Words) → join_with_byte 32 (w ∷ ws) ≡ w ++ spaced ws
 unfolding spaced
-join_spaced w [] = sym (append_nil w)
+join_spaced w [] = sym (append-nil w)
 join_spaced w (v ∷ ws) = ap (λ t. w ++ (32 ∷ t)) (join_spaced v ws)
 
 pub line_found : (line : List ℕ) (e : Entry) → (parts 32 line ≡ entry_words e) × FitsEntry e → (line ≡ line_of e) × FitsEntry e
@@ -35,22 +35,12 @@ line_found line e (h, k) = (sym (join_with_byte-slice_split 32 line) ∙ (ap (jo
 spaced_no : (ws : Words) → all_words ws ≡ true → list_all (is_no 10) (spaced ws) ≡ true
 unfolding spaced
 spaced_no [] h = refl
-spaced_no (w ∷ ws) h = by (is_word w) refl h (spaced_no ws)
-  where
-    by : (b : Bool) → is_word w ≡ b → (b && all_words ws) ≡ true → (all_words ws ≡ true → list_all (is_no 10) (spaced ws) ≡ true) → list_all (is_no 10) (w ++ spaced ws) ≡ true
-    by true e g more = all_append (is_no 10) w (spaced ws) (dark_is_no 10 (omega arith) w e) (more g)
-    by false e g more = absurd (cc g)
+spaced_no (w ∷ ws) h =
+    all_append (is_no 10) w (spaced ws) (dark_is_no 10 (omega arith) w (first_so (is_word w) (all_words ws) h)) (spaced_no ws (second_so (is_word w) (all_words ws) h))
 
 line_from : (text : List ℕ) → list_all (is_no 10) text ≡ true → IsLine text
 line_from [] h = tt
-line_from (b ∷ text) h = by (eqb b 10) refl h (line_from text)
-  where
-    differs : eqb b 10 ≡ false → b ≢ 10
-    differs e = grind (arith, nat_tests)
-
-    by : (t : Bool) → eqb b 10 ≡ t → (cond t false true && list_all (is_no 10) text) ≡ true → (list_all (is_no 10) text ≡ true → IsLine text) → IsLine (b ∷ text)
-    by true e g more = absurd (cc g)
-    by false e g more = (differs e, more g)
+line_from (b ∷ text) h = (eqb-false b 10 (unequal 10 b (first_so (is_no 10 b) (list_all (is_no 10) text) h)), line_from text (second_so (is_no 10 b) (list_all (is_no 10) text) h))
 
 pub entry_line : (e : Entry) → FitsEntry e → IsLine (line_of e)
 unfolding spaced
@@ -79,32 +69,18 @@ same_format Three One e = absurd (other Three One refl e)
 same_format Three Two e = absurd (other Three Two refl e)
 same_format Three Three e = refl
 
+head : {c d : ℕ} {s t : List ℕ} → c ∷ s ≡ d ∷ t → c ≡ d
+head q = cc
+
+tail : {c d : ℕ} {s t : List ℕ} → c ∷ s ≡ d ∷ t → s ≡ t
+tail q = cc
+
 -- two texts that are equal have one first line
 pub first_lines : (a b x y : List ℕ) → IsLine a → IsLine b → ended a ++ x ≡ ended b ++ y → (a ≡ b) × (x ≡ y)
 first_lines [] [] x y h k e = (refl, tail e)
-  where
-    tail : {c d : ℕ} {s t : List ℕ} → c ∷ s ≡ d ∷ t → s ≡ t
-    tail q = cc
 first_lines [] (b ∷ t) x y h (k, ks) e = absurd (k (sym (head e)))
-  where
-    head : {c d : ℕ} {s t : List ℕ} → c ∷ s ≡ d ∷ t → c ≡ d
-    head q = cc
 first_lines (a ∷ s) [] x y (h, hs) k e = absurd (h (head e))
-  where
-    head : {c d : ℕ} {s t : List ℕ} → c ∷ s ≡ d ∷ t → c ≡ d
-    head q = cc
-first_lines (a ∷ s) (b ∷ t) x y (h, hs) (k, ks) e =
-    let (l, r) = first_lines s t x y hs ks (tail e) in
-    (two (head e) l, r)
-  where
-    head : {c d : ℕ} {s t : List ℕ} → c ∷ s ≡ d ∷ t → c ≡ d
-    head q = cc
-
-    tail : {c d : ℕ} {s t : List ℕ} → c ∷ s ≡ d ∷ t → s ≡ t
-    tail q = cc
-
-    two : {c d : ℕ} {s t : List ℕ} → c ≡ d → s ≡ t → c ∷ s ≡ d ∷ t
-    two p q = cc
+first_lines (a ∷ s) (b ∷ t) x y (h, hs) (k, ks) e = let (l, r) = first_lines s t x y hs ks (tail e) in (rw (head e, l) refl, r)
 
 -- a line feed is in no line
 pub no_feed : (a x : List ℕ) → IsLine (ended a ++ x) → ⊥
@@ -117,16 +93,10 @@ unfolding entry_of place_of number_spelled digits
 no_entry n = refl
 
 pub entry_is_no_end : (e : Entry) (n : ℕ) → FitsEntry e → line_of e ≢ end_line n
-entry_is_no_end e n h is = differ (sym (entry_again e h) ∙ (ap entry_of is ∙ no_entry n))
-  where
-    differ : Some e ≡ None → ⊥
-    differ q = cc
+entry_is_no_end e n h is = let no : Some e ≡ None = sym (entry_again e h) ∙ (ap entry_of is ∙ no_entry n) in cc
 
 one_entry : (e f : Entry) → FitsEntry e → FitsEntry f → line_of e ≡ line_of f → e ≡ f
-one_entry e f h k is = same (sym (entry_again e h) ∙ (ap entry_of is ∙ entry_again f k))
-  where
-    same : Some e ≡ Some f → e ≡ f
-    same q = cc
+one_entry e f h k is = let same : Some e ≡ Some f = sym (entry_again e h) ∙ (ap entry_of is ∙ entry_again f k) in cc
 
 -- a journal that begins with the lines of some entries has these entries first, and the lines of the others follow
 pub record Follows (f : Format) (h k : List Entry) (n : ℕ) (rest : List ℕ) : Type 0 where
@@ -139,25 +109,15 @@ pub follows : (f : Format) (h k : List Entry) (n : ℕ) (rest : List ℕ) → Ha
 follows f [] k n rest fits fits' e = record { others = k; fits = fits'; all = refl; lines = sym e }
 follows f (e ∷ h) [] n rest (fit, fits) fits' is =
     absurd (entry_is_no_end e n fit.0 (sym (first_lines (end_line n) (line_of e) [] (lines_of h ++ rest) (end_is_line n) (entry_line e fit.0)
-    (append_nil (ended (end_line n)) ∙ (is ∙ append_assoc (ended (line_of e)) (lines_of h) rest))).0))
+    (append-nil (ended (end_line n)) ∙ (is ∙ append_assoc (ended (line_of e)) (lines_of h) rest))).0))
 follows f (e ∷ h) (d ∷ k) n rest (fit, fits) (fit', fits') is =
     let two = first_lines (line_of d) (line_of e) (lines_of k ++ ended (end_line n)) (lines_of h ++ rest) (entry_line d fit'.0) (entry_line e fit.0)
     (sym (append_assoc (ended (line_of d)) (lines_of k) (ended (end_line n))) ∙ (is ∙ append_assoc (ended (line_of e)) (lines_of h) rest)) in
     let more = follows f h k n rest fits fits' two.1 in
-    record { others = more.others; fits = more.fits; all = both (one_entry d e fit'.0 fit.0 two.0) more.all; lines = more.lines }
-  where
-    both : {a b : Entry} {s t : List Entry} → a ≡ b → s ≡ t → a ∷ s ≡ b ∷ t
-    both p q = cc
+    record { others = more.others; fits = more.fits; all = ap (λ x. x ∷ k) (one_entry d e fit'.0 fit.0 two.0) ∙ ap (λ t. e ∷ t) more.all; lines = more.lines }
 
 pub journal_front : (f : Format) (h : List Entry) → journal_in f h ≡ front_of f h ++ ended (end_line (length h))
 journal_front f h = sym (append_assoc (ended (first_line f)) (lines_of h) (ended (end_line (length h))))
-
-append_same : (a x y : List ℕ) → a ++ x ≡ a ++ y → x ≡ y
-append_same [] x y e = e
-append_same (b ∷ a) x y e = append_same a x y (tail e)
-  where
-    tail : {c d : ℕ} {s t : List ℕ} → c ∷ s ≡ d ∷ t → s ≡ t
-    tail q = cc
 
 -- a journal that begins with the first line of a format is in this format
 same_first : (f g : Format) (h k : List Entry) (rest : List ℕ) → journal_in g k ≡ front_of f h ++ rest → g ≡ f
@@ -170,7 +130,7 @@ journal_follows f g h k rest fits fits' e = by g (same_first f g h k rest e) fit
     by : (g : Format) → g ≡ f → HasJournalIn g k → journal_in g k ≡ front_of f h ++ rest → Follows f h k (length k) rest
     by g same fits' e =
         follows f h k (length k) rest fits (subst (λ x. HasJournalIn x k) same fits')
-        (append_same (ended (first_line f)) _ _ (sym (ap (λ x. journal_in x k) same) ∙ (e ∙ append_assoc (ended (first_line f)) (lines_of h) rest)))
+        (append_cancel_left (ended (first_line f)) _ _ (sym (ap (λ x. journal_in x k) same) ∙ (e ∙ append_assoc (ended (first_line f)) (lines_of h) rest)))
 
 -- what follows is a line and more: it is the line of an entry, or the end line
 pub next_line : (f g : Format) (h k : List Entry) (line more : List ℕ) → HasJournalIn f h → HasJournalIn g k → IsLine line → journal_in g k ≡ front_of f h ++ (ended line ++ more)
@@ -178,19 +138,11 @@ pub next_line : (f g : Format) (h k : List Entry) (line more : List ℕ) → Has
 next_line f g h k line more fits fits' clean e =
     let t = journal_follows f g h k (ended line ++ more) fits fits' e in by t.others t.fits t.all t.lines
   where
-    alone : (o : List Entry) → o ≡ [] → k ≡ h ++ o → k ≡ h
-    alone [] z all = all ∙ nil h
-      where
-        nil : (xs : List Entry) → xs ++ [] ≡ xs
-        nil [] = refl
-        nil (x ∷ xs) = ap (λ t. x ∷ t) (nil xs)
-    alone (x ∷ o) z all = absurd (cc z)
-
     by : (o : List Entry) → HasJournalIn f o → k ≡ h ++ o → ended line ++ more ≡ lines_of o ++ ended (end_line (length k))
         → ((e : Entry) × FitsIn f e × (line ≡ line_of e)) ⊎ ((k ≡ h) × (line ≡ end_line (length h)) × (more ≡ []))
     by [] fit all lines =
-        let same : k ≡ h = alone [] refl all in
-        let two = first_lines line (end_line (length k)) more [] clean (end_is_line (length k)) (lines ∙ sym (append_nil (ended (end_line (length k))))) in
+        let same : k ≡ h = all ∙ append-nil h in
+        let two = first_lines line (end_line (length k)) more [] clean (end_is_line (length k)) (lines ∙ sym (append-nil (ended (end_line (length k))))) in
         inr (same, two.0 ∙ ap (λ (x : List Entry). end_line (length x)) same, two.1)
     by (x ∷ o) (fit, fits) all lines =
         inl (x, fit, (first_lines line (line_of x) more (lines_of o ++ ended (end_line (length k))) clean (entry_line x fit.0) (lines ∙ append_assoc (ended (line_of x)) (lines_of o) (ended (end_line (length k))))).0)
@@ -201,7 +153,7 @@ never_unended f g h k rest fits fits' clean e =
     let t = journal_follows f g h k rest fits fits' e in by t.others t.lines
   where
     by : (o : List Entry) → rest ≡ lines_of o ++ ended (end_line (length k)) → ⊥
-    by [] lines = no_feed (end_line (length k)) [] (subst (λ (t : List ℕ). IsLine t) (lines ∙ sym (append_nil (ended (end_line (length k))))) clean)
+    by [] lines = no_feed (end_line (length k)) [] (subst (λ (t : List ℕ). IsLine t) (lines ∙ sym (append-nil (ended (end_line (length k))))) clean)
     by (x ∷ o) lines = no_feed (line_of x) (lines_of o ++ ended (end_line (length k))) (subst (λ (t : List ℕ). IsLine t) (lines ∙ append_assoc (ended (line_of x)) (lines_of o) (ended (end_line (length k)))) clean)
 
 -- after a whole journal nothing follows, and it is that of one history
@@ -215,7 +167,7 @@ nothing_follows f g h k more fits fits' e =
 
 pub one_history : (h k : List Entry) (text : List ℕ) → IsJournalOf h text → IsJournalOf k text → h ≡ k
 one_history h k text (f, (fits, is)) (g, (fits', is')) =
-    sym (nothing_follows f g h k [] fits fits' (sym is' ∙ (is ∙ sym (append_nil (journal_in f h))))).0
+    sym (nothing_follows f g h k [] fits fits' (sym is' ∙ (is ∙ sym (append-nil (journal_in f h))))).0
 
 pub no_proper_prefix : NoProperPrefix
 no_proper_prefix f g h k more fits fits' e = (nothing_follows f g h k more fits fits' e).1
