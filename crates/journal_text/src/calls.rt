@@ -2,7 +2,6 @@
 
 ghost use Rattle.std.specs.Prelude.{◌≡◌, ◌∷◌, OnOk, codes};
 ghost use Rattle.std.specs.Fmt.{decimal};
-ghost use Rattle.journal_text.specs.Lists.{IsListText};
 ghost use Rattle.journal_text.specs.Words.{Adds, index, list_text};
 ghost use Rattle.journal_text.specs.Entries.{application_words, asked_words, call_words, days_words, what_words};
 
@@ -21,9 +20,7 @@ pub fn call<'a>(
     last: &mut LastList<'a>,
     call: &'a Call,
 ) -> Result<(), AllocError>
-    requires { IsListText last.old }
-    ensures words { OnOk result (Adds out.old.items out.new.items (call_words call.now)) }
-    ensures kept { OnOk result (IsListText last.new) }
+    ensures { OnOk result (Adds out.old.items out.new.items (call_words call.now)) }
 {
     match call {
         Call::Snapshot => word(out, "snapshot"),
@@ -68,9 +65,7 @@ fn application<'a>(
     last: &mut LastList<'a>,
     application: &'a Application,
 ) -> Result<(), AllocError>
-    requires { IsListText last.old }
-    ensures words { OnOk result (Adds out.old.items out.new.items (application_words application.now)) }
-    ensures kept { OnOk result (IsListText last.new) }
+    ensures { OnOk result (Adds out.old.items out.new.items (application_words application.now)) }
 {
     named_place(out, "truck", application.truck())?;
     named_place(out, "from", application.from())?;
@@ -85,9 +80,7 @@ fn asked<'a>(
     last: &mut LastList<'a>,
     application: &'a Application,
 ) -> Result<(), AllocError>
-    requires { IsListText last.old }
-    ensures words { OnOk result (Adds out.old.items out.new.items (asked_words application.now.asked)) }
-    ensures kept { OnOk result (IsListText last.new) }
+    ensures { OnOk result (Adds out.old.items out.new.items (asked_words application.now.asked)) }
 {
     match application.asked() {
         None => {
@@ -100,9 +93,7 @@ fn asked<'a>(
 
 // What was found.
 fn what<'a>(out: &mut Vec<u8>, last: &mut LastList<'a>, what: &'a What) -> Result<(), AllocError>
-    requires { IsListText last.old }
-    ensures words { OnOk result (Adds out.old.items out.new.items (what_words what.now)) }
-    ensures kept { OnOk result (IsListText last.new) }
+    ensures { OnOk result (Adds out.old.items out.new.items (what_words what.now)) }
 {
     match what {
         What::NotNeeded => word(out, "none"),

@@ -27,7 +27,7 @@ pub fn routes_text(alloc: Global, routes: &SharedRoutes) -> Result<Vec<u8>, NoMe
     ensures { IfOk result (λ text. text.items ≡ routes_text routes.now) }
 {
     let mut text = Vec::new(alloc);
-    let mut last = LastList::none(alloc)?;
+    let mut last = LastList::none(alloc);
     route_lists(&mut text, &mut last, routes)?;
     drop_space(&mut text);
     Ok(text)

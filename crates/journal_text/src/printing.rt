@@ -1,7 +1,6 @@
 // The text of a history.
 
 ghost use Rattle.std.specs.Prelude.{◌≡◌, ◌∷◌, ◌++◌, codes, flat_map, IfOk, OnOk};
-ghost use Rattle.journal_text.specs.Lists.{IsListText};
 ghost use Rattle.journal_text.specs.Journals.{ended, journal_of, line_of};
 
 use crate::calls::call;
@@ -28,7 +27,7 @@ fn text(alloc: Global, history: &[Entry]) -> Result<Vec<u8>, AllocError>
     let mut out = Vec::new(alloc);
     out.extend_from_slice(Format::Three.first_line().as_bytes())?;
     out.push(b'\n')?;
-    let mut last = LastList::none(alloc)?;
+    let mut last = LastList::none(alloc);
     'history: for entry in history {
         line(&mut out, &mut last, entry)?;
     }
@@ -41,9 +40,7 @@ fn text(alloc: Global, history: &[Entry]) -> Result<Vec<u8>, AllocError>
 // The line of an entry.
 #[tactic(auto, using(crate::proofs::Pieces::line_adds))]
 fn line<'a>(out: &mut Vec<u8>, last: &mut LastList<'a>, entry: &'a Entry) -> Result<(), AllocError>
-    requires { IsListText last.old }
-    ensures line { OnOk result (out.new.items ≡ out.old.items ++ ended (line_of entry.now)) }
-    ensures kept { OnOk result (IsListText last.new) }
+    ensures { OnOk result (out.new.items ≡ out.old.items ++ ended (line_of entry.now)) }
 {
     index_digits(out, entry.caller)?;
     call(out, last, &entry.call)?;

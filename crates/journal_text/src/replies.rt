@@ -2,7 +2,6 @@
 
 ghost use Rattle.std.specs.Prelude.{◌≡◌, ◌∷◌, OnOk, codes};
 ghost use Rattle.std.specs.Fmt.{decimal};
-ghost use Rattle.journal_text.specs.Lists.{IsListText};
 ghost use Rattle.journal_text.specs.Words.{Adds, index, list_text};
 ghost use Rattle.journal_text.specs.Entries.{reply_words, shown_words, standing_words, status_words};
 
@@ -22,9 +21,7 @@ pub fn reply<'a>(
     last: &mut LastList<'a>,
     reply: &'a Reply,
 ) -> Result<(), AllocError>
-    requires { IsListText last.old }
-    ensures words { OnOk result (Adds out.old.items out.new.items (reply_words reply.now)) }
-    ensures kept { OnOk result (IsListText last.new) }
+    ensures { OnOk result (Adds out.old.items out.new.items (reply_words reply.now)) }
 {
     match reply {
         Reply::SnapshotAt { version } => named(out, "at", *version),
@@ -73,9 +70,7 @@ fn issued<'a>(
     version: u32,
     routes: &'a SharedRoutes,
 ) -> Result<(), AllocError>
-    requires { IsListText last.old }
-    ensures kept { OnOk result (IsListText last.new) }
-    ensures words { OnOk result (Adds out.old.items out.new.items
+    ensures { OnOk result (Adds out.old.items out.new.items
         (reply_words (Reply.Issued number version routes.now))) }
 {
     named(out, "issued", number)?;

@@ -3,7 +3,6 @@
 ghost use Rattle.std.specs.Prelude.{◌≡◌, ◌<◌, ◌+◌, ◌∷◌, ◌++◌, ◌%◌, OnOk, codes};
 ghost use Rattle.std.specs.Fmt.{decimal};
 ghost use Rattle.influence_line.specs.Fractions.{ratio_text};
-ghost use Rattle.journal_text.specs.Lists.{IsListText};
 ghost use Rattle.journal_text.specs.Words.{Adds, group, index, list_text, numbers_words, routes_text, routes_words};
 
 use crate::lists::LastList;
@@ -134,9 +133,7 @@ pub fn named_routes<'a>(
     text: &str,
     routes: &'a SharedRoutes,
 ) -> Result<(), AllocError>
-    requires { IsListText last.old }
-    ensures kept { OnOk result (IsListText last.new) }
-    ensures words { OnOk result (Adds out.old.items out.new.items (routes_words text.now routes.now)) }
+    ensures { OnOk result (Adds out.old.items out.new.items (routes_words text.now routes.now)) }
 {
     word(out, text)?;
     route_lists(out, last, routes)
@@ -148,9 +145,7 @@ pub fn route_lists<'a>(
     last: &mut LastList<'a>,
     routes: &'a SharedRoutes,
 ) -> Result<(), AllocError>
-    requires { IsListText last.old }
-    ensures kept { OnOk result (IsListText last.new) }
-    ensures text { OnOk result (out.new.items ≡ out.old.items ++ (32 ∷ routes_text routes.now)) }
+    ensures { OnOk result (out.new.items ≡ out.old.items ++ (32 ∷ routes_text routes.now)) }
 {
     let count = routes.len();
     last.print(out, b' ', routes.route(0))?;

@@ -1,10 +1,6 @@
 use Rattle.std.proofs.Common.{◌≡◌, ◌++◌, ◌∷◌, take}
-use Rattle.journal_text.specs.Lists.{IsListText}
 use Rattle.journal_text.specs.Words.{routes_text}
 use Rattle.journal_text.proofs.words.route_lists.Given as goal
 
 abbrev pub invariant-routes : goal.invariant-routes
-invariant-routes l = record {
-  text : l.out.items ≡ l.fn.out.items ++ (32 ∷ routes_text (take l.i l.routes));
-  kept : IsListText l.last;
-}
+invariant-routes l = l.out.items ≡ l.fn.out.items ++ (32 ∷ routes_text (take l.i l.routes))
