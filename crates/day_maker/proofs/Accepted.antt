@@ -4,8 +4,9 @@ use Rattle.std.specs.Prelude.{codes}
 use Rattle.csv.specs.Records.{field_at}
 use Rattle.csv.specs.Reading.{strip_bom}
 use Rattle.csv.specs.Writing.{fields_text, is_blank}
+use Rattle.record_text.specs.Causes.{◌>>=◌}
 use Rattle.record_text.specs.Records.{Row, rows_of}
-use Rattle.day_text.specs.Days.{DayParts, day_of, finished_day, judge_day, fresh_day, opening_of, file_parts_of}
+use Rattle.day_text.specs.Days.{DayParts, day_of, ended_day, judge_day, fresh_day, opening_of, file_parts_of}
 use Rattle.record_text.specs.Records.{judged}
 use Rattle.day_maker.specs.Making.{Maker, ◌>>◌}
 use Rattle.day_maker.specs.Made.{actors, commands, last_record, made_day, made_rows, nodes, segments, spans, trucks}
@@ -50,11 +51,11 @@ begins z = record { nodes = grid_none 110 (z + 1) z; few = omega arith; segments
 
 -- from the state before the opening day to the end
 whole : (seed z : ℕ) (start : DayProgress) (rows : List Row) → 1 ≤ z → z ≤ 40 → rows ≡ made_rows seed z → judge_day start (row (codes "day" ∷ codes "2026-01-01" ∷ [])) ≡ Ok (open_day (fresh_day (codes "2026-01-01")))
-    → (file : DayParts) × (finished_day (judged judge_day 1 start rows) ≡ Ok file)
+    → (file : DayParts) × ((judged judge_day 1 start rows >>= ended_day) ≡ Ok file)
 whole seed z start rows some small same first =
     let (q, rest, end) = (later_ends z some small).ends seed (fresh_day (codes "2026-01-01")) (begins z) in
     let (j, told) = from_append start (open_day (fresh_day (codes "2026-01-01"))) q (row (codes "day" ∷ codes "2026-01-01" ∷ []) ∷ []) (later z seed).rows (from_one start (open_day (fresh_day (codes "2026-01-01"))) (row (codes "day" ∷ codes "2026-01-01" ∷ [])) opening_plain first) rest 1 in
-    (end.file, ap (λ (t : List Row). finished_day (judged judge_day 1 start t)) same ∙ (ap finished_day told ∙ end.told j))
+    (end.file, ap (λ (t : List Row). judged judge_day 1 start t >>= ended_day) same ∙ (ap (λ r. r >>= ended_day) told ∙ end.told j))
 
 -- what is written is read
 made_read : (seed z : ℕ) → 1 ≤ z → z ≤ 40 → rows_of (made_day seed z) ≡ made_rows seed z

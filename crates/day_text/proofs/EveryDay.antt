@@ -19,7 +19,7 @@ use Rattle.restriction_log.specs.declared.change.Replaced.{Replaced}
 use Rattle.restriction_log.specs.declared.change.Replaced.TheVariants as replaced
 use Rattle.road_graph.specs.Ranges.{is_limit, is_rating}
 use Rattle.road_graph.specs.Roads.{IsRoads, Roads, has_name, no_roads}
-use Rattle.record_text.specs.Causes.{Tells, demand, limit, or_bad, unless_refused}
+use Rattle.record_text.specs.Causes.{◌>>=◌, Tells, demand, limit, or_bad, unless_refused}
 use Rattle.record_text.specs.Fields.{field_of}
 use Rattle.record_text.specs.Forms.{Day as day_form, Name, said_in}
 use Rattle.record_text.specs.Records.{Row, judged, rows_of}
@@ -31,7 +31,7 @@ use Rattle.record_text.proofs.Saying.{all_said}
 use Rattle.record_text.proofs.Steps.{Gives, found_some, gives, not_refused, records_keep, refuses, then_gives, was_demanded, was_within}
 use Rattle.day_text.specs.Bounds.{DayFilesAreBounded, IsBounded, IsCommandWithin, IsSized}
 use Rattle.day_text.specs.Commands.{with_order}
-use Rattle.day_text.specs.Days.{DayParts, added, come_to, day_of, ended_day, file_parts_of, finished_day, fresh_day, judge_day, judge_kind, on_actors, on_fleet, on_orders, on_roads, opening_of}
+use Rattle.day_text.specs.Days.{DayParts, added, come_to, day_of, ended_day, file_parts_of, fresh_day, judge_day, judge_kind, on_actors, on_fleet, on_orders, on_roads, opening_of}
 use Rattle.day_text.specs.Fleets.{actors_of, fleet_of, most_actors, truck_names}
 use Rattle.day_text.specs.Kinds.{kind_of}
 use Rattle.day_text.specs.Laws.{IsDayFile}
@@ -294,7 +294,7 @@ ends row so_far.Start h = tt
 ends row (so_far.Open d) h = tt
 ends row (so_far.Ended d) h = record { file = h.file; bounds = h.bounds }
 
-finishes : (r : Result (ℕ × DayProgress) _) → IfOk r (λ (x : ℕ × DayProgress). Holds x.1) → IfOk (finished_day r) IsKept
+finishes : (r : Result (ℕ × DayProgress) _) → IfOk r (λ (x : ℕ × DayProgress). Holds x.1) → IfOk (r >>= ended_day) IsKept
 finishes (Ok (row, p)) h = ends row p h
 finishes (Err e) h = tt
 

@@ -74,11 +74,6 @@ ended_check (row, so_far.Start) = Err (row, why.Bad bad.End)
 ended_check (row, so_far.Open file) = Err (row, why.Bad bad.End)
 ended_check (row, so_far.Ended file) = Ok file
 
--- the file that was told, or the first refusal
-abbrev pub finished_check : Result (ℕ × CheckProgress) (ℕ × Cause) → Result CheckFile (ℕ × Cause)
-finished_check (Ok told) = ended_check told
-finished_check (Err refusal) = Err refusal
-
 -- the check file that the bytes are, or the first row that is refused and its cause
 abbrev pub check_of : List ℕ → Result CheckFile (ℕ × Cause)
-check_of bytes = finished_check (judged judge_check 1 so_far.Start (rows_of bytes))
+check_of bytes = judged judge_check 1 so_far.Start (rows_of bytes) >>= ended_check

@@ -106,11 +106,6 @@ ended_day (row, so_far.Start) = Err (row, why.Bad bad.End)
 ended_day (row, so_far.Open d) = Err (row, why.Bad bad.End)
 ended_day (row, so_far.Ended d) = Ok (file_parts_of d)
 
--- the file that was told, or the first refusal
-abbrev pub finished_day : Result (ℕ × DayProgress) (ℕ × Cause) → Result DayParts (ℕ × Cause)
-finished_day (Ok told) = ended_day told
-finished_day (Err refusal) = Err refusal
-
 -- the day file that the bytes are, or the first row that is refused and its cause
 abbrev pub day_of : List ℕ → Result DayParts (ℕ × Cause)
-day_of bytes = finished_day (judged judge_day 1 so_far.Start (rows_of bytes))
+day_of bytes = judged judge_day 1 so_far.Start (rows_of bytes) >>= ended_day

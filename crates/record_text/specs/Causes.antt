@@ -11,7 +11,7 @@ use Rattle.record_text.specs.declared.refusal.FileRefusal.TheVariants as file
 
 infixl 10 ◌>>=◌
 -- the first refusal of two steps
-abbrev pub ◌>>=◌ : {A B : Type 0} → Result A Cause → (A → Result B Cause) → Result B Cause
+abbrev pub ◌>>=◌ : {A B E : Type 0} → Result A E → (A → Result B E) → Result B E
 (Ok x) >>= f = f x
 (Err e) >>= f = Err e
 
