@@ -9,21 +9,22 @@ use Rattle.std.proofs.lemmas.List.Elements.{All-append, All-cons, All-from_get_o
 use Rattle.std.proofs.lemmas.List.Splits.{slice_split_at, slice_split_none}
 use Rattle.std.proofs.lemmas.List.Sums.{sum_by-cons}
 use Rattle.std.proofs.lemmas.Str.Parse.{digit_at}
+use Rattle.std.proofs.lemmas.Bool.{le-leb, le-ltb, ne_eqb}
 use Rattle.axle_train.specs.declared.axle.Axle.{Axle}
 use Rattle.axle_train.specs.Refusals.{place_fault, refusal_of, rise_fault, weight_fault}
 use Rattle.axle_train.specs.Trains.{axle_at}
 use Rattle.record_text.specs.Fields.{axle_of, axles_of, of_each}
 use Rattle.day_maker.specs.Made.{axle_text, axles, axles_text, more_axles}
 use Rattle.day_maker.specs.Making.{drawn}
-use Rattle.day_maker.proofs.Leaves.{eq_false, le_true, lt_false, number_ok}
+use Rattle.day_maker.proofs.Leaves.{number_ok}
 use Rattle.day_maker.proofs.Plain.{IsSmall}
 
 -- digits are neither a colon nor a space
 no_sign : (sign n : ℕ) → sign < 48 → n < 2 ^ 64 → All (λ b. eqb b sign ≡ false) (decimal n)
-no_sign sign n low h = All-from_get_or (λ b. eqb b sign ≡ false) (decimal n) 0 (λ i k. let r = digit_at (decimal n) i (decimal_is_IsNumeral n h).0.1 k in let least = r.0 in eq_false _ sign (λ e. absurd (omega arith)))
+no_sign sign n low h = All-from_get_or (λ b. eqb b sign ≡ false) (decimal n) 0 (λ i k. let r = digit_at (decimal n) i (decimal_is_IsNumeral n h).0.1 k in let least = r.0 in ne_eqb _ sign (λ e. absurd (omega arith)))
 
 no_colon : (n : ℕ) → n < 2 ^ 64 → All (λ b. eqb b 58 ≡ false) (decimal n)
-no_colon n h = All-from_get_or (λ b. eqb b 58 ≡ false) (decimal n) 0 (λ i k. let r = digit_at (decimal n) i (decimal_is_IsNumeral n h).0.1 k in let most = r.1 in eq_false _ 58 (λ e. absurd (omega arith)))
+no_colon n h = All-from_get_or (λ b. eqb b 58 ≡ false) (decimal n) 0 (λ i k. let r = digit_at (decimal n) i (decimal_is_IsNumeral n h).0.1 k in let most = r.1 in ne_eqb _ 58 (λ e. absurd (omega arith)))
 
 axle_read : (a : Axle) → IsSmall a → axle_of (axle_text a) ≡ Some a
 axle_read a s =
@@ -59,11 +60,11 @@ more_small (suc n) place x h = (record { place = omega arith; weight = omega (ar
 
 rises : (n place x least i : ℕ) → least ≤ place → rise_fault least i (more_axles n place x).0 ≡ None
 rises zero place x least i h = refl
-rises (suc n) place x least i h = rw (le_true least place h) (rises n (place + 54) (drawn x) (place + 1) (i + 1) (omega arith))
+rises (suc n) place x least i h = rw (le-leb least place h) (rises n (place + 54) (drawn x) (place + 1) (i + 1) (omega arith))
 
 weighs : (n place x i : ℕ) → weight_fault i (more_axles n place x).0 ≡ None
 weighs zero place x i = refl
-weighs (suc n) place x i = rw (le_true 1 (16000 + 500 * (drawn x % 20)) (weight_low x), le_true (16000 + 500 * (drawn x % 20)) 200000 (omega (arith, weight_high x))) (weighs n (place + 54) (drawn x) (i + 1))
+weighs (suc n) place x i = rw (le-leb 1 (16000 + 500 * (drawn x % 20)) (weight_low x), le-leb (16000 + 500 * (drawn x % 20)) 200000 (omega (arith, weight_high x))) (weighs n (place + 54) (drawn x) (i + 1))
 
 counts : (n place x : ℕ) → length (more_axles n place x).0 ≡ n
 counts zero place x = refl
@@ -89,7 +90,7 @@ far_all n x (suc i) h = omega (arith, far n 180 x i)
 -- axles that break no rule
 no_fault : (axles : List Axle) → 2 ≤ length axles → length axles ≤ 32 → place_fault axles ≡ None → weight_fault 0 axles ≡ None → sum_by (λ a. a.weight) axles ≤ 2000000 → (axle_at axles (length axles - 1)).place ≤ 3000 → refusal_of axles ≡ None
 no_fault axles some few places weights light short =
-    rw (lt_false (length axles) 2 some, lt_false 32 (length axles) few, places, weights, lt_false 2000000 (sum_by (λ (a : Axle). a.weight) axles) light, lt_false 3000 (axle_at axles (length axles - 1)).place short) refl
+    rw (le-ltb (length axles) 2 some, le-ltb 32 (length axles) few, places, weights, le-ltb 2000000 (sum_by (λ (a : Axle). a.weight) axles) light, le-ltb 3000 (axle_at axles (length axles - 1)).place short) refl
 
 -- the axles are a train
 pub is_train : (n x : ℕ) → 1 ≤ n → n ≤ 7 → refusal_of (axles n x).0 ≡ None

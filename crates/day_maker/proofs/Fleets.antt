@@ -5,6 +5,7 @@ use Rattle.std.specs.Fmt.{decimal}
 use Rattle.std.specs.List.{AllByRecursion}
 use Rattle.std.proofs.lemmas.Fmt.{decimal_digit}
 use Rattle.std.proofs.lemmas.List.{length-map, map-append}
+use Rattle.std.proofs.lemmas.Bool.{le-leb, lt-ltb}
 use Rattle.csv.specs.Records.{field_at}
 use Rattle.axle_train.specs.declared.axle.Axle.{Axle}
 use Rattle.axle_train.specs.Refusals.{refusal_of}
@@ -20,7 +21,7 @@ use Rattle.day_maker.specs.Texts.{row}
 use Rattle.day_maker.proofs.Axles.{axles_read, axles_small, axles_some, is_train}
 use Rattle.day_maker.proofs.Judge.{DaySoFar, open_day}
 use Rattle.day_maker.proofs.Leading.{Leads, leads_draw, leads_drawn, leads_nothing, leads_put, leads_then}
-use Rattle.day_maker.proofs.Leaves.{le_true, lt_true, number_ok, numbered_ok}
+use Rattle.day_maker.proofs.Leaves.{number_ok, numbered_ok}
 use Rattle.day_maker.proofs.Plain.{IsSmall, axles_plain, number_plain, numbered_plain}
 use Rattle.day_maker.proofs.Segments.{HasNodes}
 use Rattle.day_maker.proofs.Spans.{HasEast, InSpans}
@@ -67,7 +68,7 @@ truck_put z t height width train before small few fresh low high narrow wide goo
     judges d at =
         let new : has_name (truck_name t) (truck_names d.fleet) ≡ false = rw at.fleet fresh in
         let count : length d.fleet ≡ length before = sym (length-map d.fleet (λ (x : Truck). x.name)) ∙ ap length at.fleet in
-        rw (numbered_ok 116 t refl small, numbered_ok 99 (t % 2) refl (omega arith), number_ok height (omega arith), number_ok width (omega arith), number_ok 900 (omega arith), axles_read train good.some good.small, new, le_true 1 height low, le_true height 999 high, le_true 1 width narrow, le_true width 999 wide, good.sound, lt_true (length d.fleet) 64 (omega arith)) refl
+        rw (numbered_ok 116 t refl small, numbered_ok 99 (t % 2) refl (omega arith), number_ok height (omega arith), number_ok width (omega arith), number_ok 900 (omega arith), axles_read train good.some good.small, new, le-leb 1 height low, le-leb height 999 high, le-leb 1 width narrow, le-leb width 999 wide, good.sound, lt-ltb (length d.fleet) 64 (omega arith)) refl
 
     goes : (d : DaySoFar) → InTraffic z before [] 0 d → InTraffic z (before ++ truck_name t ∷ []) [] 0 (record d { fleet = d.fleet ++ made_truck t height width train ∷ [] })
     goes d at = record {
@@ -123,7 +124,7 @@ actor_leads z ts name before plain good fresh few =
     judges d at =
         let new : has_name name d.actors ≡ false = rw at.actors fresh in
         let count : length d.actors ≡ length before = ap length at.actors in
-        rw (good, new, lt_true (length d.actors) 16 (omega arith)) refl
+        rw (good, new, lt-ltb (length d.actors) 16 (omega arith)) refl
 
 abbrev pub four_actors : List (List ℕ)
 four_actors = actor_name 1 ∷ actor_name 2 ∷ actor_name 3 ∷ codes "eng" ∷ []

@@ -1,34 +1,20 @@
 -- Names and numbers that are made, as the fields of a record.
-use Rattle.std.proofs.Common.{◌≡◌, ◌≢◌, ◌∙◌, ◌<◌, ◌≤◌, ◌^◌, ◌∷◌, ◌++◌, [], ℕ, List, Some, Bool, true, false, eqb, ltb, leb, refl, ap, sym, arith, length, lit<, length-append}
-use Rattle.std.specs.Prelude.{◌&&◌}
+use Rattle.std.proofs.Common.{◌≡◌, ◌∙◌, ◌<◌, ◌≤◌, ◌^◌, ◌∷◌, ◌++◌, [], ℕ, List, Some, Bool, true, false, eqb, refl, ap, sym, arith, length, lit<, length-append}
 use Rattle.std.specs.Char.{is_ascii_digit}
 use Rattle.std.specs.Fmt.{decimal}
 use Rattle.std.specs.List.{All, list_all, slice_split}
 use Rattle.std.specs.Str.Parse.{AllDigits}
+use Rattle.std.proofs.lemmas.Bool.{le-leb, ne_eqb}
 use Rattle.std.proofs.lemmas.Bool.Decides.{nat_tests}
 use Rattle.std.proofs.lemmas.Fmt.{decimal_injective, decimal_is_IsNumeral, length-decimal-le}
 use Rattle.std.proofs.lemmas.List.Elements.{All-from_get_or}
+use Rattle.std.proofs.lemmas.List.Folds.{list_all-append}
 use Rattle.std.proofs.lemmas.List.Splits.{slice_split_at, slice_split_none}
 use Rattle.std.proofs.lemmas.Str.Parse.{digit_at, digit_from_value}
 use Rattle.names.specs.Names.{is_name_byte}
 use Rattle.record_text.specs.Fields.{name_field, number_field}
 use Rattle.record_text.proofs.Numbers.{number_read}
 use Rattle.day_maker.specs.Made.{cell, numbered_name}
-
-pub lt_true : (a b : ℕ) → a < b → ltb a b ≡ true
-lt_true a b h = grind (arith, nat_tests)
-
-pub lt_from : (a b : ℕ) → ltb a b ≡ true → a < b
-lt_from a b h = grind (arith, nat_tests)
-
-pub lt_false : (a b : ℕ) → b ≤ a → ltb a b ≡ false
-lt_false a b h = grind (arith, nat_tests)
-
-pub le_true : (a b : ℕ) → a ≤ b → leb a b ≡ true
-le_true a b h = grind (arith, nat_tests)
-
-pub eq_false : (a b : ℕ) → a ≢ b → eqb a b ≡ false
-eq_false a b h = grind (arith, nat_tests)
 
 -- what holds of each digit holds of a number's text
 digits_all : (P : ℕ → Bool) → ((b : ℕ) → 48 ≤ b → b ≤ 57 → P b ≡ true) → (ds : List ℕ) → AllDigits 10 ds → list_all P ds ≡ true
@@ -39,15 +25,10 @@ pub decimal_all : (P : ℕ → Bool) → ((b : ℕ) → 48 ≤ b → b ≤ 57 �
 decimal_all P p n h = digits_all P p (decimal n) (decimal_is_IsNumeral n h).0.1
 
 pub all_append : (P : ℕ → Bool) (xs ys : List ℕ) → list_all P xs ≡ true → list_all P ys ≡ true → list_all P (xs ++ ys) ≡ true
-all_append P [] ys h k = k
-all_append P (x ∷ xs) ys h k = by (P x) refl h (λ g. all_append P xs ys g k)
-  where
-    by : (b : Bool) → P x ≡ b → (b && list_all P xs) ≡ true → (list_all P xs ≡ true → list_all P (xs ++ ys) ≡ true) → (P x && list_all P (xs ++ ys)) ≡ true
-    by true e g more = rw e (more g)
-    by false e g more = absurd (cc g)
+all_append P xs ys h k = rw (list_all-append P xs ys, h) k
 
 digit_is_name_byte : (b : ℕ) → 48 ≤ b → b ≤ 57 → is_name_byte b ≡ true
-digit_is_name_byte b h k = rw (le_true 48 b h, le_true b 57 k) refl
+digit_is_name_byte b h k = rw (le-leb 48 b h, le-leb b 57 k) refl
 
 digit_is_digit : (b : ℕ) → 48 ≤ b → b ≤ 57 → is_ascii_digit b ≡ true
 digit_is_digit b h k = grind (arith, nat_tests)
@@ -60,18 +41,18 @@ cell_ok letter r c l hr hc =
     let b : length (decimal c) ≤ 2 = length-decimal-le 2 c (lit< tt) hc (omega arith) in
     let n : length (letter ∷ (decimal r ++ (45 ∷ decimal c))) ≤ 16 = simp length-append (omega arith) in
     let all : list_all is_name_byte (decimal r ++ (45 ∷ decimal c)) ≡ true = all_append is_name_byte (decimal r) (45 ∷ decimal c) (decimal_all is_name_byte digit_is_name_byte r (omega arith)) (decimal_all is_name_byte digit_is_name_byte c (omega arith)) in
-    rw (le_true 1 (length (letter ∷ (decimal r ++ (45 ∷ decimal c)))) (omega arith), le_true (length (letter ∷ (decimal r ++ (45 ∷ decimal c)))) 16 n, l, all) refl
+    rw (le-leb 1 (length (letter ∷ (decimal r ++ (45 ∷ decimal c)))) (omega arith), le-leb (length (letter ∷ (decimal r ++ (45 ∷ decimal c)))) 16 n, l, all) refl
 
 -- a letter and a number
 pub numbered_ok : (letter n : ℕ) → is_name_byte letter ≡ true → n < 100 → name_field (numbered_name letter n) ≡ Some (numbered_name letter n)
 numbered_ok letter n l h =
     let a : length (decimal n) ≤ 2 = length-decimal-le 2 n (lit< tt) h (omega arith) in
     let all : list_all is_name_byte (decimal n) ≡ true = decimal_all is_name_byte digit_is_name_byte n (omega arith) in
-    rw (le_true 1 (length (letter ∷ decimal n)) (omega arith), le_true (length (letter ∷ decimal n)) 16 (omega arith), l, all) refl
+    rw (le-leb 1 (length (letter ∷ decimal n)) (omega arith), le-leb (length (letter ∷ decimal n)) 16 (omega arith), l, all) refl
 
 -- one name, one place
 no_dash : (n : ℕ) → n < 2 ^ 64 → All (λ b. eqb b 45 ≡ false) (decimal n)
-no_dash n h = All-from_get_or (λ b. eqb b 45 ≡ false) (decimal n) 0 (λ i k. let r = digit_at (decimal n) i (decimal_is_IsNumeral n h).0.1 k in let low = r.0 in eq_false _ 45 (λ e. absurd (omega arith)))
+no_dash n h = All-from_get_or (λ b. eqb b 45 ≡ false) (decimal n) 0 (λ i k. let r = digit_at (decimal n) i (decimal_is_IsNumeral n h).0.1 k in let low = r.0 in ne_eqb _ 45 (λ e. absurd (omega arith)))
 
 pub cell_injective : (l r c l' r' c' : ℕ) → r < 100 → c < 100 → r' < 100 → c' < 100 → cell l r c ≡ cell l' r' c' → (l ≡ l') × (r ≡ r') × (c ≡ c')
 unfolding cell

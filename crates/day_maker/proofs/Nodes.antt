@@ -1,6 +1,7 @@
 -- The nodes that are made are accepted.
 use Rattle.std.proofs.Common.{◌≡◌, ◌<◌, ◌≤◌, ◌+◌, ◌*◌, ◌∷◌, ◌++◌, [], ℕ, Ok, false, refl, arith, length, inl, length-append}
 use Rattle.std.proofs.Math.Nat.{mul-le-mul}
+use Rattle.std.proofs.lemmas.Bool.{lt-ltb}
 use Rattle.csv.specs.Records.{field_at}
 use Rattle.road_graph.specs.Adding.{with_node}
 use Rattle.road_graph.specs.Roads.{has_name}
@@ -13,7 +14,7 @@ use Rattle.std.specs.Prelude.{codes}
 use Rattle.day_maker.proofs.Grids.{Grid, grid_column, grid_fresh, grid_more, grid_row}
 use Rattle.day_maker.proofs.Judge.{DaySoFar, open_day}
 use Rattle.day_maker.proofs.Leading.{Leads, leads_each, leads_put, leads_weaker}
-use Rattle.day_maker.proofs.Leaves.{cell_ok, lt_true}
+use Rattle.day_maker.proofs.Leaves.{cell_ok}
 use Rattle.day_maker.proofs.Plain.{cell_plain}
 
 pub record InNodes (z r c : ℕ) (d : DaySoFar) : Type 0 where
@@ -42,7 +43,7 @@ node_leads z r c small hr hc =
     judged : (d : DaySoFar) → InNodes z r c d → judge_day (open_day d) (row (codes "node" ∷ node_name r c ∷ [])) ≡ Ok (open_day (record d { network = with_node d.network (node_name r c) }))
     judged d at =
         let fresh : has_name (node_name r c) d.network.nodes ≡ false = grid_fresh z 110 r c [] d.network.nodes small hr hc (λ k. k) at.nodes in
-        rw (cell_ok 110 r c refl (omega arith) (omega arith), fresh, lt_true (length d.network.nodes) 4096 (omega (arith, at.few, few_places z r c small hr hc))) refl
+        rw (cell_ok 110 r c refl (omega arith) (omega arith), fresh, lt-ltb (length d.network.nodes) 4096 (omega (arith, at.few, few_places z r c small hr hc))) refl
 
     goes : (d : DaySoFar) → InNodes z r c d → InNodes z r (c + 1) (record d { network = with_node d.network (node_name r c) })
     goes d at = record {

@@ -2,6 +2,7 @@
 use Rattle.std.proofs.Common.{◌≡◌, ◌≢◌, ◌∙◌, ◌<◌, ◌≤◌, ◌+◌, ◌*◌, ◌∷◌, ◌++◌, [], ℕ, zero, suc, List, Ok, Some, None, Bool, true, false, refl, ap, sym, arith, length, length-append}
 use Rattle.std.specs.Prelude.{codes, if◌then◌else◌, ◌==◌}
 use Rattle.std.specs.Fmt.{decimal}
+use Rattle.std.proofs.lemmas.Bool.{le-leb, lt-ltb, ne_eqb}
 use Rattle.csv.specs.Records.{field_at}
 use Rattle.office_words.specs.declared.entry.Command.TheVariants as command
 use Rattle.restriction_log.specs.declared.change.Change.TheVariants as change
@@ -17,7 +18,7 @@ use Rattle.day_maker.specs.Texts.{row}
 use Rattle.day_maker.proofs.Fleets.{InTraffic, four_actors, four_trucks}
 use Rattle.day_maker.proofs.Judge.{DaySoFar, open_day}
 use Rattle.day_maker.proofs.Leading.{Leads, leads_draw, leads_each, leads_put}
-use Rattle.day_maker.proofs.Leaves.{cell_injective, cell_ok, eq_false, le_true, lt_true, number_ok, numbered_ok}
+use Rattle.day_maker.proofs.Leaves.{cell_injective, cell_ok, number_ok, numbered_ok}
 use Rattle.day_maker.proofs.Named.{IsThere, one_name, there_now, there_still}
 use Rattle.day_maker.proofs.Plain.{cell_plain, number_plain, numbered_plain}
 
@@ -62,7 +63,7 @@ posting_put z n r c inches small few hr hc low high =
     judges : (d : DaySoFar) (at : Before z n d) → judge_day (open_day d) (row (codes "post" ∷ codes "eng" ∷ east_name r c ∷ codes "height" ∷ decimal inches ∷ [])) ≡ Ok (open_day (record d { orders = d.orders ++ record { actor = 3; command = command.Post (change.Height (at.east r c hr hc).place inches) } ∷ [] }))
     judges d at =
         let who : number_named (codes "eng") d.actors ≡ Some 3 = rw at.actors engineer in
-        rw (cell_ok 101 r c refl (omega arith) (omega arith), number_ok inches (omega arith), who, (at.east r c hr hc).is, le_true 1 inches low, le_true inches 999 high, lt_true (length d.orders) 4096 (omega (arith, at.orders))) refl
+        rw (cell_ok 101 r c refl (omega arith) (omega arith), number_ok inches (omega arith), who, (at.east r c hr hc).is, le-leb 1 inches low, le-leb inches 999 high, lt-ltb (length d.orders) 4096 (omega (arith, at.orders))) refl
 
 posting_leads : (z n : ℕ) → 1 ≤ z → z ≤ 40 → n < 4096 → Leads (Before z n) (posting z) (Before z (n + 1))
 unfolding posting
@@ -92,7 +93,7 @@ application_put z n a t some small few ha ht =
         let who : number_named (actor_name (1 + a)) d.actors ≡ Some (actor_there a ha).place = rw at.actors (actor_there a ha).is in
         let what : number_named (truck_name (1 + t)) (truck_names d.fleet) ≡ Some (truck_there t ht).place = rw at.fleet (truck_there t ht).is in
         let apart : from.place ≢ to.place = (λ e. let same = cell_injective 110 0 0 110 z z (omega arith) (omega arith) (omega arith) (omega arith) (one_name (node_name 0 0) (node_name z z) d.network.nodes from.place from.is (to.is ∙ ap Some (sym e))) in absurd (omega (arith, same.1))) in
-        rw (numbered_ok 97 (1 + a) refl (omega arith), numbered_ok 116 (1 + t) refl (omega arith), cell_ok 110 0 0 refl (omega arith) (omega arith), cell_ok 110 z z refl (omega arith) (omega arith), who, what, from.is, to.is, eq_false from.place to.place apart, lt_true (length d.orders) 4096 (omega (arith, at.orders))) refl
+        rw (numbered_ok 97 (1 + a) refl (omega arith), numbered_ok 116 (1 + t) refl (omega arith), cell_ok 110 0 0 refl (omega arith) (omega arith), cell_ok 110 z z refl (omega arith) (omega arith), who, what, from.is, to.is, ne_eqb from.place to.place apart, lt-ltb (length d.orders) 4096 (omega (arith, at.orders))) refl
 
 application_leads : (z n : ℕ) → 1 ≤ z → z ≤ 40 → n < 4096 → Leads (Before z n) (application z) (Before z (n + 1))
 unfolding application

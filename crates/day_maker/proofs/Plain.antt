@@ -3,13 +3,14 @@ use Rattle.std.proofs.Common.{◌≡◌, ◌<◌, ◌≤◌, ◌^◌, ◌∷◌,
 use Rattle.std.specs.Prelude.{flat_map}
 use Rattle.std.specs.Fmt.{decimal}
 use Rattle.std.specs.List.{AllByRecursion}
+use Rattle.std.proofs.lemmas.Bool.{lt-ltb}
 use Rattle.axle_train.specs.declared.axle.Axle.{Axle}
 use Rattle.day_maker.specs.Made.{axle_text, axles_text, cell, numbered_name}
-use Rattle.day_maker.proofs.Leaves.{all_append, decimal_all, lt_true}
+use Rattle.day_maker.proofs.Leaves.{all_append, decimal_all}
 use Rattle.day_maker.proofs.Texts.{IsPlain, is_plain}
 
 digit_is_plain : (b : ℕ) → 48 ≤ b → b ≤ 57 → is_plain b ≡ true
-digit_is_plain b h k = lt_true b 128 (omega arith)
+digit_is_plain b h k = lt-ltb b 128 (omega arith)
 
 pub number_plain : (n : ℕ) → n < 2 ^ 64 → IsPlain (decimal n)
 number_plain n h = decimal_all is_plain digit_is_plain n h

@@ -3,6 +3,7 @@ use Rattle.std.proofs.Common.{◌≡◌, ◌<◌, ◌≤◌, ◌+◌, ◌*◌, �
 use Rattle.std.specs.Prelude.{codes, nat_lt}
 use Rattle.std.specs.Fmt.{decimal}
 use Rattle.std.proofs.lemmas.List.{map-append}
+use Rattle.std.proofs.lemmas.Bool.{le-leb, lt-ltb, ltb-true}
 use Rattle.csv.specs.Records.{field_at}
 use Rattle.names.specs.Names.{is_name_byte}
 use Rattle.road_graph.specs.Adding.{new_segment, with_segment}
@@ -16,7 +17,7 @@ use Rattle.day_maker.specs.Texts.{row}
 use Rattle.day_maker.proofs.Grids.{Grid, IsIn, grid_column, grid_fresh, grid_more, grid_none, grid_row, grid_wider}
 use Rattle.day_maker.proofs.Judge.{DaySoFar, open_day}
 use Rattle.day_maker.proofs.Leading.{Leads, leads_draw, leads_each, leads_put, leads_then, leads_weaker, leads_when}
-use Rattle.day_maker.proofs.Leaves.{cell_ok, le_true, lt_from, lt_true, number_ok}
+use Rattle.day_maker.proofs.Leaves.{cell_ok, number_ok}
 use Rattle.day_maker.proofs.Named.{IsThere}
 use Rattle.day_maker.proofs.Nodes.{InNodes, few_places}
 use Rattle.day_maker.proofs.Plain.{cell_plain, number_plain}
@@ -62,7 +63,7 @@ segment_leads z r c l a b a' b' feet done small hr hc good plain free short (ha,
     judges : (d : DaySoFar) (at : InSegments z r c done d) → judge_day (open_day d) (row (codes "segment" ∷ cell l r c ∷ node_name a b ∷ node_name a' b' ∷ decimal feet ∷ [])) ≡ Ok (open_day (record d { network = with_segment d.network (new_segment (cell l r c) (at.nodes a b ha hb).place (at.nodes a' b' ha' hb').place feet) }))
     judges d at =
         let fresh : has_name (cell l r c) (segment_names d.network.segments) ≡ false = grid_fresh z l r c done (segment_names d.network.segments) small hr hc free at.segments in
-        rw (cell_ok l r c good (omega arith) (omega arith), cell_ok 110 a b refl (omega arith) (omega arith), cell_ok 110 a' b' refl (omega arith) (omega arith), number_ok feet (omega arith), fresh, (at.nodes a b ha hb).is, (at.nodes a' b' ha' hb').is, le_true 1 feet low, le_true feet 10000000 high, lt_true (length d.network.segments) 16384 (omega (arith, at.few, few_places z r c small hr hc))) refl
+        rw (cell_ok l r c good (omega arith) (omega arith), cell_ok 110 a b refl (omega arith) (omega arith), cell_ok 110 a' b' refl (omega arith) (omega arith), number_ok feet (omega arith), fresh, (at.nodes a b ha hb).is, (at.nodes a' b' ha' hb').is, le-leb 1 feet low, le-leb feet 10000000 high, lt-ltb (length d.network.segments) 16384 (omega (arith, at.few, few_places z r c small hr hc))) refl
 
     goes : (d : DaySoFar) (at : InSegments z r c done d) → InSegments z r c (l ∷ done) (record d { network = with_segment d.network (new_segment (cell l r c) (at.nodes a b ha hb).place (at.nodes a' b' ha' hb').place feet) })
     goes d at = record {
@@ -91,7 +92,7 @@ eastward_leads : (z r c : ℕ) → z ≤ 40 → r ≤ z → c ≤ z → Leads (I
 unfolding eastward
 eastward_leads z r c small hr hc =
     leads_when (InSegments z r c []) (InSegments z r c (119 ∷ 101 ∷ [])) (nat_lt c z) (eastward r c)
-    (λ there. let h : c < z = lt_from c z there in
+    (λ there. let h : c < z = ltb-true c z there in
     leads_draw (InSegments z r c []) (InSegments z r c (119 ∷ 101 ∷ [])) 4000
     (λ n. segment (east_name r c) (node_name r c) (node_name r (c + 1)) (1000 + n) >> segment (west_name r c) (node_name r (c + 1)) (node_name r c) (1000 + n)) (omega arith)
     (λ n hn. leads_then (InSegments z r c []) (InSegments z r c (101 ∷ [])) (InSegments z r c (119 ∷ 101 ∷ []))
@@ -105,13 +106,13 @@ eastward_leads z r c small hr hc =
     free (inr k) = k
 
     last : nat_lt c z ≡ false → c < z → ⊥
-    last e h = let t : nat_lt c z ≡ true = lt_true c z h in cc
+    last e h = let t : nat_lt c z ≡ true = lt-ltb c z h in cc
 
 southward_leads : (z r c : ℕ) → z ≤ 40 → r ≤ z → c ≤ z → Leads (InSegments z r c (119 ∷ 101 ∷ [])) (when (nat_lt r z) (southward r c)) (InSegments z r c (117 ∷ 115 ∷ 119 ∷ 101 ∷ []))
 unfolding southward
 southward_leads z r c small hr hc =
     leads_when (InSegments z r c (119 ∷ 101 ∷ [])) (InSegments z r c (117 ∷ 115 ∷ 119 ∷ 101 ∷ [])) (nat_lt r z) (southward r c)
-    (λ there. let h : r < z = lt_from r z there in
+    (λ there. let h : r < z = ltb-true r z there in
     leads_draw (InSegments z r c (119 ∷ 101 ∷ [])) (InSegments z r c (117 ∷ 115 ∷ 119 ∷ 101 ∷ [])) 4000
     (λ n. segment (south_name r c) (node_name r c) (node_name (r + 1) c) (1000 + n) >> segment (north_name r c) (node_name (r + 1) c) (node_name r c) (1000 + n)) (omega arith)
     (λ n hn. leads_then (InSegments z r c (119 ∷ 101 ∷ [])) (InSegments z r c (115 ∷ 119 ∷ 101 ∷ [])) (InSegments z r c (117 ∷ 115 ∷ 119 ∷ 101 ∷ []))

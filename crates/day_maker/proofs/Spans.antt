@@ -4,6 +4,7 @@ use Rattle.std.specs.Prelude.{codes}
 use Rattle.std.specs.Fmt.{decimal}
 use Rattle.std.specs.List.{AllByRecursion, enumerate_from, filter}
 use Rattle.std.proofs.lemmas.List.{map-append}
+use Rattle.std.proofs.lemmas.Bool.{le-leb, lt-ltb, ne_eqb}
 use Rattle.csv.specs.Records.{field_at}
 use Rattle.road_graph.specs.Adding.{with_span}
 use Rattle.road_graph.specs.Roads.{has_name, segment_names, span_names}
@@ -17,7 +18,7 @@ use Rattle.day_maker.specs.Texts.{row}
 use Rattle.day_maker.proofs.Grids.{Grid, IsMade, all_last, all_map, grid_column, grid_fresh, grid_more, grid_none, grid_row, place_passed, row_passed}
 use Rattle.day_maker.proofs.Judge.{DaySoFar, open_day}
 use Rattle.day_maker.proofs.Leading.{Leads, leads_draw, leads_each, leads_put, leads_weaker}
-use Rattle.day_maker.proofs.Leaves.{cell_injective, cell_ok, eq_false, le_true, lt_true, number_ok}
+use Rattle.day_maker.proofs.Leaves.{cell_injective, cell_ok, number_ok}
 use Rattle.day_maker.proofs.Named.{IsThere, one_name}
 use Rattle.day_maker.proofs.Nodes.{few_places}
 use Rattle.day_maker.proofs.Plain.{cell_plain, number_plain}
@@ -62,7 +63,7 @@ spans_begin z d at = record {
 -- no span is on a segment
 none_on : (p : ℕ) (spans : List Span) (k : ℕ) → AllByRecursion (λ (t : Span). t.segment ≢ p) spans → filter (λ (x : ℕ × Span). eqb x.1.segment p) (enumerate_from k spans) ≡ []
 none_on p [] k h = refl
-none_on p (t ∷ spans) k (h, hs) = rw (eq_false t.segment p h) (none_on p spans (k + 1) hs)
+none_on p (t ∷ spans) k (h, hs) = rw (ne_eqb t.segment p h) (none_on p spans (k + 1) hs)
 
 -- a span of an earlier place is not on this place's segment
 apart : (z r c p : ℕ) (names : List (List ℕ)) (t : Span) → z ≤ 40 → r ≤ z → c ≤ z → number_named (east_name r c) names ≡ Some p → IsElsewhere z r c names t → t.segment ≢ p
@@ -89,7 +90,7 @@ span_put z r c inches rating small hr hc some long light =
         let p : ℕ = (at.east r c hr hc).place in
         let fresh : has_name (span_name r c) (span_names d.network.spans) ≡ false = grid_fresh z 98 r c [] (span_names d.network.spans) small hr (omega arith) (λ k. k) at.spans in
         let alone : filter (λ (x : ℕ × Span). eqb x.1.segment p) (enumerate_from 0 d.network.spans) ≡ [] = none_on p d.network.spans 0 (all_map (IsElsewhere z r c (segment_names d.network.segments)) (λ (t : Span). t.segment ≢ p) (λ t e. apart z r c p (segment_names d.network.segments) t small hr (omega arith) (at.east r c hr hc).is e) d.network.spans at.elsewhere) in
-        rw (cell_ok 98 r c refl (omega arith) (omega arith), cell_ok 101 r c refl (omega arith) (omega arith), number_ok inches (omega arith), number_ok rating (omega arith), fresh, (at.east r c hr hc).is, le_true 1 inches some, le_true inches 6000 long, le_true rating 100000 light, lt_true (length d.network.spans) 2048 (omega (arith, at.few, few_places z r c small hr (omega arith))), alone) refl
+        rw (cell_ok 98 r c refl (omega arith) (omega arith), cell_ok 101 r c refl (omega arith) (omega arith), number_ok inches (omega arith), number_ok rating (omega arith), fresh, (at.east r c hr hc).is, le-leb 1 inches some, le-leb inches 6000 long, le-leb rating 100000 light, lt-ltb (length d.network.spans) 2048 (omega (arith, at.few, few_places z r c small hr (omega arith))), alone) refl
 
     goes : (d : DaySoFar) (at : InSpans z r c d) → InSpans z r (c + 1) (record d { network = with_span d.network (record { name = span_name r c; segment = (at.east r c hr hc).place; inches = inches; rating = rating }) })
     goes d at =

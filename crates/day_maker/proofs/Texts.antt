@@ -1,9 +1,10 @@
 -- The records that are read from a text that is made.
-use Rattle.std.proofs.Common.{◌≡◌, ◌∙◌, ◌<◌, ◌∷◌, [], ℕ, zero, suc, List, None, Bool, true, false, get_or, refl, ap, arith, length, ltb}
-use Rattle.std.specs.Prelude.{flat_map, ◌&&◌}
+use Rattle.std.proofs.Common.{◌≡◌, ◌∙◌, ◌∷◌, [], ℕ, zero, suc, List, None, Bool, true, refl, ap, arith, length, ltb}
+use Rattle.std.specs.Prelude.{flat_map}
+use Rattle.std.specs.Cmp.{first_so, second_so}
 use Rattle.std.specs.List.{AllByRecursion, list_all}
 use Rattle.std.specs.Str.{IsAscii, is_utf8}
-use Rattle.std.proofs.lemmas.Bool.Decides.{nat_tests}
+use Rattle.std.proofs.lemmas.Bool.{ltb-true}
 use Rattle.std.proofs.lemmas.Str.{IsUtf8-from_ascii, is_utf8-from_IsUtf8}
 use Rattle.csv.specs.Machine.{next_record}
 use Rattle.csv.specs.Reading.{default_config}
@@ -26,15 +27,8 @@ IsPlainRow fields = (length fields ≡ 8) × AllByRecursion IsPlain fields
 
 plain_ascii : (field : List ℕ) → IsPlain field → IsAscii field
 plain_ascii [] h i = omega arith
-plain_ascii (b ∷ bytes) h i = by (ltb b 128) refl (list_all is_plain bytes) h (λ g. plain_ascii bytes g) i
-  where
-    low : ltb b 128 ≡ true → b < 128
-    low e = grind (arith, nat_tests)
-
-    by : (a : Bool) → ltb b 128 ≡ a → (all : Bool) → (a && all) ≡ true → (all ≡ true → IsAscii bytes) → (i : ℕ) → get_or (b ∷ bytes) i 0 < 128
-    by true e all h more zero = low e
-    by true e all h more (suc i) = more h i
-    by false e all h more i = absurd (cc h)
+plain_ascii (b ∷ bytes) h zero = ltb-true b 128 (first_so (ltb b 128) (list_all is_plain bytes) h)
+plain_ascii (b ∷ bytes) h (suc i) = plain_ascii bytes (second_so (ltb b 128) (list_all is_plain bytes) h) i
 
 all_utf8 : (fields : Row) → AllByRecursion IsPlain fields → list_all is_utf8 fields ≡ true
 all_utf8 [] h = refl
