@@ -1,11 +1,11 @@
 -- Words hold no space and no line feed.
 use Rattle.std.proofs.Common.{◌≡◌, ◌∙◌, ◌<◌, ◌≤◌, ◌+◌, ◌/◌, ◌%◌, ◌∷◌, ◌++◌, [], ℕ, zero, suc, List, Option, Some, None, Bool, true, false, cond, eqb, ltb, refl, ap, sym, arith, map, get_or, inl, inr}
-use Rattle.std.specs.Prelude.{codes, flat_map}
+use Rattle.std.specs.Prelude.{codes, flat_map, not}
 use Rattle.std.specs.Fmt.{decimal, digits, digits_onto, digit_glyph}
 use Rattle.std.specs.List.{All, AllByRecursion, list_all, slice_split}
 use Rattle.std.specs.Str.{bytes_eq}
 use Rattle.std.specs.Cmp.{first_so, second_so}
-use Rattle.std.proofs.lemmas.Bool.{cases_eq, eq-eqb}
+use Rattle.std.proofs.lemmas.Bool.{cases_eq, eq-eqb, lt-ltb, ltb-true, ne_eqb, not-true}
 use Rattle.std.proofs.lemmas.Bool.Decides.{nat_tests}
 use Rattle.std.proofs.lemmas.Slice.Eq.{bytes_eq-Decides}
 use Rattle.std.proofs.lemmas.Nat.{mod_below}
@@ -86,13 +86,10 @@ pub word_routes : (routes : List (List ℕ)) → is_word (routes_text routes) �
 word_routes routes = joined_all is_dark 47 (list_text index) refl word_indices routes
 
 pub word_day : (day : List ℕ) → FitsDay day → is_word day ≡ true
-word_day day h = list_all-from_AllPass is_dark day (All-from_get_or (λ b. is_dark b ≡ true) day 0 (λ i low. above (get_or day i 0) (byte i (omega (arith, low, s.long)))))
+word_day day h = list_all-from_AllPass is_dark day (All-from_get_or (λ b. is_dark b ≡ true) day 0 (λ i low. lt-ltb 32 (get_or day i 0) (byte i (omega (arith, low, s.long)))))
   where
     s : IsShaped day
     s = shaped day (first_so (has_shape day) (is_day (year_of day) (month_of day) (day_in_month day)) h)
-
-    above : (b : ℕ) → 32 < b → is_dark b ≡ true
-    above b k = grind (arith, nat_tests)
 
     byte : (i : ℕ) → i < 10 → 32 < get_or day i 0
     byte i low = elim (cases_eq i 4) [
@@ -105,29 +102,16 @@ word_day day h = list_all-from_AllPass is_dark day (All-from_get_or (λ b. is_da
 
 -- no separator
 abbrev pub is_no : ℕ → ℕ → Bool
-is_no sep b = cond (eqb b sep) false true
+is_no sep b = not (eqb b sep)
 
 pub no_digit : (sep : ℕ) → sep < 48 → (n : ℕ) → list_all (is_no sep) (decimal n) ≡ true
-no_digit sep s n = decimal_all (is_no sep) (λ b low high. rw (other b low) refl) n
-  where
-    other : (b : ℕ) → 48 ≤ b → eqb b sep ≡ false
-    other b low = grind (arith, nat_tests)
-
-pub unequal : (sep b : ℕ) → is_no sep b ≡ true → eqb b sep ≡ false
-unequal sep b h = by (eqb b sep) h
-  where
-    by : (same : Bool) → cond same false true ≡ true → same ≡ false
-    by true e = cc
-    by false e = refl
+no_digit sep s n = decimal_all (is_no sep) (λ b low high. rw (ne_eqb b sep (λ e. omega arith)) refl) n
 
 pub keeps : (sep : ℕ) (xs : List ℕ) → list_all (is_no sep) xs ≡ true → All (λ b. eqb b sep ≡ false) xs
-keeps sep xs h = All-weaker (λ b. is_no sep b ≡ true) (λ b. eqb b sep ≡ false) (unequal sep) xs (AllPass-from_list_all (is_no sep) xs h)
+keeps sep xs h = All-weaker (λ b. is_no sep b ≡ true) (λ b. eqb b sep ≡ false) (λ b. not-true (eqb b sep)) xs (AllPass-from_list_all (is_no sep) xs h)
 
 pub dark_is_no : (sep : ℕ) → sep ≤ 32 → (xs : List ℕ) → is_word xs ≡ true → list_all (is_no sep) xs ≡ true
-dark_is_no sep s xs h = list_all-from_AllPass (is_no sep) xs (All-weaker (λ b. is_dark b ≡ true) (λ b. is_no sep b ≡ true) (λ b dark. rw (other b dark) refl) xs (AllPass-from_list_all is_dark xs h))
-  where
-    other : (b : ℕ) → ltb 32 b ≡ true → eqb b sep ≡ false
-    other b e = grind (arith, nat_tests)
+dark_is_no sep s xs h = list_all-from_AllPass (is_no sep) xs (All-weaker (λ b. is_dark b ≡ true) (λ b. is_no sep b ≡ true) (λ b dark. rw (ne_eqb b sep (λ e. omega (arith, ltb-true 32 b dark))) refl) xs (AllPass-from_list_all is_dark xs h))
 
 -- words that stand behind spaces are what is left
 pub left_spaced : (ws : Words) → all_words ws ≡ true → left (spaced ws) ≡ ws

@@ -1,9 +1,9 @@
 -- Journals, line by line: what follows lines that are read, and that each text is the journal of one history.
-use Rattle.std.proofs.Common.{◌≡◌, ◌≢◌, ◌∙◌, ◌∷◌, ◌++◌, [], ℕ, List, Some, None, true, false, refl, ap, sym, subst, arith, length, append_assoc, inl, inr, ◌⊎◌}
+use Rattle.std.proofs.Common.{◌≡◌, ◌≢◌, ◌∙◌, ◌∷◌, ◌++◌, [], ℕ, List, Some, None, true, false, eqb, refl, ap, sym, subst, arith, length, append_assoc, inl, inr, ◌⊎◌}
 use Rattle.std.specs.Fmt.{digits}
 use Rattle.std.specs.Cmp.{first_so, second_so}
 use Rattle.std.specs.List.{join_with_byte, list_all}
-use Rattle.std.proofs.lemmas.Bool.{eqb-false, true≢false}
+use Rattle.std.proofs.lemmas.Bool.{eqb-false, not-true, true≢false}
 use Rattle.std.specs.Str.{bytes_eq}
 use Rattle.std.proofs.lemmas.Slice.Eq.{bytes_eq-Decides}
 use Rattle.std.proofs.lemmas.List.{append-nil, append_cancel_left}
@@ -19,7 +19,7 @@ use Rattle.journal_reader.specs.Formats.{FitsIn, HasJournalIn}
 use Rattle.journal_reader.specs.Laws.{NoProperPrefix}
 use Rattle.journal_reader.specs.Readers.{entry_of, entry_words}
 use Rattle.journal_reader.specs.Journals.{IsJournalOf, IsLine, front_of, lines_of}
-use Rattle.journal_reader.proofs.Clean.{all_append, all_words, dark_is_no, is_no, is_word, no_digit, unequal}
+use Rattle.journal_reader.proofs.Clean.{all_append, all_words, dark_is_no, is_no, is_word, no_digit}
 use Rattle.journal_reader.proofs.Spelled.{entry_again, line_words}
 
 -- the words of a line are its text
@@ -40,7 +40,7 @@ spaced_no (w ∷ ws) h =
 
 line_from : (text : List ℕ) → list_all (is_no 10) text ≡ true → IsLine text
 line_from [] h = tt
-line_from (b ∷ text) h = (eqb-false b 10 (unequal 10 b (first_so (is_no 10 b) (list_all (is_no 10) text) h)), line_from text (second_so (is_no 10 b) (list_all (is_no 10) text) h))
+line_from (b ∷ text) h = (eqb-false b 10 (not-true (eqb b 10) (first_so (is_no 10 b) (list_all (is_no 10) text) h)), line_from text (second_so (is_no 10 b) (list_all (is_no 10) text) h))
 
 pub entry_line : (e : Entry) → FitsEntry e → IsLine (line_of e)
 unfolding spaced
