@@ -202,16 +202,16 @@ set_day_good d fields =
     }))))
 
 -- the actor is there, and the number has nine digits at most
-abbrev IsAsked : DaySoFar → ℕ × ℕ → Type 0
-IsAsked d x = (x.0 < length d.actors) × (x.1 ≤ 999999999)
+abbrev IsAskedPermit : DaySoFar → ℕ × ℕ → Type 0
+IsAskedPermit d x = (x.0 < length d.actors) × (x.1 ≤ 999999999)
 
-permit_good : (d : DaySoFar) (fields : Row) → Gives (IsAsked d) (asked_permit_of d fields)
+permit_good : (d : DaySoFar) (fields : Row) → Gives (IsAskedPermit d) (asked_permit_of d fields)
 unfolding asked_permit_of
 permit_good d fields =
     then_gives {r = said_in (Name ∷ Number ∷ []) fields} (λ said e.
     then_gives {r = or_bad (bad.Unknown 2) (number_named said.0 d.actors)} (λ actor actor_is.
     let h = (all_said (Name ∷ Number ∷ []) fields).ok said e in
-    gives (IsAsked d) (actor, said.1.0) (actor_within d said.0 actor actor_is, number_fits (field_of fields 2) said.1.0 h.1.0)))
+    gives (IsAskedPermit d) (actor, said.1.0) (actor_within d said.0 actor actor_is, number_fits (field_of fields 2) said.1.0 h.1.0)))
 
 pub surrender_good : (d : DaySoFar) (fields : Row) → Gives (IsGood d) (surrender_of d fields)
 surrender_good d fields = then_gives {r = asked_permit_of d fields} (λ x e.

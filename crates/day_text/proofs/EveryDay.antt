@@ -1,6 +1,7 @@
 -- What every day file keeps, and the bounds that it is within: each record leaves what was said so far so.
 use Rattle.std.proofs.Common.{◌≡◌, ◌≤◌, ◌<◌, ◌∷◌, ◌++◌, ◌&&◌, [], List, ℕ, Bool, true, Result, Ok, Err, IfOk, All, length, refl, subst, arith, length-append}
 use Rattle.std.specs.Prelude.{nat_lt, not}
+use Rattle.std.specs.Cmp.{first_so, second_so}
 use Rattle.std.proofs.lemmas.Bool.{ltb-true, lt-ltb}
 use Rattle.std.proofs.lemmas.List.Elements.{All-nil, All-push, All-weaker}
 use Rattle.axle_train.specs.declared.axle.Axle.{Axle}
@@ -44,7 +45,7 @@ use Rattle.day_text.specs.declared.progress.DayProgress.{DayProgress}
 use Rattle.day_text.specs.declared.progress.DayProgress.TheVariants as so_far
 use Rattle.day_text.proofs.Commanded.{IsGood, apply_good, base_of, post_good, set_day_good, show_good, surrender_good}
 use Rattle.day_text.proofs.Kept.{HaveGrown, KeepsRoads, limit_grows, node_grows, segment_grows, sound_kept, span_grows}
-use Rattle.day_text.proofs.Readings.{both, maybe_day, there_day}
+use Rattle.day_text.proofs.Readings.{maybe_day, there_day}
 
 -- a command that might be given may be given where there is more
 sound_more : (old new : BaseLists) → KeepsRoads old.roads new.roads → length old.fleet ≤ length new.fleet → (c : Command) → MayCarryOut old c → MayCarryOut new c
@@ -62,7 +63,7 @@ more_is : (a old new : ℕ) → old ≤ new → nat_lt a old ≡ true → nat_lt
 more_is a old new le e = let less : a < old = ltb-true _ _ e in lt-ltb _ _ (omega arith)
 
 wider : (a old new : ℕ) (b : Bool) → old ≤ new → (nat_lt a old && b) ≡ true → (nat_lt a new && b) ≡ true
-wider a old new b le e = let h = both (nat_lt a old) b e in rw (more_is a old new le h.0) h.1
+wider a old new b le e = rw (more_is a old new le (first_so (nat_lt a old) b e)) (second_so (nat_lt a old) b e)
 
 still_has : (old new : Roads) → HaveGrown old new → (r : Replaced) → takes_replaced old r ≡ true → takes_replaced new r ≡ true
 still_has old new more (replaced.Limit segment what value) e = wider segment _ _ (is_limit what value) more.segments e

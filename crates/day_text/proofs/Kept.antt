@@ -1,6 +1,7 @@
 -- What the records of a road network keep of it: its nodes, where its segments lead, and its bounds.
 use Rattle.std.proofs.Common.{◌≡◌, ◌≤◌, ◌<◌, ◌∷◌, ◌∙◌, [], List, ℕ, zero, suc, Some, None, set, length, refl, sym, ap, subst, arith, length-append}
 use Rattle.std.specs.Prelude.{nat_le, nat_lt, not, slice_get}
+use Rattle.std.specs.Cmp.{first_so, second_so}
 use Rattle.std.specs.Str.{bytes_eq}
 use Rattle.std.proofs.lemmas.Bool.{ltb-true, leb-true, not-true}
 use Rattle.std.proofs.lemmas.List.{length-map, length-set}
@@ -27,7 +28,6 @@ use Rattle.record_text.specs.Records.{Row}
 use Rattle.record_text.specs.declared.refusal.RecordCause.TheVariants as bad
 use Rattle.day_text.specs.Roads.{with_limit_of, with_node_of, with_segment_of, with_span_of}
 use Rattle.record_text.proofs.Steps.{Gives, found_some, gives, then_gives, was_demanded, was_within}
-use Rattle.day_text.proofs.Readings.{both}
 
 -- a name that is found stands among the others
 pub named_within : (name : List ℕ) (names : List (List ℕ)) (i : ℕ) → number_named name names ≡ Some i → i < length names
@@ -120,7 +120,7 @@ segment_grows roads fields =
     then_gives {r = demand (is_feet said.1.1.1.0) (bad.Range 5)} (λ b far.
     then_gives {r = limit (nat_lt (length roads.segments) 16384) kind.Segments} (λ c few.
     let s : Segment = new_segment said.0 i j said.1.1.1.0 in
-    let range = both (nat_le 1 said.1.1.1.0) (nat_le said.1.1.1.0 10000000) (was_demanded (is_feet said.1.1.1.0) (bad.Range 5) b far) in
+    let range = was_demanded (is_feet said.1.1.1.0) (bad.Range 5) b far in
     gives (HaveGrown roads) (with_segment roads s) (record {
       kept = record { nodes = omega arith; segments = λ i s h. (s, get-front roads.segments _ i s h, refl, refl) };
       segments = omega (arith, length-append roads.segments (s ∷ []));
@@ -128,8 +128,8 @@ segment_grows roads fields =
       roads = λ h. roads-segment roads s h (ltb-true _ _ (was_within _ kind.Segments c few)) (record {
         from = named_within said.1.0 roads.nodes i (found_some (bad.Unknown 3) (number_named said.1.0 roads.nodes) i begins);
         to = named_within said.1.1.0 roads.nodes j (found_some (bad.Unknown 4) (number_named said.1.1.0 roads.nodes) j ends);
-        some = leb-true _ _ range.0;
-        far = leb-true _ _ range.1;
+        some = leb-true _ _ (first_so (nat_le 1 said.1.1.1.0) (nat_le said.1.1.1.0 10000000) range);
+        far = leb-true _ _ (second_so (nat_le 1 said.1.1.1.0) (nat_le said.1.1.1.0 10000000) range);
         base = defaults;
       }) (not-true _ (was_demanded _ bad.Same a new));
     })))))))
@@ -161,7 +161,7 @@ span_grows roads fields =
     then_gives {r = limit (nat_lt (length roads.spans) 2048) kind.Spans} (λ e few.
     then_gives {r = limit (nat_lt (length (spans_of roads.spans i)) 16) kind.SpansOfSegment} (λ f few_here.
     let t : Span = record { name = said.0; segment = i; inches = said.1.1.0; rating = said.1.1.1.0 } in
-    let range = both (nat_le 1 said.1.1.0) (nat_le said.1.1.0 6000) (was_demanded (is_inches said.1.1.0) (bad.Range 4) b long) in
+    let range = was_demanded (is_inches said.1.1.0) (bad.Range 4) b long in
     gives (HaveGrown roads) (with_span roads t) (record {
       kept = record { nodes = omega arith; segments = λ i s h. (s, h, refl, refl) };
       segments = omega arith;
@@ -169,8 +169,8 @@ span_grows roads fields =
       roads = λ h.
           roads-span roads t h (ltb-true _ _ (was_within _ kind.Spans e few)) (ltb-true _ _ (was_within _ kind.SpansOfSegment f few_here)) (record {
             segment = segment_there roads said.1.0 i (found_some (bad.Unknown 3) (number_named said.1.0 (segment_names roads.segments)) i known);
-            some = leb-true _ _ range.0;
-            long = leb-true _ _ range.1;
+            some = leb-true _ _ (first_so (nat_le 1 said.1.1.0) (nat_le said.1.1.0 6000) range);
+            long = leb-true _ _ (second_so (nat_le 1 said.1.1.0) (nat_le said.1.1.0 6000) range);
             rating = leb-true _ _ (was_demanded (is_rating said.1.1.1.0) (bad.Range 5) c rated);
           }) (not-true _ (was_demanded _ bad.Same a new));
     }))))))))

@@ -12,10 +12,6 @@ use Rattle.permit_days.specs.declared.refusal.DayRefusal.TheVariants.{NoSuchDay,
 use Rattle.record_text.specs.Fields.{day_field as day_field_of, day_or_none, number_field, of_each, route_of, routes_field}
 
 -- words that are read
-pub both : (a b : Bool) → (a && b) ≡ true → (a ≡ true) × (b ≡ true)
-both true b e = (refl, e)
-both false b e = cc
-
 own : IsNumeralModel (λ ds. list_all is_ascii_digit ds ≡ true) (digits_value 10)
 own = numerals_by_value _ (search rules)
 
