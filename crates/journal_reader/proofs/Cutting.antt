@@ -20,7 +20,7 @@ others_more : (lines : List (List ℕ)) (line : List ℕ) → AllByRecursion IsO
 others_more [] line all more = (more, tt)
 others_more (l ∷ lines) line all more = (all.0, others_more lines line all.1 more)
 
-lines_more : (lines : List (List ℕ)) (line : List ℕ) → lines_text (lines ++ line ∷ []) ≡ lines_text lines ++ ended line
+pub lines_more : (lines : List (List ℕ)) (line : List ℕ) → lines_text (lines ++ line ∷ []) ≡ lines_text lines ++ ended line
 lines_more lines line = flat_map-append ended lines (line ∷ []) ∙ ap (λ l. lines_text lines ++ l) (append-nil (ended line))
 
 -- the bytes in front of a line and with it

@@ -1,9 +1,10 @@
 -- Which line of a text is bad.
-use Rattle.std.proofs.Common.{◌≡◌, ◌∙◌, ◌<◌, ◌≤◌, ◌+◌, ◌∷◌, ◌++◌, [], ℕ, suc, List, Option, Some, None, true, false, eqb, refl, ap, sym, subst, arith, length, map, append_assoc, inl, inr, ◌⊎◌}
+use Rattle.std.proofs.Common.{◌≡◌, ◌∙◌, ◌<◌, ◌≤◌, ◌+◌, ◌∷◌, ◌++◌, [], ℕ, List, Option, Some, None, true, false, eqb, refl, ap, sym, subst, arith, length, map, append_assoc, inl, inr, ◌⊎◌}
 use Rattle.std.specs.List.{AllByRecursion}
 use Rattle.std.specs.Str.{bytes_eq}
 use Rattle.std.proofs.Math.ListN.{length-append}
-use Rattle.std.proofs.lemmas.List.{append-nil}
+use Rattle.std.proofs.lemmas.List.{append-nil, length-map}
+use Rattle.std.proofs.lemmas.List.Concat.{flat_map-append}
 use Rattle.std.proofs.lemmas.Slice.Eq.{bytes_eq-Decides}
 use Rattle.std.proofs.lemmas.Bool.{cases_eq, eqb-true}
 use Rattle.std.proofs.lemmas.Bool.Decides.{nat_tests}
@@ -14,6 +15,7 @@ use Rattle.journal_text.specs.Journals.{end_line, ended, first_line, journal_in,
 use Rattle.journal_reader.specs.Formats.{FitsIn, HasJournalIn, if_said}
 use Rattle.journal_reader.specs.Readers.{entry_in}
 use Rattle.journal_reader.specs.Journals.{BeginsAJournal, IsBadLine, IsBadNext, IsFirstLine, IsJournalOf, IsLine, front_of, lines_of, lines_text}
+use Rattle.journal_reader.proofs.Cutting.{lines_more}
 use Rattle.journal_reader.proofs.Spelled.{entry_again}
 use Rattle.journal_reader.proofs.Whole.{end_is_line, entry_line, first_lines, header_is_line, journal_front, never_unended, next_line, no_feed, nothing_follows}
 
@@ -33,15 +35,11 @@ all_lines : (f : Format) (h : List Entry) → HasJournalIn f h → AllByRecursio
 all_lines f [] fits = tt
 all_lines f (e ∷ h) (fit, fits) = (entry_line e fit.0, all_lines f h fits)
 
-length_map : (h : List Entry) → length (map line_of h) ≡ length h
-length_map [] = refl
-length_map (e ∷ h) = ap suc (length_map h)
-
 -- the line behind the first lines is bad
 bad_behind : (f : Format) (h : List Entry) (text rest : List ℕ) → HasJournalIn f h → text ≡ front_of f h ++ rest → IsBadNext (front_of f h) rest → IsBadLine text (length h + 2)
 bad_behind f h text rest fits whole bad =
     let is : lines_text (lines_list f h) ≡ front_of f h = ap (λ t. ended (first_line f) ++ t) (lines_are h) in
-    let long = length_map h in
+    let long = length-map h line_of in
     record {
       before = lines_list f h;
       rest = rest;
@@ -112,14 +110,13 @@ behind_end f h text line more fits whole at open_ =
     with_end (e ∷ g) (fit, fits') = (entry_line e fit.0, with_end g fits')
 
     lines_end : (g : List Entry) → lines_text (map line_of g ++ (end_line n ∷ [])) ≡ lines_of g ++ ended (end_line n)
-    lines_end [] = append-nil (ended (end_line n))
-    lines_end (e ∷ g) = ap (λ t. ended (line_of e) ++ t) (lines_end g) ∙ sym (append_assoc (ended (line_of e)) (lines_of g) (ended (end_line n)))
+    lines_end g = lines_more (map line_of g) (end_line n) ∙ ap (λ t. t ++ ended (end_line n)) (lines_are g)
 
     all_text : (g : List Entry) → lines_text (before g) ≡ ended (first_line f) ++ (lines_of g ++ ended (end_line n))
     all_text g = ap (λ t. ended (first_line f) ++ t) (lines_end g)
 
     long_before : (g : List Entry) → length (before g) ≡ length g + 2
-    long_before g = let a = length-append (map line_of g) (end_line n ∷ []) in let b = length_map g in omega (arith, a, b)
+    long_before g = let a = length-append (map line_of g) (end_line n ∷ []) in let b = length-map g line_of in omega (arith, a, b)
 
     none : (g : Format) (k : List Entry) (x : List ℕ) → HasJournalIn g k → journal_in f h ++ x ≡ journal_in g k → 0 < length x → ⊥
     none g k x fits' e l = let z = (nothing_follows f g h k x fits fits' (sym e)).1 in let m : length x ≡ 0 = ap (λ (t : List ℕ). length t) z in omega (arith, l, m)
@@ -167,11 +164,10 @@ whole_journal f h text line more fits whole at none = (f, (fits, by more whole (
 pub one_more : (f : Format) (h : List Entry) (text rest line more : List ℕ) (e : Entry) (new : List Entry) → text ≡ front_of f h ++ rest → rest ≡ ended line ++ more → line ≡ line_of e → new ≡ h ++ (e ∷ []) → text ≡ front_of f new ++ more
 one_more f h text rest line more e new whole next is last =
     whole ∙ (ap (λ t. front_of f h ++ t) (next ∙ ap (λ (t : List ℕ). ended t ++ more) is)
-    ∙ (sym (append_assoc (front_of f h) (ended (line_of e)) more) ∙ ap (λ t. t ++ more) (append_assoc (ended (first_line f)) (lines_of h) (ended (line_of e)) ∙ (ap (λ t. ended (first_line f) ++ t) (sym (lines_more h)) ∙ ap (λ (x : List Entry). front_of f x) (sym last)))))
+    ∙ (sym (append_assoc (front_of f h) (ended (line_of e)) more) ∙ ap (λ t. t ++ more) (append_assoc (ended (first_line f)) (lines_of h) (ended (line_of e)) ∙ (ap (λ t. ended (first_line f) ++ t) (sym last_line) ∙ ap (λ (x : List Entry). front_of f x) (sym last)))))
   where
-    lines_more : (g : List Entry) → lines_of (g ++ (e ∷ [])) ≡ lines_of g ++ ended (line_of e)
-    lines_more [] = append-nil (ended (line_of e))
-    lines_more (d ∷ g) = ap (λ t. ended (line_of d) ++ t) (lines_more g) ∙ sym (append_assoc (ended (line_of d)) (lines_of g) (ended (line_of e)))
+    last_line : lines_of (h ++ (e ∷ [])) ≡ lines_of h ++ ended (line_of e)
+    last_line = flat_map-append (λ x. ended (line_of x)) h (e ∷ []) ∙ ap (λ t. lines_of h ++ t) (append-nil (ended (line_of e)))
 
 pub one_more_fits : (f : Format) (h : List Entry) (e : Entry) (new : List Entry) → HasJournalIn f h → FitsIn f e → new ≡ h ++ (e ∷ []) → HasJournalIn f new
 one_more_fits f h e new fits fit last = subst (λ (x : List Entry). HasJournalIn f x) (sym last) (by h fits)
