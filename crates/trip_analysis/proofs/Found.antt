@@ -1,6 +1,6 @@
 -- What is found holds in the state in which it was found, and speaks of what is there.
 use Rattle.std.proofs.Common.{◌≡◌, ◌+◌, ◌-◌, ◌<◌, ◌≤◌, ◌∷◌, [], ◌==◌, ◌||◌, ◌&&◌, not, ℕ, zero, suc, List, Bool, cond, true, false, length, filter, get_or, refl, ap, sym, ◌∙◌, subst, inl, inr, arith, Option, Some, None, is_none}
-use Rattle.std.specs.Prelude.{slice_get, IfOk, Result, Ok, Err}
+use Rattle.std.specs.Prelude.{slice_get}
 use Rattle.std.specs.List.{All, AllByRecursion as ByRecursion, concat, range_with_len}
 use Rattle.std.proofs.lemmas.List.Elements.{All-same, recursion_from_All}
 use Rattle.std.proofs.lemmas.Bool.{cases_Bool, eq-eqb, eqb-true}
@@ -22,7 +22,6 @@ use Rattle.fleet.specs.Passing.{Limit, first_on, first_or, flags_of, is_passable
 use Rattle.trip_analysis.specs.Findings.{HoldsIn, InRange, IsFinding, IsFoundBy, asked_finding, first_meeting, is_number_among, leaves, leaving, proposed_of}
 use Rattle.trip_applications.proofs.Joined.{one_joined, walks_there}
 use Rattle.fleet.proofs.Flagged.{flag_is}
-use Rattle.names.specs.declared.refusal.NoMemory.{NoMemory}
 
 pub pick : {A : Type 0} (P : A → Type 0) (b : Bool) (x y : A) → (b ≡ true → P x) → (b ≡ false → P y) → P (cond b x y)
 pick P true x y p q = p refl
@@ -151,7 +150,9 @@ found_in_range base state a w ok sound h = (usable base state a w ok sound h).ra
 pub found_holds : (base : BaseLists) (state : InForce) (a : Application) (w : What) → IsRoads base.roads → Sound base a → IsFinding base state a w → HoldsIn base state a.truck w
 found_holds base state a w ok sound h = (usable base state a w ok sound h).holds
 
--- what a search found is found, where it is proposed
-pub found_if : (base : BaseLists) (state : InForce) (a : Application) (f : Shortest) (r : Result What NoMemory) → IsShortest base.roads (flags_of base state a.truck) a.from a.to f → IfOk r (λ w. w ≡ proposed_of f) → IfOk r (IsFoundBy base state a None)
-found_if base state a f (Ok w) h is = (f, h, is)
-found_if base state a f (Err e) h is = tt
+-- what asked routes give is found, where the truck needs a permit
+pub asked_found : (base : BaseLists) (state : InForce) (a : Application) (routes : List (List ℕ)) (w : What) → needs_none base a.truck ≡ false → a.asked ≡ Some routes → w ≡ asked_finding (first_on base state a.truck (concat routes)) routes → IsFinding base state a w
+asked_found base state a routes w needs asked is = record {
+  legal = λ legal. absurd (grind (arith, legal, needs));
+  found = λ _. subst (λ (o : Option (List (List ℕ))). IsFoundBy base state a o w) (sym asked) is;
+}

@@ -71,6 +71,11 @@ pub record IsFinding (base : BaseLists) (state : InForce) (a : Application) (w :
   pub legal : needs_none base a.truck ≡ true → w ≡ what.NotNeeded
   pub found : needs_none base a.truck ≡ false → IsFoundBy base state a a.asked w
 
+-- only a search finds what an application needs: its truck is not legal, and no route is asked for
+pub record IsToSearch (base : BaseLists) (a : Application) : Type 0 where
+  pub needs : needs_none base a.truck ≡ false
+  pub free : a.asked ≡ None
+
 -- the same in what was in force with these postings
 abbrev pub IsFoundAt : BaseLists → Stored → Application → What → Type 0
 IsFoundAt base stored a w = IsFinding base (state_now stored) a w

@@ -1,12 +1,11 @@
 // What is found for an application.
 
-ghost use Rattle.std.specs.Prelude.{◌≡◌, ◌<◌, length, None, true, All, IfOk};
-ghost use Rattle.std.specs.List.{concat};
+ghost use Rattle.std.specs.Prelude.{◌≡◌, true, IfOk, MatchOption};
 ghost use Rattle.restriction_log.specs.States.{AreOf};
 ghost use Rattle.snapshot_store.specs.Stores.{store_version_of};
 ghost use Rattle.trip_applications.specs.Applications.{Sound};
-ghost use Rattle.fleet.specs.Passing.{TestsAtMost, first_on as first_in, needs_none};
-ghost use Rattle.trip_analysis.specs.Findings.{IsFinding, IsFoundAt, IsFoundBy, asked_finding};
+ghost use Rattle.fleet.specs.Passing.{TestsAtMost, needs_none};
+ghost use Rattle.trip_analysis.specs.Findings.{IsFinding, IsFoundAt, IsToSearch};
 ghost use Rattle.trip_analysis.specs.Tests.{tests_for};
 
 use crate::finding::{Proposal, What};
@@ -19,7 +18,6 @@ use snapshot_store::Snapshot;
 use std::alloc::Global;
 use std::sync::ledger::Ledger;
 use trip_applications::Application;
-use trip_routes::SharedRoutes;
 
 /// What is found for the application in a state of the base's roads. `NoMemory` where no memory was left.
 ///
@@ -43,14 +41,21 @@ pub fn find<L: Ledger>(
     ensures steps { TestsAtMost (tests_for base.now application.now.asked) steps.old steps.new }
     ensures legal { needs_none base.now application.now.truck ≡ true → steps.new ≡ steps.old }
 {
+    match find_at_once(base, state, application, steps)? {
+        Some(what) => return Ok(what),
+        None => (),
+    }
     let truck = application.truck();
-    if base.fleet()[truck as usize].load.legal() {
-        return Ok(What::NotNeeded);
-    }
-    match application.asked() {
-        Some(routes) => find_asked(base, state, truck, routes, steps),
-        None => find_free(alloc, base, state, application, steps),
-    }
+    let on = TruckOn { base, state, truck };
+    let passable = on.flags(alloc, steps)?;
+    let network = base.network();
+    network.lists_are_in_order();
+    let flags = passable.as_slice();
+    let roads = Passable { network, flags };
+    let (from, to) = (application.from(), application.to());
+    let heights = Heights::none(alloc);
+    let found = shortest_walk(alloc, &TripEnds { roads, from, to }, &heights)?;
+    LastRoute::none().proposed(alloc, found)
 }
 
 /// What is found for the application in the state of a snapshot, with the snapshot's version. `NoMemory` where no memory was
@@ -75,52 +80,34 @@ pub fn analyse<L: Ledger>(
     })
 }
 
-// What is found on asked routes.
-pub(crate) fn find_asked<L: Ledger>(
-    base: &Base,
-    state: &State,
-    truck: u32,
-    routes: &SharedRoutes,
-    steps: &mut Steps<L>,
-) -> Result<What, NoMemory>
-    requires truck { truck < length base.now.fleet }
-    requires state { AreOf base.now.roads state.now }
-    requires segments { All (λ s. s < length base.now.roads.segments) (concat routes.now) }
-    ensures found { IfOk result
-        (λ w. w ≡ asked_finding (first_in base.now state.now truck (concat routes.now)) routes.now) }
-    ensures steps { TestsAtMost (length (concat routes.now)) steps.old steps.new }
-{
-    let on = TruckOn { base, state, truck };
-    match on.first_on(routes.all(), steps) {
-        Some(failing) => Ok(What::Fails {
-            segment: failing.segment,
-        }),
-        None => Ok(What::Route(routes.clone()?)),
-    }
-}
-
-// What is found without one, by a search over the segments that the truck may pass.
-fn find_free<L: Ledger>(
-    alloc: Global,
+// What is found without a search: that a legal truck needs no permit, or what asked routes give. Nothing, and nothing is tested,
+// where a search is to find it.
+pub(crate) fn find_at_once<L: Ledger>(
     base: &Base,
     state: &State,
     application: &Application,
     steps: &mut Steps<L>,
-) -> Result<What, NoMemory>
+) -> Result<Option<What>, NoMemory>
     requires state { AreOf base.now.roads state.now }
     requires sound { Sound base.now application.now }
-    ensures found { IfOk result (IsFoundBy base.now state.now application.now None) }
-    ensures steps { TestsAtMost (tests_for base.now None) steps.old steps.new }
+    ensures found { IfOk result (λ found. MatchOption found
+        (IsToSearch base.now application.now × (steps.new ≡ steps.old))
+        (IsFinding base.now state.now application.now)) }
+    ensures steps { TestsAtMost (tests_for base.now application.now.asked) steps.old steps.new }
+    ensures legal { needs_none base.now application.now.truck ≡ true → steps.new ≡ steps.old }
 {
     let truck = application.truck();
+    if base.fleet()[truck as usize].load.legal() {
+        return Ok(Some(What::NotNeeded));
+    }
+    let Some(routes) = application.asked() else {
+        return Ok(None);
+    };
     let on = TruckOn { base, state, truck };
-    let passable = on.flags(alloc, steps)?;
-    let network = base.network();
-    network.lists_are_in_order();
-    let flags = passable.as_slice();
-    let roads = Passable { network, flags };
-    let (from, to) = (application.from(), application.to());
-    let heights = Heights::none(alloc);
-    let found = shortest_walk(alloc, &TripEnds { roads, from, to }, &heights)?;
-    LastRoute::none().proposed(alloc, found)
+    match on.first_on(routes.all(), steps) {
+        Some(failing) => Ok(Some(What::Fails {
+            segment: failing.segment,
+        })),
+        None => Ok(Some(What::Route(routes.clone()?))),
+    }
 }

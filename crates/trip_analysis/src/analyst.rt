@@ -1,21 +1,21 @@
 // Who finds what applications ask for, and keeps what is known of each truck.
 
-ghost use Rattle.std.specs.Prelude.{◌≡◌, ◌<◌, None, length, true, false, IfOk};
+ghost use Rattle.std.specs.Prelude.{◌≡◌, ◌<◌, length, true, false, IfOk};
 ghost use Rattle.road_graph.specs.Roads.{IsRoads};
 ghost use Rattle.restriction_log.specs.States.{AgreeOn, AreOf, InForce};
 ghost use Rattle.snapshot_store.specs.Stores.{IsLater, state_now};
 ghost use Rattle.trip_applications.specs.Applications.{Sound};
 ghost use Rattle.fleet.specs.Passing.{TestsAtMost, needs_none};
-ghost use Rattle.trip_analysis.specs.Findings.{IsFinding, IsFoundBy};
+ghost use Rattle.trip_analysis.specs.Findings.{IsFinding};
 ghost use Rattle.trip_analysis.specs.Tests.{tests_for, tests_to_go_on};
 ghost use Rattle.trip_analysis.specs.Known.{AreJudged, AreKnown, AreOfFleet};
 
-use crate::analysis::find_asked;
+use crate::analysis::find_at_once;
 use crate::finding::What;
 use crate::kept::Tables;
 use crate::known::Known;
 use crate::last_route::LastRoute;
-use fleet::{Base, Steps, TruckOn};
+use fleet::{Base, Steps, TruckAt, TruckOn};
 use names::NoMemory;
 use restriction_log::State;
 use road_graph::Network;
@@ -74,38 +74,18 @@ impl Analyst {
         ensures steps { TestsAtMost (tests_for base.now application.now.asked) steps.old steps.new }
         ensures legal { needs_none base.now application.now.truck ≡ true → steps.new ≡ steps.old }
     {
-        let truck = application.truck();
-        if base.fleet()[truck as usize].load.legal() {
-            return Ok(What::NotNeeded);
+        match find_at_once(base, snapshot.state(), application, steps)? {
+            Some(what) => return Ok(what),
+            None => (),
         }
-        match application.asked() {
-            Some(routes) => find_asked(base, snapshot.state(), truck, routes, steps),
-            None => self.find_free(alloc, base, snapshot, application, steps),
-        }
-    }
-
-    // What is found without an asked route.
-    fn find_free<L: Ledger>(
-        &mut self,
-        alloc: Global,
-        base: &Base,
-        snapshot: &Snapshot,
-        application: &Application,
-        steps: &mut Steps<L>,
-    ) -> Result<What, NoMemory>
-        requires known { AreKnown base.now (state_now snapshot.now) self.old }
-        requires roads { snapshot.now.roads ≡ base.now.roads }
-        requires sound { Sound base.now application.now }
-        ensures found { IfOk result (IsFoundBy base.now (state_now snapshot.now) application.now None) }
-        ensures known { AreKnown base.now (state_now snapshot.now) self.new }
-        ensures steps { TestsAtMost (tests_for base.now None) steps.old steps.new }
-    {
         let truck = application.truck();
-        let slot = &mut self.known[truck as usize];
-        let mut known = match slot.take() {
-            Some(known) => known,
-            None => Known::at(alloc, base, snapshot, truck, steps)?,
+        let at = TruckAt {
+            base,
+            snapshot,
+            truck,
         };
+        let slot = &mut self.known[truck as usize];
+        let mut known = Known::at(alloc, slot.take(), &at, steps)?;
         let network = base.network();
         network.lists_are_in_order();
         let flags = known.passable.as_slice();

@@ -1,16 +1,15 @@
 // What is known of one truck, once it was needed.
 
-ghost use Rattle.std.specs.Prelude.{◌≡◌, ◌<◌, length, slice_set, IfOk};
+ghost use Rattle.std.specs.Prelude.{◌≡◌, ◌<◌, length, slice_set, IfOk, IfSome};
 ghost use Rattle.road_graph.specs.Roads.{IsRoads};
 ghost use Rattle.snapshot_store.specs.Stores.{state_now};
 ghost use Rattle.fleet.specs.Passing.{TestsAtMost};
 ghost use Rattle.trip_analysis.specs.Known.{IsKnown, IsOfRoads};
 
 use crate::kept::Kept;
-use fleet::{Base, Steps, TruckAt};
+use fleet::{Steps, TruckAt};
 use names::NoMemory;
 use road_graph::Network;
-use snapshot_store::Snapshot;
 use std::alloc::Global;
 use std::sync::ledger::Ledger;
 
@@ -23,24 +22,20 @@ pub struct Known {
 }
 
 impl Known {
-    /// Which segments a truck may pass at a snapshot, and nothing more.
+    /// What is known of a truck at a snapshot: what was kept of it or, where nothing was, which segments it may pass.
     pub(crate) fn at<L: Ledger>(
         alloc: Global,
-        base: &Base,
-        snapshot: &Snapshot,
-        truck: u32,
+        kept: Option<Known>,
+        at: &TruckAt,
         steps: &mut Steps<L>,
     ) -> Result<Known, NoMemory>
-        requires truck { truck < length base.now.fleet }
-        requires roads { snapshot.now.roads ≡ base.now.roads }
-        ensures known { IfOk result (IsKnown base.now (state_now snapshot.now) truck) }
-        ensures steps { TestsAtMost (length base.now.roads.segments) steps.old steps.new }
+        requires kept { IfSome kept (IsKnown at.now.base.now (state_now at.now.snapshot.now) at.now.truck) }
+        ensures known { IfOk result (IsKnown at.now.base.now (state_now at.now.snapshot.now) at.now.truck) }
+        ensures steps { TestsAtMost (length at.now.base.now.roads.segments) steps.old steps.new }
     {
-        let at = TruckAt {
-            base,
-            snapshot,
-            truck,
-        };
+        if let Some(known) = kept {
+            return Ok(known);
+        }
         let kept = Kept {
             settled: None,
             region: None,

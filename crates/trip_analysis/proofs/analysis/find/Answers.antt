@@ -1,9 +1,6 @@
-use Rattle.std.proofs.Common.{◌∙◌, sym, ap}
-use Rattle.std.specs.Prelude.{option_map}
-use Rattle.trip_applications.proofs.Routes.{asked_there}
+use Rattle.fleet.proofs.Flagged.{flags_many}
 use Rattle.trip_analysis.proofs.analysis.find.Goals as goal
 
-pub find_asked-requires-clause-segments : goal.find_asked-requires-clause-segments
-find_asked-requires-clause-segments g c =
-    let a = c.args.application.now in
-    asked_there c.args.base.now.roads a.from a.to a.asked c.in-Some.routes.now (sym c.asked.ensures ∙ ap (option_map (λ n. n.now)) c.in-Some.is) c.requires.sound.asked
+pub invariant_of-roads-clause-flags_are_as_many : goal.invariant_of-roads-clause-flags_are_as_many
+invariant_of-roads-clause-flags_are_as_many g c =
+    rw (c.as_slice-flags.ensures.value, c.network-network.ensures) (flags_many c.args.base.now c.args.state.now c.truck-truck.result c.in_ok-passable.passable.items c.in_ok-passable.ensures.flags)

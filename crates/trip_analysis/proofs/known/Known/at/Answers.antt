@@ -4,11 +4,11 @@ use Rattle.trip_analysis.proofs.known.Known.at.Goals as goal
 
 pub returns-clause-known : goal.returns-clause-known
 returns-clause-known g c =
-    let a = c.args in let flags = c.in_ok-flags.ensures.flags in
+    let at = c.args.at.now in let flags = c.in_ok-flags.ensures.flags in
     record {
       passable = flags;
       of_roads = record {
-        many = flags_many a.base.now (state_now a.snapshot.now) a.truck c.in_ok-flags.field-0.items flags;
+        many = flags_many at.base.now (state_now at.snapshot.now) at.truck c.in_ok-flags.field-0.items flags;
         kept = record { settled = tt; region = tt };
       };
     }
