@@ -2,6 +2,7 @@
 
 ghost use Rattle.std.specs.Prelude.{◌≡◌, ◌+◌, ◌<◌, ◌≤◌, ◌&&◌, length, All, IfOk, OnErr, None, if◌then◌else◌};
 ghost use Rattle.std.specs.List.{concat};
+ghost use Rattle.road_graph.specs.Roads.{IsRoads};
 ghost use Rattle.trip_analysis.specs.declared.finding.What.TheVariants as what;
 ghost use Rattle.trip_applications.specs.Applications.{Sound};
 ghost use Rattle.fleet.specs.Passing.{first_on as first_in, is_passable, limit_for};
@@ -10,17 +11,16 @@ ghost use Rattle.office_words.specs.declared.entry.Call.TheVariants.{Held, Submi
 ghost use Rattle.office_words.specs.declared.entry.Reply.TheVariants as reply;
 ghost use Rattle.office_core.specs.Replies.{early_reply};
 ghost use Rattle.office_core.specs.Costs.{tests_held};
-ghost use Rattle.office_core.specs.Machine.{HasRoom, IsFound, trip_for, version_of};
+ghost use Rattle.office_core.specs.Machine.{HasRoom, IsFound, version_of};
 ghost use Rattle.office_core.specs.Registers.{Gives, HeldAt, IsReplyTo, IsRetested, Issues, LeavesParts, MayLack, Permits, changed_among, changed_out, found_reply, has_changed, least_out, next_issue, register_state_now, state_then};
 
 use crate::answer::Answer;
 use crate::register::Register;
 use clearance_rules::{Limit, Steps};
-use fleet::{Base, Failing, TruckOn};
+use fleet::{Failing, TruckOn};
 use names::NoMemory;
 use office_words::{Cause, Reply};
 use permit_book::Trip;
-use permit_days::Day;
 use road_graph::SharedNumbers;
 use std::sync::ledger::Ledger;
 use trip_analysis::{NodeSet, Proposal, What};
@@ -46,7 +46,7 @@ impl Register {
         ensures lack { OnErr result (MayLack self.old (Submit application.now proposal.now)) }
         ensures cost { IsRetested self.old proposal.now.seen proposal.now.what steps.old steps.new }
     {
-        match early_answer(self.base(), self.today(), application) {
+        match self.early_answer(application) {
             Some(answer) => Ok(answer),
             None => self.answer_found(caller, application, proposal, steps),
         }
@@ -68,13 +68,29 @@ impl Register {
         ensures lack { OnErr result (MayLack self.old (Held application.now)) }
         ensures cost { steps.new ≤ steps.old + tests_held self.old.base application.now }
     {
-        match early_answer(self.base(), self.today(), application) {
+        match self.early_answer(application) {
             Some(answer) => Ok(answer),
             None => {
                 let proposal = self.find(application, steps)?;
                 self.answer_found(caller, application, &proposal, steps)
             }
         }
+    }
+
+    /// What is answered before the roads are looked at. Takes no memory.
+    pub(crate) fn early_answer(&self, application: &Application) -> Option<Answer>
+        requires { application.now.truck < length self.now.base.fleet }
+        ensures answer { result ≡ early_reply self.now.base self.now.machine.day application.now }
+        ensures roads { IsRoads self.now.base.roads }
+    {
+        let (base, day) = (self.base(), self.today());
+        if application.first() < day {
+            return Some(Answer::plain(Reply::Late { day }));
+        }
+        if base.fleet()[application.truck() as usize].load.legal() {
+            return Some(Answer::plain(Reply::NotNeeded));
+        }
+        None
     }
 
     // Answers what was found for an application.
@@ -96,7 +112,7 @@ impl Register {
         ensures lack { OnErr result (Issues self.old application.now.truck proposal.now.what) }
         ensures cost { IsRetested self.old proposal.now.seen proposal.now.what steps.old steps.new }
     {
-        let (truck, seen) = (application.truck(), proposal.seen);
+        let (truck, seen, version) = (application.truck(), proposal.seen, self.version());
         match &proposal.what {
             What::NotNeeded => Ok(Answer::plain(Reply::NotNeeded)),
             What::Route(routes) => match self.first_failing(truck, seen, routes.all(), steps) {
@@ -105,7 +121,10 @@ impl Register {
                 })),
                 None => self.issue(caller, application, seen, routes),
             },
-            What::Fails { segment } => Ok(self.answer_fails(truck, *segment, steps)),
+            What::Fails { segment } => match self.failing_limit(truck, *segment, steps) {
+                Some(limit) => Ok(Answer::plain(Reply::Refused { version, limit })),
+                None => Ok(self.outdated(Cause::NowMeets { segment: *segment })),
+            },
             What::Cut(nodes) => Ok(self.answer_cut(truck, seen, nodes, steps)),
         }
     }
@@ -200,20 +219,6 @@ impl Register {
         nodes.is_left_by(base.network(), segment) && on.is_passable(segment, steps)
     }
 
-    // Answers that a segment fails. Takes no memory.
-    fn answer_fails<L: Ledger>(&self, truck: u32, segment: u32, steps: &mut Steps<L>) -> Answer
-        requires truck { truck < length self.now.base.fleet }
-        requires segment { segment < length self.now.base.roads.segments }
-        ensures reply { result ≡ found_reply self.now truck (what.Fails segment) }
-        ensures steps { steps.new ≡ steps.old + 1 }
-    {
-        let version = self.version();
-        match self.failing_limit(truck, segment, steps) {
-            Some(limit) => Answer::plain(Reply::Refused { version, limit }),
-            None => self.outdated(Cause::NowMeets { segment }),
-        }
-    }
-
     // Answers a cut out of which no segment met at the version seen. Takes no memory.
     fn answer_cut<L: Ledger>(
         &self,
@@ -266,7 +271,13 @@ impl Register {
         ensures after { IfOk result (Permits self.old caller application.now seen self.new) }
         ensures unchanged { OnErr result (self.new ≡ self.old) }
     {
-        let trip = trip_along(caller, application, routes)?;
+        let trip = Trip {
+            caller,
+            truck: application.truck(),
+            routes: routes.clone()?,
+            first: application.first(),
+            last: application.last(),
+        };
         let (number, version) = (self.next_number(), self.version());
         let answer = Answer::new(Reply::Issued {
             number,
@@ -276,35 +287,4 @@ impl Register {
         self.enter_permit(trip, seen)?;
         Ok(answer)
     }
-}
-
-// The trip of a caller's application along these routes, of which it is one more owner.
-fn trip_along(
-    caller: u32,
-    application: &Application,
-    routes: &SharedRoutes,
-) -> Result<Trip, NoMemory>
-    ensures { IfOk result (λ trip. trip ≡ trip_for caller application.now routes.now) }
-{
-    Ok(Trip {
-        caller,
-        truck: application.truck(),
-        routes: routes.clone()?,
-        first: application.first(),
-        last: application.last(),
-    })
-}
-
-// What is answered before the roads are looked at. Takes no memory.
-fn early_answer(base: &Base, day: Day, application: &Application) -> Option<Answer>
-    requires { application.now.truck < length base.now.fleet }
-    ensures { result ≡ early_reply base.now day application.now }
-{
-    if application.first() < day {
-        return Some(Answer::plain(Reply::Late { day }));
-    }
-    if base.fleet()[application.truck() as usize].load.legal() {
-        return Some(Answer::plain(Reply::NotNeeded));
-    }
-    None
 }

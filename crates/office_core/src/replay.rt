@@ -84,7 +84,7 @@ impl Replay {
                 application,
                 proposal,
             } => self.would_issue(application, proposal, steps),
-            Call::Held { application } => self.would_look(application),
+            Call::Held { application } => self.register.early_answer(application).is_none(),
             Call::Post { change } => takes(self.register.base().network(), change),
             _ => false,
         }
@@ -101,7 +101,7 @@ impl Replay {
         requires { IsFound self.now.base self.now.machine application.now proposal.now }
         ensures { result ≡ is_issue (reply_in self.now.base self.now.machine application.now proposal.now.what) }
     {
-        if !self.would_look(application) {
+        if self.register.early_answer(application).is_some() {
             return false;
         }
         let (base, state) = (self.register.base(), self.register.state());
@@ -111,15 +111,5 @@ impl Replay {
             What::Route(routes) => on.first_on(routes.all(), steps).is_none(),
             _ => false,
         }
-    }
-
-    // Whether the answer to an application is not known before the roads are looked at.
-    fn would_look(&self, application: &Application) -> bool
-        requires { application.now.truck < length self.now.base.fleet }
-        ensures { result ≡ is_none (early_reply self.now.base self.now.machine.day application.now) }
-    {
-        let truck = application.truck() as usize;
-        application.first() >= self.register.today()
-            && !self.register.base().fleet()[truck].load.legal()
     }
 }
