@@ -1,10 +1,10 @@
 // Commands that are carried out by the calls of an office.
 
-ghost use Rattle.std.specs.Prelude.{◌≡◌, ◌<◌, false, IfErr, IfOk, MatchOption};
+ghost use Rattle.std.specs.Prelude.{◌≡◌, ◌<◌, false, IfErr, IfOk};
 ghost use Rattle.trip_applications.specs.Applications.{Sound};
 ghost use Rattle.office_words.specs.declared.entry.Command.TheVariants as asked;
 ghost use Rattle.office_core.specs.Replies.{is_outdated};
-ghost use Rattle.command_calls.specs.Attempts.{Concluded, DecidedAfter, IsAgain};
+ghost use Rattle.command_calls.specs.Attempts.{Concluded, DecidedAfter};
 ghost use Rattle.command_calls.specs.Attempts.{IsPrepared, IsSubmitted, MaySubmit};
 ghost use Rattle.command_calls.specs.Following.{MayFollow};
 ghost use Rattle.command_calls.specs.Leaves.{CarriedOut};
@@ -71,6 +71,7 @@ pub fn carry_out<C: OfficeCalls, G: Gate, L: Ledger>(
 /// The reply is the first that does not say that what was proposed is out of date. It is `Full` only where
 /// the calls are then full with that number, and `NoMemory` also where, after a snapshot, no memory was
 /// left to find what is needed.
+#[tactic(auto, using(crate::proofs::Attempting::carried_settled))]
 pub fn decide<C: OfficeCalls, G: Gate, L: Ledger>(
     alloc: Global,
     calls: &mut C,
@@ -102,39 +103,19 @@ fn decide_by<C: OfficeCalls, G: Gate, L: Ledger>(
     requires sound { Sound errand.now.base.now application.now }
     requires follows { MayFollow finder.old.follower (C.view calls.old) }
     ensures decided { CarriedOut (C.view calls.old) (asked.Apply application.now) result (C.view calls.new) }
-    ensures settled { is_outdated result ≡ false }
     ensures follows { MayFollow finder.new.follower (C.view calls.new) }
 {
     for tries in 0..7 {
-        match attempt(alloc, calls, finder, application, errand, tries + 1) {
+        let submission = match prepare(alloc, calls, finder, errand.base, application) {
+            Ok(submission) => submission,
+            Err(reply) => return reply,
+        };
+        match submit(calls, submission, errand, tries + 1) {
             Some(reply) => return reply,
             None => (),
         }
     }
     last_attempt(alloc, calls, finder, application, errand)
-}
-
-// One attempt, which has this number: nothing where it is out of date.
-fn attempt<C: OfficeCalls, G: Gate, L: Ledger>(
-    alloc: Global,
-    calls: &mut C,
-    finder: &mut Finder<L>,
-    application: &Application,
-    errand: &Errand<G>,
-    number: u32,
-) -> Option<Reply>
-    requires base { errand.now.base.now ≡ (C.view calls.old).who.base }
-    requires sound { Sound errand.now.base.now application.now }
-    requires follows { MayFollow finder.old.follower (C.view calls.old) }
-    ensures attempted { MatchOption result
-        (IsAgain (C.view calls.old) application.now (C.view calls.new))
-        (λ r. Concluded (C.view calls.old) application.now r (C.view calls.new)) }
-    ensures follows { MayFollow finder.new.follower (C.view calls.new) }
-{
-    match prepare(alloc, calls, finder, errand.base, application) {
-        Ok(submission) => submit(calls, submission, errand, number),
-        Err(reply) => Some(reply),
-    }
 }
 
 // The eighth attempt, and the held call where it is out of date too. The held call takes a copy, which is
