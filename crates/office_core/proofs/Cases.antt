@@ -1,5 +1,5 @@
 -- What holds of each case of an answer to an application holds of the answer.
-use Rattle.std.proofs.Common.{◌≡◌, ◌∷◌, [], List, ℕ, ◌+◌, ◌⊎◌, inl, inr, true, false, ap, sym, refl, ◌∙◌, Option, Some, None, length, not, nat_eq, if◌then◌else◌, unwrap_or, arith}
+use Rattle.std.proofs.Common.{◌≡◌, ◌∷◌, [], List, ℕ, ◌+◌, ◌⊎◌, inl, inr, true, false, ap, sym, refl, ◌∙◌, Option, Some, None, length, not, nat_eq, subst, if◌then◌else◌, unwrap_or, arith}
 use Rattle.std.specs.List.{concat}
 use Rattle.restriction_log.specs.States.{InForce}
 use Rattle.restriction_log.specs.Changes.{takes}
@@ -82,25 +82,40 @@ none_early base day a early needed = rw (early, needed) refl
 abbrev NotFull : Reply → Type 0
 NotFull r = is_full r ≡ false
 
-apply_open : (base : BaseLists) (state : InForce) (v : ℕ) (day : List ℕ) (number : ℕ) (a : Application) (w : What) → NotFull (apply_reply base state v day number a w)
-apply_open base state v day number a w = apply_cases base state v day number a w NotFull refl refl (record {
-  not_needed = λ _. refl;
-  no_road = λ _ _ _. refl;
-  now_fails = λ _ _ _ _. refl;
-  issued = λ _ _ _. refl;
-  refused = λ _ _ _ _. refl;
-  now_meets = λ _ _ _. refl;
-  cut_refused = λ _ _ _ _ _ _ _ _. refl;
-  cut_meets = λ _ _ _ _. refl;
+-- what may come of an application
+abbrev pub AnswersTrip : Reply → Type 0
+AnswersTrip (reply.Issued n v routes) = Unit {0}
+AnswersTrip (reply.Refused v l) = Unit {0}
+AnswersTrip (reply.Outdated v why) = Unit {0}
+AnswersTrip reply.NotNeeded = Unit {0}
+AnswersTrip reply.NoRoad = Unit {0}
+AnswersTrip (reply.Late day) = Unit {0}
+AnswersTrip reply.NoMemory = Unit {0}
+AnswersTrip _ = ⊥
+
+trip_answered : (base : BaseLists) (m : Machine) (a : Application) (w : What) → AnswersTrip (reply_in base m a w)
+trip_answered base m a w = apply_cases base (state_in base m) (version_of m) m.day (length m.permits + 1) a w AnswersTrip tt tt (record {
+  not_needed = λ _. tt;
+  no_road = λ _ _ _. tt;
+  now_fails = λ _ _ _ _. tt;
+  issued = λ _ _ _. tt;
+  refused = λ _ _ _ _. tt;
+  now_meets = λ _ _ _. tt;
+  cut_refused = λ _ _ _ _ _ _ _ _. tt;
+  cut_meets = λ _ _ _ _. tt;
 })
+
+pub held_answers : (base : BaseLists) (m : Machine) (caller : ℕ) (a : Application) (r : Reply) → IsAnswer base m caller (call.Held a) r → AnswersTrip r
+held_answers base m caller a r (inl g) = subst AnswersTrip (sym g.2) (trip_answered base m a g.0)
+held_answers base m caller a r (inr e) = subst AnswersTrip (sym e.0) tt
+
+trip_open : (r : Reply) → AnswersTrip r → NotFull r
+trip_open (reply.Full most) answers = absurd answers
+trip_open _ answers = refl
 
 given_open : {N : Type 0} (x r : Reply) → NotFull x → (r ≡ x) ⊎ ((r ≡ reply.NoMemory) × N) → NotFull r
 given_open x r h (inl e) = ap is_full e ∙ h
 given_open x r h (inr e) = ap is_full e.0
-
-held_open : (base : BaseLists) (m : Machine) (caller : ℕ) (a : Application) (r : Reply) → IsAnswer base m caller (call.Held a) r → NotFull r
-held_open base m caller a r (inl g) = ap is_full g.2 ∙ apply_open base (state_in base m) (version_of m) m.day (length m.permits + 1) a g.0
-held_open base m caller a r (inr e) = ap is_full e.0
 
 surrender_open : (permits : List Permit) (day : List ℕ) (caller number : ℕ) → NotFull (surrender_reply permits day caller number)
 surrender_open permits day caller number = pick NotFull (not (is_issued permits number)) reply.Unknown (if not (nat_eq (permit_of permits number).trip.caller caller) then reply.NotYours else if not (in_force day (permit_of permits number)) then reply.NotInForce (status_of (permit_of permits number) day) else reply.Surrendered) (λ _. refl)
@@ -110,8 +125,8 @@ surrender_open permits day caller number = pick NotFull (not (is_issued permits 
 -- an answer of the machine is never `Full`
 pub never_full : (base : BaseLists) (m : Machine) (caller : ℕ) (c : Call) (r : Reply) → IsAnswer base m caller c r → is_full r ≡ false
 never_full base m caller call.Snapshot r answer = given_open (reply.SnapshotAt (version_of m)) r refl answer
-never_full base m caller (call.Submit a p) r answer = given_open (reply_in base m a p.what) r (apply_open base (state_in base m) (version_of m) m.day (length m.permits + 1) a p.what) answer
-never_full base m caller (call.Held a) r answer = held_open base m caller a r answer
+never_full base m caller (call.Submit a p) r answer = given_open (reply_in base m a p.what) r (trip_open (reply_in base m a p.what) (trip_answered base m a p.what)) answer
+never_full base m caller (call.Held a) r answer = trip_open r (held_answers base m caller a r answer)
 never_full base m caller (call.Post change) r answer = given_open (posted_reply base m change) r (pick NotFull (takes base.roads change) (reply.Posted _ _) reply.OutOfRange (λ _. refl) (λ _. refl)) answer
 never_full base m caller (call.Day day) r answer = given_open (day_reply m.day day) r (pick NotFull (is_before day m.day) (reply.DayBack m.day) (reply.DayIs day) (λ _. refl) (λ _. refl)) answer
 never_full base m caller (call.Surrender number) r answer = given_open (surrender_reply m.permits m.day caller number) r (surrender_open m.permits m.day caller number) answer

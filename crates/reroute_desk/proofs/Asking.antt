@@ -84,9 +84,9 @@ module _ (d : Desk) (o : Opened) (promises : KeepsPromises o.base o.opening o.hi
               (gone_answered d o keeps (record { old = old; what = what }) next.0 next.1 trip is r kept (kept_plain what r kept) k.trip k.routes (was_issued k) k_in_time not_ended)
           by (inr filled) = absurd (not_kept what (kept ∙ ap (λ (x : Reply). Some x) (full filled)))
 
-      -- why it was refused
-      pub cause_of : (q : RerouteRefusal) → refusal_reply q ≡ r → IsRerouteCause d now q
-      cause_of q refused = by q refused (cases_lt (length o.history) o.most)
+      -- what was refused, and why
+      pub refused_so : (q : RerouteRefusal) → refusal_reply q ≡ r → HasGoneOn d o (Err q) d now × IsRerouteCause d now q
+      refused_so q refused = by q refused (cases_lt (length o.history) o.most)
         where
           full_open : (x : Reply) → is_full x ≡ true → is_full x ≡ false → ⊥
           full_open x e f = cc
@@ -94,23 +94,12 @@ module _ (d : Desk) (o : Opened) (promises : KeepsPromises o.base o.opening o.hi
           entries_are : (n m : ℕ) → reply.Full n ≡ reply.Full m → n ≡ m
           entries_are n m e = cc
 
-          by : (q : RerouteRefusal) → refusal_reply q ≡ r → HasPlace o ⊎ IsFull o → IsRerouteCause d now q
-          by refusal.NoMemory e room = tt
-          by (refusal.Full n) e (inl place) = absurd (full_open r (ap is_full (sym e)) (not_full place))
-          by (refusal.Full n) e (inr filled) = subst (λ (m : Opened). IsRerouteCause d m (refusal.Full n)) (sym (unchanged filled)) (entries_are n o.most (e ∙ full filled), filled, (old, is_left))
-
-      -- what was refused
-      pub gone_refused : (q : RerouteRefusal) → refusal_reply q ≡ r → HasGoneOn d o (Err q) d now
-      gone_refused q refused = by q refused (cases_lt (length o.history) o.most)
-        where
-          full_open : (x : Reply) → is_full x ≡ true → is_full x ≡ false → ⊥
-          full_open x e f = cc
-
           apart : reply.NoMemory ≡ reply.Full o.most → ⊥
           apart e = cc
 
-          by : (q : RerouteRefusal) → refusal_reply q ≡ r → HasPlace o ⊎ IsFull o → HasGoneOn d o (Err q) d now
+          by : (q : RerouteRefusal) → refusal_reply q ≡ r → HasPlace o ⊎ IsFull o → HasGoneOn d o (Err q) d now × IsRerouteCause d now q
           by (refusal.Full n) e (inl place) = absurd (full_open r (ap is_full (sym e)) (not_full place))
-          by (refusal.Full n) e (inr filled) = subst (λ (m : Opened). HasGoneOn d o (Err (refusal.Full n)) d m) (sym (unchanged filled)) (gone_nowhere d o (Err (refusal.Full n)) d.notes keeps keeps.noted)
-          by refusal.NoMemory e (inl place) = subst (λ (m : Opened). HasGoneOn d o (Err refusal.NoMemory) d m) (sym (of_own place ∙ ap (λ (x : Reply). with_entries o (entry d.caller (call.Held trip) x ∷ [])) (sym e))) (gone_lacked d o keeps trip)
+          by (refusal.Full n) e (inr filled) = subst (λ (m : Opened). HasGoneOn d o (Err (refusal.Full n)) d m × IsRerouteCause d m (refusal.Full n)) (sym (unchanged filled))
+              (gone_nowhere d o (Err (refusal.Full n)) d.notes keeps keeps.noted, (entries_are n o.most (e ∙ full filled), filled, (old, is_left)))
+          by refusal.NoMemory e (inl place) = (subst (λ (m : Opened). HasGoneOn d o (Err refusal.NoMemory) d m) (sym (of_own place ∙ ap (λ (x : Reply). with_entries o (entry d.caller (call.Held trip) x ∷ [])) (sym e))) (gone_lacked d o keeps trip), tt)
           by refusal.NoMemory e (inr filled) = absurd (apart (e ∙ full filled))

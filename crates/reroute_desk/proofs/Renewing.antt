@@ -1,5 +1,5 @@
 -- Applying again for a recalled permit: that it may be asked, and what may come of it.
-use Rattle.std.proofs.Common.{◌≡◌, ◌∙◌, inl, inr, ap, sym, refl, subst, ℕ, ◌+◌, [], ◌∷◌, ◌++◌, Bool, true, false, cond, length, Option, Some, arith}
+use Rattle.std.proofs.Common.{◌≡◌, ◌∙◌, ap, sym, refl, subst, ℕ, [], ◌∷◌, ◌++◌, Bool, true, false, cond, Option, Some, arith}
 use Rattle.std.specs.declared.cmp.Ordering.{Ordering}
 use Rattle.std.specs.declared.cmp.Ordering.TheVariants.{Less, Equal, Greater}
 use Rattle.std.specs.Ordering.{is_lt, nat_cmp}
@@ -17,11 +17,11 @@ use Rattle.office_words.specs.declared.entry.Reply.{Reply}
 use Rattle.office_words.specs.declared.entry.Reply.TheVariants as reply
 use Rattle.office_core.specs.Became.{WasIssuedFor}
 use Rattle.office_core.specs.Happened.{Day, History, Route, Routes, Stands, day_after, state_left_by}
-use Rattle.office_core.specs.Machine.{IsAnswer, IsLegal, Machine, machine_of, state_in, version_of}
+use Rattle.office_core.specs.Machine.{IsLegal, machine_of}
 use Rattle.office_core.specs.Offices.{entry}
 use Rattle.office_core.specs.Passages.{ArePassableWalks, IsRoadWalk}
 use Rattle.office_core.specs.Promises.{KeepsPromises}
-use Rattle.office_core.proofs.Cases.{apply_cases}
+use Rattle.office_core.proofs.Cases.{AnswersTrip, held_answers}
 use Rattle.office_core.proofs.Histories.{last_step}
 use Rattle.office_core.proofs.Promises.{keep_promises}
 use Rattle.reroute_desk.specs.Desks.{AnswersRenewal}
@@ -86,30 +86,6 @@ sound_again base today trip sound in_time = record {
   days = one_of today trip.first (λ d. is_before trip.last d ≡ false) in_time (λ later. sound.days);
   year = λ annual. absurd cc;
 }
-
--- what may come of an application, beside a permit that stands for no trip
-abbrev AnswersTrip : Reply → Type 0
-AnswersTrip (reply.Issued n v routes) = Unit {0}
-AnswersTrip (reply.Refused v l) = Unit {0}
-AnswersTrip (reply.Outdated v why) = Unit {0}
-AnswersTrip reply.NotNeeded = Unit {0}
-AnswersTrip reply.NoRoad = Unit {0}
-AnswersTrip (reply.Late day) = Unit {0}
-AnswersTrip reply.NoMemory = Unit {0}
-AnswersTrip _ = ⊥
-
-held_answers : (base : BaseLists) (m : Machine) (caller : ℕ) (a : Application) (r : Reply) → IsAnswer base m caller (call.Held a) r → AnswersTrip r
-held_answers base m caller a r (inl (w, is, given)) = subst AnswersTrip (sym given) (apply_cases base (state_in base m) (version_of m) m.day (length m.permits + 1) a w AnswersTrip tt tt (record {
-  not_needed = λ _. tt;
-  no_road = λ _ _ _. tt;
-  now_fails = λ _ _ _ _. tt;
-  issued = λ _ _ _. tt;
-  refused = λ _ _ _ _. tt;
-  now_meets = λ _ _ _. tt;
-  cut_refused = λ _ _ _ _ _ _ _ _. tt;
-  cut_meets = λ _ _ _ _. tt;
-}))
-held_answers base m caller a r (inr (lacks, _)) = subst AnswersTrip (sym lacks) tt
 
 -- what comes where the application is renewed
 module _ (base : BaseLists) (day : Day) (es : History) (caller : ℕ) (trip : Application) (w : IsWanted base trip) (roads : IsRoads base.roads) (trains : AreTrains base) where

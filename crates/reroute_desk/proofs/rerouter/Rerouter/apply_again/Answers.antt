@@ -4,10 +4,12 @@ use Rattle.fleet.specs.Bases.{AreTrains, BaseLists}
 use Rattle.office_core.specs.Offices.{Opened}
 use Rattle.office_core.specs.Promises.{KeepsPromises}
 use Rattle.reroute_desk.specs.declared.handled.Handled.{Handled}
-use Rattle.reroute_desk.specs.Desks.{Desk, HasGoneOn, IsRerouteCause}
-use Rattle.reroute_desk.proofs.Asking.{cause_of, gone_on, gone_refused, may_answer, may_ask}
+use Rattle.reroute_desk.specs.Desks.{Desk, HasGoneOn, IsRerouteCause, desk_of}
+use Rattle.reroute_desk.proofs.Asking.{gone_on, may_answer, may_ask, refused_so}
 use Rattle.reroute_desk.proofs.Going.{gone_nowhere}
 use Rattle.reroute_desk.proofs.Handling.{pushed, unpushed}
+use Rattle.reroute_desk.proofs.rerouter.Rerouter.apply_again.Given.{Over}
+use Rattle.reroute_desk.proofs.rerouter.Rerouter.apply_again.Goals.{In-Err}
 use Rattle.reroute_desk.proofs.rerouter.Rerouter.apply_again.Goals as goal
 
 pub returns-in_err-reserve-clause-gone : goal.returns-in_err-reserve-clause-gone
@@ -45,24 +47,20 @@ returns-in-Ok-clause-gone g c =
     c.self.inside.caller c.step.result now c.step.ensures.full (λ full. ap (λ x. x.office) (c.step.ensures.unchanged full)) c.step.ensures.not_full c.step.ensures.grown c.step.ensures.legal
     c.requires.kept (ap (λ (x : Desk). x.caller) c.self.view_is) c.in-Ok.what c.in-Ok.ensures.kept c.in-Ok.ensures.not_ended)
 
-pub returns-in-Err-clause-gone : goal.returns-in-Err-clause-gone
-returns-in-Err-clause-gone g c =
+-- what the refusal leaves, and why it came
+refused : (g : Over) (c : In-Err g) → HasGoneOn c.args.self.now c.args.office.now.office (Err c.in-Err.refusal) (desk_of (record c.self.inside { handled = c.reserve.new.self })) c.step.new.self.office × IsRerouteCause (desk_of (record c.self.inside { handled = c.reserve.new.self })) c.step.new.self.office c.in-Err.refusal
+refused g c =
     let promises = subst (λ (x : Opened). KeepsPromises x.base x.opening x.history) c.office.ensures c.history-history.ensures.promises in
     let d = c.args.self.now in
     let o = c.args.office.now.office in
     let now = c.step.new.self.office in
-    subst (λ (x : Desk). HasGoneOn d o (Err c.in-Err.refusal) x now) (sym (unpushed c.self.inside d c.reserve.new.self.items c.self.view_is c.reserve.ensures.items))
-    (gone_refused d o promises c.args.old c.requires.next c.args.trip c.requires.trip c.requires.in_time
+    subst (λ (x : Desk). HasGoneOn d o (Err c.in-Err.refusal) x now × IsRerouteCause x now c.in-Err.refusal) (sym (unpushed c.self.inside d c.reserve.new.self.items c.self.view_is c.reserve.ensures.items))
+    (refused_so d o promises c.args.old c.requires.next c.args.trip c.requires.trip c.requires.in_time
     c.self.inside.caller c.step.result now c.step.ensures.full (λ full. ap (λ x. x.office) (c.step.ensures.unchanged full)) c.step.ensures.not_full c.step.ensures.grown c.step.ensures.legal
     c.requires.kept (ap (λ (x : Desk). x.caller) c.self.view_is) c.in-Err.refusal c.in-Err.ensures.refused)
 
+pub returns-in-Err-clause-gone : goal.returns-in-Err-clause-gone
+returns-in-Err-clause-gone g c = (refused g c).0
+
 pub returns-in-Err-clause-refused : goal.returns-in-Err-clause-refused
-returns-in-Err-clause-refused g c =
-    let promises = subst (λ (x : Opened). KeepsPromises x.base x.opening x.history) c.office.ensures c.history-history.ensures.promises in
-    let d = c.args.self.now in
-    let o = c.args.office.now.office in
-    let now = c.step.new.self.office in
-    subst (λ (x : Desk). IsRerouteCause x now c.in-Err.refusal) (sym (unpushed c.self.inside d c.reserve.new.self.items c.self.view_is c.reserve.ensures.items))
-    (cause_of d o promises c.args.old c.requires.next c.args.trip c.requires.trip c.requires.in_time
-    c.self.inside.caller c.step.result now c.step.ensures.full (λ full. ap (λ x. x.office) (c.step.ensures.unchanged full)) c.step.ensures.not_full c.step.ensures.grown c.step.ensures.legal
-    c.requires.kept (ap (λ (x : Desk). x.caller) c.self.view_is) c.in-Err.refusal c.in-Err.ensures.refused)
+returns-in-Err-clause-refused g c = (refused g c).1
