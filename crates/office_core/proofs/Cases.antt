@@ -1,11 +1,11 @@
 -- What holds of each case of an answer to an application holds of the answer.
-use Rattle.std.proofs.Common.{◌≡◌, ◌∷◌, [], List, ℕ, ◌+◌, ◌⊎◌, inl, inr, true, false, ap, sym, refl, ◌∙◌, Option, Some, None, length, not, nat_eq, subst, if◌then◌else◌, unwrap_or, arith}
+use Rattle.std.proofs.Common.{◌≡◌, ◌∷◌, [], List, ℕ, ◌+◌, ◌⊎◌, inl, inr, true, false, ap, sym, refl, ◌∙◌, Option, Some, None, length, not, nat_eq, subst, unwrap_or, arith}
 use Rattle.std.specs.List.{concat}
 use Rattle.restriction_log.specs.States.{InForce}
 use Rattle.restriction_log.specs.Changes.{takes}
 use Rattle.clearance_rules.specs.declared.limit.Limit.{Limit}
 use Rattle.permit_days.specs.Days.{is_before}
-use Rattle.permit_book.specs.declared.permit.Permit.{Permit}
+use Rattle.permit_book.specs.declared.permit.Status.{Status}
 use Rattle.permit_book.specs.Permits.{permit_of, is_issued, in_force, status_of}
 use Rattle.trip_applications.specs.declared.application.Application.{Application}
 use Rattle.fleet.specs.declared.failing.Failing.{Failing}
@@ -16,12 +16,29 @@ use Rattle.trip_analysis.specs.Findings.{first_meeting, leaving}
 use Rattle.office_words.specs.declared.entry.Call.{Call}
 use Rattle.office_words.specs.declared.entry.Reply.{Reply}
 use Rattle.office_core.specs.Replies.{routes_reply, fails_reply, refused_or, cut_reply, what_reply, is_late, is_free, early_reply, apply_reply, day_reply, surrender_reply, shown, show_reply, is_full}
-use Rattle.office_core.specs.Machine.{Machine, version_of, state_in, reply_in, posted_reply, IsAnswer}
+use Rattle.office_core.specs.Machine.{Machine, version_of, state_in, reply_in, posted_reply, IsAnswer, IsHeld}
 use Rattle.office_words.specs.declared.entry.Call.TheVariants as call
 use Rattle.office_words.specs.declared.entry.Reply.TheVariants as reply
 use Rattle.office_words.specs.declared.entry.Cause.TheVariants as cause
 use Rattle.trip_analysis.specs.declared.finding.What.TheVariants as what
 use Rattle.office_core.proofs.Lists.{pick}
+
+-- what holds of the given answer and of want of memory holds of each answer
+pub given : (P : Reply → Type 0) (x r : Reply) {N : Type 0} → P x → P reply.NoMemory → (r ≡ x) ⊎ ((r ≡ reply.NoMemory) × N) → P r
+given P x r h none (inl e) = subst P (sym e) h
+given P x r h none (inr e) = subst P (sym e.0) none
+
+-- and so where the office finds itself what is needed, if it holds whatever is found
+pub held_given : (P : Reply → Type 0) (base : BaseLists) (m : Machine) (caller : ℕ) (a : Application) (r : Reply) → ((w : What) → IsHeld base (state_in base m) m.day a w → P (reply_in base m a w)) → P reply.NoMemory → IsAnswer base m caller (call.Held a) r → P r
+held_given P base m caller a r each none (inl (w, found, is)) = subst P (sym is) (each w found)
+held_given P base m caller a r each none (inr e) = subst P (sym e.0) none
+
+-- and of each answer to a surrender
+pub surrender_given : (P : Reply → Type 0) (base : BaseLists) (m : Machine) (caller number : ℕ) (r : Reply) → P reply.Unknown → P reply.NotYours → ((s : Status) → P (reply.NotInForce s)) → (in_force m.day (permit_of m.permits number) ≡ true → P reply.Surrendered) → P reply.NoMemory → IsAnswer base m caller (call.Surrender number) r → P r
+surrender_given P base m caller number r unknown others over back none = let p = permit_of m.permits number in
+    given P (surrender_reply m.permits m.day caller number) r (pick P (not (is_issued m.permits number)) reply.Unknown _ (λ _. unknown)
+    (λ _. pick P (not (nat_eq p.trip.caller caller)) reply.NotYours _ (λ _. others)
+    (λ _. pick P (not (in_force m.day p)) (reply.NotInForce (status_of p m.day)) reply.Surrendered (λ _. over (status_of p m.day)) (λ e. back (grind (arith, e)))))) none
 
 module _ (base : BaseLists) (state : InForce) (v : ℕ) (day : List ℕ) (number : ℕ) (a : Application) (w : What) where
   pub record Cases (P : Reply → Type 0) : Type 0 where
@@ -106,28 +123,18 @@ trip_answered base m a w = apply_cases base (state_in base m) (version_of m) m.d
 })
 
 pub held_answers : (base : BaseLists) (m : Machine) (caller : ℕ) (a : Application) (r : Reply) → IsAnswer base m caller (call.Held a) r → AnswersTrip r
-held_answers base m caller a r (inl g) = subst AnswersTrip (sym g.2) (trip_answered base m a g.0)
-held_answers base m caller a r (inr e) = subst AnswersTrip (sym e.0) tt
+held_answers base m caller a r = held_given AnswersTrip base m caller a r (λ w _. trip_answered base m a w) tt
 
 trip_open : (r : Reply) → AnswersTrip r → NotFull r
 trip_open (reply.Full most) answers = absurd answers
 trip_open _ answers = refl
 
-given_open : {N : Type 0} (x r : Reply) → NotFull x → (r ≡ x) ⊎ ((r ≡ reply.NoMemory) × N) → NotFull r
-given_open x r h (inl e) = ap is_full e ∙ h
-given_open x r h (inr e) = ap is_full e.0
-
-surrender_open : (permits : List Permit) (day : List ℕ) (caller number : ℕ) → NotFull (surrender_reply permits day caller number)
-surrender_open permits day caller number = pick NotFull (not (is_issued permits number)) reply.Unknown (if not (nat_eq (permit_of permits number).trip.caller caller) then reply.NotYours else if not (in_force day (permit_of permits number)) then reply.NotInForce (status_of (permit_of permits number) day) else reply.Surrendered) (λ _. refl)
-    (λ _. pick NotFull (not (nat_eq (permit_of permits number).trip.caller caller)) reply.NotYours (if not (in_force day (permit_of permits number)) then reply.NotInForce (status_of (permit_of permits number) day) else reply.Surrendered) (λ _. refl)
-    (λ _. pick NotFull (not (in_force day (permit_of permits number))) (reply.NotInForce (status_of (permit_of permits number) day)) reply.Surrendered (λ _. refl) (λ _. refl)))
-
 -- an answer of the machine is never `Full`
 pub never_full : (base : BaseLists) (m : Machine) (caller : ℕ) (c : Call) (r : Reply) → IsAnswer base m caller c r → is_full r ≡ false
-never_full base m caller call.Snapshot r answer = given_open (reply.SnapshotAt (version_of m)) r refl answer
-never_full base m caller (call.Submit a p) r answer = given_open (reply_in base m a p.what) r (trip_open (reply_in base m a p.what) (trip_answered base m a p.what)) answer
+never_full base m caller call.Snapshot r answer = given NotFull (reply.SnapshotAt (version_of m)) r refl refl answer
+never_full base m caller (call.Submit a p) r answer = given NotFull (reply_in base m a p.what) r (trip_open (reply_in base m a p.what) (trip_answered base m a p.what)) refl answer
 never_full base m caller (call.Held a) r answer = trip_open r (held_answers base m caller a r answer)
-never_full base m caller (call.Post change) r answer = given_open (posted_reply base m change) r (pick NotFull (takes base.roads change) (reply.Posted _ _) reply.OutOfRange (λ _. refl) (λ _. refl)) answer
-never_full base m caller (call.Day day) r answer = given_open (day_reply m.day day) r (pick NotFull (is_before day m.day) (reply.DayBack m.day) (reply.DayIs day) (λ _. refl) (λ _. refl)) answer
-never_full base m caller (call.Surrender number) r answer = given_open (surrender_reply m.permits m.day caller number) r (surrender_open m.permits m.day caller number) answer
-never_full base m caller (call.Show number) r answer = given_open (show_reply m.permits m.day number) r (pick NotFull (not (is_issued m.permits number)) reply.Unknown (shown (permit_of m.permits number) number m.day) (λ _. refl) (λ _. refl)) answer
+never_full base m caller (call.Post change) r answer = given NotFull (posted_reply base m change) r (pick NotFull (takes base.roads change) (reply.Posted _ _) reply.OutOfRange (λ _. refl) (λ _. refl)) refl answer
+never_full base m caller (call.Day day) r answer = given NotFull (day_reply m.day day) r (pick NotFull (is_before day m.day) (reply.DayBack m.day) (reply.DayIs day) (λ _. refl) (λ _. refl)) refl answer
+never_full base m caller (call.Surrender number) r answer = surrender_given NotFull base m caller number r refl refl (λ _. refl) (λ _. refl) refl answer
+never_full base m caller (call.Show number) r answer = given NotFull (show_reply m.permits m.day number) r (pick NotFull (not (is_issued m.permits number)) reply.Unknown (shown (permit_of m.permits number) number m.day) (λ _. refl) (λ _. refl)) refl answer

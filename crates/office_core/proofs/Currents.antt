@@ -1,5 +1,5 @@
 -- What was found in the state in which it is answered is not out of date.
-use Rattle.std.proofs.Common.{◌≡◌, ℕ, ◌+◌, inl, inr, false, List, length, ap, subst, refl, ◌∙◌, arith, Option, Some, None}
+use Rattle.std.proofs.Common.{◌≡◌, ℕ, ◌+◌, false, List, length, subst, refl, arith, Option, Some, None}
 use Rattle.road_graph.specs.Roads.{IsRoads}
 use Rattle.restriction_log.specs.States.{InForce}
 use Rattle.trip_applications.specs.declared.application.Application.{Application}
@@ -12,7 +12,7 @@ use Rattle.office_words.specs.declared.entry.Call.TheVariants as call
 use Rattle.office_words.specs.declared.entry.Reply.{Reply}
 use Rattle.office_core.specs.Replies.{is_free, is_late, is_outdated}
 use Rattle.office_core.specs.Machine.{IsAnswer, IsFound, Machine, reply_in, state_in, version_of}
-use Rattle.office_core.proofs.Cases.{Cases, apply_found, none_early}
+use Rattle.office_core.proofs.Cases.{Cases, apply_found, given, held_given, none_early}
 use Rattle.office_core.proofs.Founds.{found_holds, seen_now}
 
 abbrev IsCurrent : Reply → Type 0
@@ -42,11 +42,10 @@ found_current base m a w roads sound found = let state = state_in base m in
 
 -- what the office finds itself is never out of date
 pub held_current : (base : BaseLists) (m : Machine) (caller : ℕ) (a : Application) (r : Reply) → IsRoads base.roads → Sound base a → IsAnswer base m caller (call.Held a) r → is_outdated r ≡ false
-held_current base m caller a r roads sound (inl (w, is, given)) = ap is_outdated given ∙ found_current base m a w roads sound (λ early needed. is (none_early base m.day a early needed))
-held_current base m caller a r roads sound (inr (lacks, _)) = ap is_outdated lacks
+held_current base m caller a r roads sound answer =
+    held_given IsCurrent base m caller a r (λ w found. found_current base m a w roads sound (λ early needed. found (none_early base m.day a early needed))) refl answer
 
 -- a proposal of the current version is never out of date
 pub submit_current : (base : BaseLists) (m : Machine) (caller : ℕ) (a : Application) (p : Proposal) (r : Reply) → IsRoads base.roads → IsFound base m a p → p.seen ≡ version_of m → IsAnswer base m caller (call.Submit a p) r → is_outdated r ≡ false
-submit_current base m caller a p r roads is now (inl given) = let found = subst (λ (s : InForce). IsFinding base s a p.what) (seen_now base m p.seen now) is.found in
-    ap is_outdated given ∙ found_current base m a p.what roads is.sound (λ _ _. found)
-submit_current base m caller a p r roads is now (inr (lacks, _)) = ap is_outdated lacks
+submit_current base m caller a p r roads is now answer = let found = subst (λ (s : InForce). IsFinding base s a p.what) (seen_now base m p.seen now) is.found in
+    given IsCurrent (reply_in base m a p.what) r (found_current base m a p.what roads is.sound (λ _ _. found)) refl answer

@@ -1,5 +1,5 @@
 -- A permit that is no longer in force stays as it is.
-use Rattle.std.proofs.Common.{◌≡◌, ◌≢◌, ◌∷◌, ◌++◌, [], List, ℕ, ◌-◌, ◌<◌, ◌≤◌, ◌⊎◌, inl, inr, Bool, true, false, not, nat_eq, length, get_or, ap, sym, subst, refl, ◌∙◌, arith, if◌then◌else◌}
+use Rattle.std.proofs.Common.{◌≡◌, ◌≢◌, ◌∷◌, ◌++◌, [], List, ℕ, ◌-◌, ◌<◌, ◌≤◌, ◌⊎◌, inl, inr, Bool, true, false, length, get_or, ap, sym, subst, refl, ◌∙◌, arith, if◌then◌else◌}
 use Rattle.std.proofs.lemmas.List.{get_or_append_left, get_or-map, length-map, length-set, get_or-set_other, length-append}
 use Rattle.std.proofs.lemmas.Bool.{cases_eq}
 use Rattle.std.proofs.lemmas.Bool.Decides.{nat_tests}
@@ -16,7 +16,6 @@ use Rattle.office_words.specs.declared.entry.Call.{Call}
 use Rattle.office_words.specs.declared.entry.Reply.{Reply}
 use Rattle.office_words.specs.declared.entry.Entry.{Entry}
 use Rattle.office_core.specs.Recalls.{recalled_if}
-use Rattle.office_core.specs.Replies.{surrender_reply}
 use Rattle.office_core.specs.Machine.{Machine, opened, version_of, IsAnswer, with_permit, with_posting, with_day, with_surrender, after, after_entry, after_all, IsLegalFrom, IsLegal, machine_of}
 use Rattle.permit_book.specs.declared.permit.Status.TheVariants as status
 use Rattle.permit_book.specs.declared.permit.Mark.TheVariants as mark
@@ -24,7 +23,7 @@ use Rattle.office_words.specs.declared.entry.Call.TheVariants as call
 use Rattle.office_words.specs.declared.entry.Reply.TheVariants as reply
 use Rattle.office_core.proofs.DayOrders.{before_on}
 use Rattle.office_core.proofs.Forces.{Advances, day_advances}
-use Rattle.office_core.proofs.Lists.{pick}
+use Rattle.office_core.proofs.Cases.{surrender_given}
 use Rattle.office_core.proofs.Prefixes.{after_all-append, legal_later}
 
 -- what is surrendered was in force
@@ -32,14 +31,8 @@ abbrev WasInForce : Machine → ℕ → Reply → Type 0
 WasInForce m number reply.Surrendered = in_force m.day (permit_of m.permits number) ≡ true
 WasInForce m number _ = Unit {0}
 
-was_in_force : (m : Machine) (caller number : ℕ) → WasInForce m number (surrender_reply m.permits m.day caller number)
-was_in_force m caller number = pick (WasInForce m number) (not (is_issued m.permits number)) reply.Unknown _ (λ _. tt)
-    (λ _. pick (WasInForce m number) (not (nat_eq (permit_of m.permits number).trip.caller caller)) reply.NotYours _ (λ _. tt)
-    (λ _. pick (WasInForce m number) (not (in_force m.day (permit_of m.permits number))) (reply.NotInForce _) reply.Surrendered (λ _. tt) (λ e. grind (arith, e))))
-
 answered_in_force : (base : BaseLists) (m : Machine) (caller number : ℕ) (r : Reply) → IsAnswer base m caller (call.Surrender number) r → WasInForce m number r
-answered_in_force base m caller number r (inl g) = subst (WasInForce m number) (sym g) (was_in_force m caller number)
-answered_in_force base m caller number r (inr e) = subst (WasInForce m number) (sym e.0) tt
+answered_in_force base m caller number r answer = surrender_given (WasInForce m number) base m caller number r tt tt (λ _. tt) (λ on. on) tt answer
 
 -- the permit at a place of the one machine, if it is not in force, stays in the other, and so does what it is
 abbrev Ends : ℕ → Machine → Machine → Type 0

@@ -1,5 +1,5 @@
 -- Permits in force meet the current state.
-use Rattle.std.proofs.Common.{◌≡◌, ◌∷◌, ◌++◌, [], List, ℕ, ◌⊎◌, inl, inr, Bool, true, false, if◌then◌else◌, ap, sym, subst, refl, arith}
+use Rattle.std.proofs.Common.{◌≡◌, ◌∷◌, ◌++◌, [], List, ℕ, Bool, true, false, if◌then◌else◌, ap, refl, arith}
 use Rattle.std.proofs.lemmas.List.Elements.{All-append, All-set, All-nil, All-cons}
 use Rattle.std.specs.List.{concat}
 use Rattle.restriction_log.specs.declared.change.Change.{Change}
@@ -21,6 +21,7 @@ use Rattle.office_words.specs.declared.entry.Call.TheVariants as call
 use Rattle.office_words.specs.declared.entry.Reply.TheVariants as reply
 use Rattle.office_core.proofs.DayOrders.{not_before}
 use Rattle.office_core.proofs.Lists.{pick, All-map, All-weaker}
+use Rattle.office_core.proofs.Cases.{given, held_given}
 use Rattle.office_core.proofs.Replies.{IssuedMeets, apply_meets, none_fails}
 
 -- every permit in force meets what is in force on the roads
@@ -71,23 +72,13 @@ pub surrender_meets : (base : BaseLists) (m : Machine) (number : ℕ) (r : Reply
 surrender_meets base m number reply.Surrendered had = All-set (MeetsIfInForce base (state_in base m) m.day) m.permits _ _ (λ e. absurd (grind (arith, e))) had
 surrender_meets base m number _ had = had
 
--- what holds of each given answer and of want of memory holds of each answer
-issued_meets : (base : BaseLists) (m : Machine) (truck : ℕ) (r s : Reply) {N : Type 0} → IssuedMeets base (state_in base m) truck s → (r ≡ s) ⊎ ((r ≡ reply.NoMemory) × N) → IssuedMeets base (state_in base m) truck r
-issued_meets base m truck r s given (inl e) = subst (IssuedMeets base (state_in base m) truck) (sym e) given
-issued_meets base m truck r s given (inr e) = subst (IssuedMeets base (state_in base m) truck) (sym e.0) tt
-
-held_meets : (base : BaseLists) (m : Machine) (caller : ℕ) (a : Application) (r : Reply) → IsAnswer base m caller (call.Held a) r → IssuedMeets base (state_in base m) a.truck r
-held_meets base m caller a r (inl g) = subst (IssuedMeets base (state_in base m) a.truck) (sym g.2) (apply_meets base m a g.0)
-held_meets base m caller a r (inr e) = subst (IssuedMeets base (state_in base m) a.truck) (sym e.0) tt
-
 pub day_advances : (base : BaseLists) (m : Machine) (caller : ℕ) (day : List ℕ) (r : Reply) → IsAnswer base m caller (call.Day day) r → Advances m.day r
-day_advances base m caller day r (inl g) = subst (Advances m.day) (sym g) (advances m.day day)
-day_advances base m caller day r (inr e) = subst (Advances m.day) (sym e.0) tt
+day_advances base m caller day r answer = given (Advances m.day) (day_reply m.day day) r (advances m.day day) tt answer
 
 pub answer_meets : (base : BaseLists) (m : Machine) (caller : ℕ) (c : Call) (r : Reply) → IsAnswer base m caller c r → MeetNow base m → MeetNow base (after base m caller c r)
 answer_meets base m caller call.Snapshot r answer had = had
-answer_meets base m caller (call.Submit a p) r answer had = issue_meets base m caller a p.seen r had (issued_meets base m a.truck r (reply_in base m a p.what) (apply_meets base m a p.what) answer)
-answer_meets base m caller (call.Held a) r answer had = issue_meets base m caller a (version_of m) r had (held_meets base m caller a r answer)
+answer_meets base m caller (call.Submit a p) r answer had = issue_meets base m caller a p.seen r had (given (IssuedMeets base (state_in base m) a.truck) (reply_in base m a p.what) r (apply_meets base m a p.what) tt answer)
+answer_meets base m caller (call.Held a) r answer had = issue_meets base m caller a (version_of m) r had (held_given (IssuedMeets base (state_in base m) a.truck) base m caller a r (λ w _. apply_meets base m a w) tt answer)
 answer_meets base m caller (call.Post change) r answer had = post_meets base m change r had
 answer_meets base m caller (call.Day day) r answer had = day_meets base m r had (day_advances base m caller day r answer)
 answer_meets base m caller (call.Surrender number) r answer had = surrender_meets base m number r had

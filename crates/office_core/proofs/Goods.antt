@@ -15,7 +15,6 @@ use Rattle.permit_book.specs.Permits.{no_permit, AreNumbered}
 use Rattle.trip_applications.specs.declared.application.Application.{Application}
 use Rattle.trip_analysis.specs.declared.finding.What.{What}
 use Rattle.fleet.specs.Bases.{BaseLists}
-use Rattle.trip_applications.specs.Applications.{Sound}
 use Rattle.fleet.specs.Passing.{first_on}
 use Rattle.trip_analysis.specs.Findings.{InRange}
 use Rattle.office_words.specs.declared.entry.Call.{Call}
@@ -23,12 +22,12 @@ use Rattle.office_words.specs.declared.entry.Reply.{Reply}
 use Rattle.office_words.specs.declared.entry.Entry.{Entry}
 use Rattle.office_core.specs.Recalls.{MeetsIfInForce, is_recalled, recalled_if, IsRanged}
 use Rattle.office_core.specs.Replies.{early_reply}
-use Rattle.office_core.specs.Machine.{Machine, opened, version_of, state_in, state_at, reply_in, MayAsk, IsAnswer, with_permit, with_posting, with_day, with_surrender, after, Step, after_entry, after_all, IsLegalFrom, IsLegal, machine_of, IsGood}
+use Rattle.office_core.specs.Machine.{Machine, opened, version_of, state_in, state_at, posted_reply, reply_in, MayAsk, IsAnswer, with_permit, with_posting, with_day, with_surrender, after, Step, after_entry, after_all, IsLegalFrom, IsLegal, machine_of, IsGood}
 use Rattle.permit_book.specs.declared.permit.Mark.TheVariants as mark
 use Rattle.office_words.specs.declared.entry.Call.TheVariants as call
 use Rattle.office_words.specs.declared.entry.Reply.TheVariants as reply
 use Rattle.trip_analysis.proofs.Found.{found_in_range}
-use Rattle.office_core.proofs.Cases.{apply_found, none_early}
+use Rattle.office_core.proofs.Cases.{apply_found, given, held_given, none_early}
 use Rattle.office_core.proofs.Lists.{pick, All-map}
 use Rattle.office_core.proofs.Forces.{answer_meets, day_meets, post_meets, surrender_meets}
 use Rattle.office_core.proofs.Replies.{none_fails}
@@ -99,19 +98,12 @@ surrender_kept : (base : BaseLists) (m : Machine) (number : ℕ) (r : Reply) →
 surrender_kept base m number reply.Surrendered had = (numbered-mark mark.Surrendered 0 (number - 1) m.permits had.0, ranged-marked base mark.Surrendered (number - 1) m.permits (cases_lt (number - 1) (length m.permits)) had.1)
 surrender_kept base m number _ had = had
 
-submit_as : (base : BaseLists) (m : Machine) (caller number : ℕ) (c : Call) (r s : Reply) {N : Type 0} → IssuedAs base number s → (r ≡ s) ⊎ ((r ≡ reply.NoMemory) × N) → IssuedAs base number r
-submit_as base m caller number c r s is (inl e) = subst (IssuedAs base number) (sym e) is
-submit_as base m caller number c r s is (inr e) = subst (IssuedAs base number) (sym e.0) tt
-
-held_as : (base : BaseLists) (m : Machine) (caller : ℕ) (a : Application) (r : Reply) → IsRoads base.roads → Sound base a → IsAnswer base m caller (call.Held a) r → IssuedAs base (length m.permits + 1) r
-held_as base m caller a r roads sound (inl g) = subst (IssuedAs base (length m.permits + 1)) (sym g.2) (issued_as base m a g.0 (λ early. found_in_range base (state_in base m) a g.0 roads sound (g.1 early)))
-held_as base m caller a r roads sound (inr e) = subst (IssuedAs base (length m.permits + 1)) (sym e.0) tt
-
 kept_after : (base : BaseLists) (m : Machine) (caller : ℕ) (c : Call) (r : Reply) → IsRoads base.roads → MayAsk base m c → IsAnswer base m caller c r → Kept base m → Kept base (after base m caller c r)
 kept_after base m caller call.Snapshot r roads ask answer had = had
 kept_after base m caller (call.Submit a p) r roads ask answer had = issue_kept base m caller a p.seen r ask.sound.truck
-    (submit_as base m caller (length m.permits + 1) (call.Submit a p) r (reply_in base m a p.what) (issued_as base m a p.what (λ _. found_in_range base (state_at base m p.seen) a p.what roads ask.sound ask.found)) answer) had
-kept_after base m caller (call.Held a) r roads ask answer had = issue_kept base m caller a (version_of m) r ask.truck (held_as base m caller a r roads ask answer) had
+    (given (IssuedAs base (length m.permits + 1)) (reply_in base m a p.what) r (issued_as base m a p.what (λ _. found_in_range base (state_at base m p.seen) a p.what roads ask.sound ask.found)) tt answer) had
+kept_after base m caller (call.Held a) r roads ask answer had = issue_kept base m caller a (version_of m) r ask.truck
+    (held_given (IssuedAs base (length m.permits + 1)) base m caller a r (λ w found. issued_as base m a w (λ early. found_in_range base (state_in base m) a w roads ask (found early))) tt answer) had
 kept_after base m caller (call.Post change) r roads ask answer had = post_kept base m change r had
 kept_after base m caller (call.Day day) r roads ask answer had = day_kept base m r had
 kept_after base m caller (call.Surrender number) r roads ask answer had = surrender_kept base m number r had
@@ -123,8 +115,7 @@ PostedTaken base change (reply.Posted version recalled) = takes base.roads chang
 PostedTaken base change _ = Unit {0}
 
 posted_taken : (base : BaseLists) (m : Machine) (caller : ℕ) (change : Change) (r : Reply) → IsAnswer base m caller (call.Post change) r → PostedTaken base change r
-posted_taken base m caller change r (inl e) = subst (PostedTaken base change) (sym e) (pick (PostedTaken base change) (takes base.roads change) (reply.Posted _ _) reply.OutOfRange (λ t. t) (λ _. tt))
-posted_taken base m caller change r (inr e) = subst (PostedTaken base change) (sym e.0) tt
+posted_taken base m caller change r answer = given (PostedTaken base change) (posted_reply base m change) r (pick (PostedTaken base change) (takes base.roads change) (reply.Posted _ _) reply.OutOfRange (λ t. t) (λ _. tt)) tt answer
 
 post_taken : (base : BaseLists) (m : Machine) (change : Change) (r : Reply) → PostedTaken base change r → AreTaken base.roads m.postings → AreTaken base.roads (with_posting base m change r).postings
 post_taken base m change (reply.Posted v recalled) taken had = All-append (λ c. takes base.roads c ≡ true) m.postings (change ∷ []) had (All-cons (λ c. takes base.roads c ≡ true) change [] taken (All-nil (λ c. takes base.roads c ≡ true)))
