@@ -218,39 +218,38 @@ const ABSENT: [&str; 4] = [
     "0,0,1,0|3,2026-03-02,2026-03-02",
 ];
 
-// Whether what a text asks for, of which nothing is tested, is sound.
-fn is_sound(rt: &impl Abort, alloc: Global, base: &Base, text: &str) -> bool {
+// What a text asks for, of which nothing is tested, is sound or not.
+fn is_sound(rt: &impl Abort, alloc: Global, base: &Base, text: &str, wanted: bool) {
     let application = untested(rt, alloc, text);
-    let is_sound = application.is_sound(base);
+    holds(rt, application.is_sound(base) == wanted, text);
     drop(application);
-    is_sound
 }
 
 // An application of which nothing was tested is sound exactly where it is taken.
 #[test]
 fn tells_sound_applications(rt: HostRuntime) {
     let base = base(&rt, rt.alloc());
-    for &(text, wanted) in &ANSWERS {
-        holds(
-            &rt,
-            is_sound(&rt, rt.alloc(), &base, text) == wanted.is_none(),
-            text,
-        );
+    for (text, refusal) in &ANSWERS {
+        is_sound(&rt, rt.alloc(), &base, text, refusal.is_none());
     }
-    for &text in &ABSENT {
-        holds(&rt, !is_sound(&rt, rt.alloc(), &base, text), text);
+    for text in &ABSENT {
+        is_sound(&rt, rt.alloc(), &base, text, false);
     }
     drop(base);
 }
 
 // Whether these are the fields of the application of the test below.
-fn check_fields(rt: &impl Abort, a: &Application) {
+fn check_fields(rt: &impl Abort, alloc: Global, a: &Application) {
     same(rt, 0, &(a.truck(), a.from(), a.to()), &(1, 0, 1));
-    let asked = a.asked().expect(rt, "routes");
-    assert!(rt; asked.len() == 2);
-    assert!(rt; asked.route(0) == [1, 2].as_slice() && asked.route(1) == [0].as_slice());
+    let asked = routes_told(alloc, a.asked().expect(rt, "routes")).expect(rt, "memory");
+    holds(rt, asked.as_str() == "route [1, 2] [0]", "asked");
+    drop(asked);
     let days = (a.first(), a.last());
-    assert!(rt; days == (day(rt, "2026-03-02"), day(rt, "2026-03-05")));
+    holds(
+        rt,
+        days == (day(rt, "2026-03-02"), day(rt, "2026-03-05")),
+        "days",
+    );
 }
 
 // An application and a copy of it.
@@ -259,10 +258,10 @@ fn keeps_what_is_asked_for(rt: HostRuntime) {
     let base = base(&rt, rt.alloc());
     let taken = taken(&rt, rt.alloc(), &base, "1,0,1,1 2|0,2026-03-02,2026-03-05");
     drop(base);
-    check_fields(&rt, &taken);
+    check_fields(&rt, rt.alloc(), &taken);
     let copy = taken.try_clone().expect(&rt, "memory");
     drop(taken);
-    check_fields(&rt, &copy);
+    check_fields(&rt, rt.alloc(), &copy);
     drop(copy);
 }
 
@@ -290,15 +289,21 @@ fn routes_told(alloc: Global, routes: &SharedRoutes) -> Result<String, AllocErro
     Ok(text)
 }
 
-// What is found is what a text says: a word, and the numbers of routes, a segment or nodes.
-fn check_found(rt: &impl Abort, alloc: Global, what: &What, text: &str) {
-    let told = match what {
-        What::NotNeeded => format!(in alloc; "not needed"),
+// What is found: a word, and the numbers of routes, a segment or nodes.
+fn told(alloc: Global, what: &What) -> Result<String, AllocError> {
+    match what {
+        What::NotNeeded => "not needed".to_string(alloc),
         What::Route(routes) => routes_told(alloc, routes),
         What::Fails { segment } => format!(in alloc; "fails {segment}"),
         What::Cut(nodes) => format!(in alloc; "cut {:?}", nodes.as_slice()),
-    };
-    assert_eq!(rt; told.expect(rt, "memory").as_str(), text);
+    }
+}
+
+// What is found, which is let go then, is what a text says.
+fn check_found(rt: &impl Abort, alloc: Global, what: What, text: &str) {
+    let told = told(alloc, &what).expect(rt, "memory");
+    drop(what);
+    holds(rt, told.as_str() == text, text);
 }
 
 // An application, the segments that are too low for truck 0, and what is found. No road leads from node 1, and none from
@@ -335,8 +340,7 @@ fn find_line<L: Ledger>(
     let what = find(alloc, base, &state, &application, steps).expect(rt, "memory");
     drop(state);
     drop(application);
-    check_found(rt, alloc, &what, part(line, '/', 2));
-    drop(what);
+    check_found(rt, alloc, what, part(line, '/', 2));
 }
 
 fn find_lines<L: Ledger>(rt: &impl Abort, alloc: Global, base: &Base, blank: Blank)
@@ -436,9 +440,8 @@ fn follow_line<L: Ledger>(
     let proposal = follower.analyse(alloc, base, snapshot, &application, steps);
     drop(application);
     let Proposal { seen, what } = proposal.expect(rt, "memory");
-    check_found(rt, alloc, &what, part(line, '/', 3));
-    drop(what);
-    assert!(rt; seen == number(part(line, '/', 2)), "{line}");
+    check_found(rt, alloc, what, part(line, '/', 3));
+    holds(rt, seen == number(part(line, '/', 2)), line);
 }
 
 // Follows a store over all lines.
@@ -501,17 +504,23 @@ fn learn_truck(rt: &impl Abort, alloc: Global, base: &mut Base, truck: u32)
     let first = State::base(alloc, base.network()).expect(rt, "memory");
     base.learn_opening(alloc, &first, truck)
         .expect(rt, "memory");
-    base.learn_heights(alloc).expect(rt, "memory");
     drop(first);
+    base.learn_heights(alloc).expect(rt, "memory");
 }
 
-// Both trucks, and then the findings and the history of the tests above.
+// Roads with both trucks, of which all is kept.
+fn learned_base(rt: &impl Abort, alloc: Global) -> Base {
+    let mut base = base(rt, alloc);
+    assert!(rt; base.fleet().len() == 2);
+    learn_truck(rt, alloc, &mut base, 0);
+    learn_truck(rt, alloc, &mut base, 1);
+    base
+}
+
+// The findings and the history of the tests above.
 #[test]
 fn finds_the_same_by_what_a_base_keeps(rt: HostRuntime) {
-    let mut base = base(&rt, rt.alloc());
-    assert!(rt; base.fleet().len() == 2);
-    learn_truck(&rt, rt.alloc(), &mut base, 0);
-    learn_truck(&rt, rt.alloc(), &mut base, 1);
+    let base = learned_base(&rt, rt.alloc());
     find_each(&rt, rt.alloc(), &base);
     follow_store(&rt, rt.alloc(), &base);
     drop(base);
@@ -524,39 +533,23 @@ const TOO_LOW: Limit = Limit::Height {
     allowed: 167,
 };
 
-// The limits of segment 1 that fail the trucks, where segments 0 and 1 are too low for truck 0.
-fn tell_limits<L: Ledger>(rt: &impl Abort, base: &Base, state: &State, steps: &mut Steps<L>)
-    requires { AreOf base.now.roads state.now }
-{
-    assert!(rt; base.fleet().len() == 2 && base.network().segments() == 3);
-    let too_high = TruckOn {
-        base,
-        state,
-        truck: 0,
-    };
-    let low = TruckOn {
-        base,
-        state,
-        truck: 1,
-    };
-    same(rt, 0, &too_high.failing_limit(1, steps), &Some(TOO_LOW));
-    same(rt, 1, &low.failing_limit(1, steps), &None);
-    let passable = (too_high.is_passable(1, steps), low.is_passable(1, steps));
-    same(rt, 2, &passable, &(false, true));
+// The limit of segment 1 that fails a truck, or none where it may pass there.
+fn tell_limit<L: Ledger>(
+    rt: &impl Abort,
+    truck: &TruckOn,
+    wanted: Option<Limit>,
+    steps: &mut Steps<L>,
+) {
+    assert!(rt; truck.base.network().segments() == 3);
+    same(rt, 0, &truck.failing_limit(1, steps), &wanted);
+    same(rt, 1, &truck.is_passable(1, steps), &wanted.is_none());
 }
 
 // On segments 2, 1 and 0 the first that fails truck 0 is segment 1.
-fn tell_first<L: Ledger>(rt: &impl Abort, base: &Base, state: &State, steps: &mut Steps<L>)
-    requires { AreOf base.now.roads state.now }
-{
+fn tell_first<L: Ledger>(rt: &impl Abort, truck: &TruckOn, steps: &mut Steps<L>) {
     let route = [2, 1, 0];
-    assert!(rt; base.fleet().len() == 2 && are_there(base.network(), route.as_slice()));
-    let too_high = TruckOn {
-        base,
-        state,
-        truck: 0,
-    };
-    let first = too_high.first_on(route.as_slice(), steps);
+    assert!(rt; are_there(truck.base.network(), route.as_slice()));
+    let first = truck.first_on(route.as_slice(), steps);
     let (segment, limit) = (1, TOO_LOW);
     assert!(rt; first == Some(Failing { segment, limit }));
 }
@@ -592,59 +585,61 @@ fn first_leaving_of(
     first
 }
 
-// The segments that leave a node, where segments 0 and 1 are too low for truck 0.
-fn tell_leaving<L: Ledger>(
-    rt: &impl Abort,
-    alloc: Global,
-    base: &Base,
-    state: &State,
-    steps: &mut Steps<L>,
-)
-    requires { AreOf base.now.roads state.now }
-{
-    let (first, last) = (set_of(rt, alloc, &[0]), set_of(rt, alloc, &[2]));
-    let network = base.network();
-    assert!(rt; base.fleet().len() == 2 && network.segments() == 3);
-    let is_left = (first.is_left_by(network, 1), last.is_left_by(network, 1));
-    let next = (
-        first.next_leaving(network, 1),
-        first.next_leaving(network, 2),
-    );
-    let of_first = first_meeting_out(base, state, 0, &first, steps);
-    let of_last = first_meeting_out(base, state, 0, &last, steps);
-    drop(first);
-    drop(last);
-    same(rt, 0, &is_left, &(true, false));
-    same(rt, 1, &next, &(Some(1), None));
-    same(rt, 2, &(of_first, of_last), &(None, Some(2)));
-    for (i, (nodes, leaving)) in LEAVING.iter().enumerate() {
-        same(
-            rt,
-            3 + i,
-            &first_leaving_of(rt, alloc, network, nodes),
-            leaving,
-        );
+fn tell_first_leaving(rt: &impl Abort, alloc: Global, network: &Network) {
+    for (row, (nodes, leaving)) in LEAVING.iter().enumerate() {
+        let first = first_leaving_of(rt, alloc, network, nodes);
+        same(rt, row, &first, leaving);
     }
 }
 
-// Both with one counter.
-fn tell_both<L: Ledger>(rt: &impl Abort, alloc: Global, base: &Base, state: &State, blank: Blank)
+// A node, whether segment 1 leaves it, and which segments are the next that leaves it from 1 and from 2 on, and the first that
+// leaves it and that the truck may pass.
+fn tell_leaving<L: Ledger>(
+    rt: &impl Abort,
+    alloc: Global,
+    on: &TruckOn,
+    node: u32,
+    wanted: (bool, [Option<u32>; 3]),
+    steps: &mut Steps<L>,
+) {
+    let (network, set) = (on.base.network(), set_of(rt, alloc, &[node]));
+    assert!(rt; network.segments() == 3);
+    let is_left = set.is_left_by(network, 1);
+    let next = [
+        set.next_leaving(network, 1),
+        set.next_leaving(network, 2),
+        first_meeting_out(on.base, on.state, on.truck, &set, steps),
+    ];
+    drop(set);
+    same(rt, node as usize, &(is_left, next), &wanted);
+}
+
+// All with one counter.
+fn tell_all<L: Ledger>(rt: &impl Abort, alloc: Global, base: &Base, state: &State, blank: Blank)
     requires state { AreOf base.now.roads state.now }
     requires name { blank.name ≡ L.name }
     requires parts { blank.parts ≡ L.parts }
     requires some { 0 < blank.parts }
 {
     let mut steps = Steps::<L>::new(blank);
-    tell_limits(rt, base, state, &mut steps);
-    tell_first(rt, base, state, &mut steps);
-    tell_leaving(rt, alloc, base, state, &mut steps);
+    assert!(rt; base.fleet().len() == 2);
+    let truck = 1;
+    tell_limit(rt, &TruckOn { base, state, truck }, None, &mut steps);
+    let truck = 0;
+    let high = TruckOn { base, state, truck };
+    tell_limit(rt, &high, Some(TOO_LOW), &mut steps);
+    tell_first(rt, &high, &mut steps);
+    let (from_0, from_2) = ([Some(1), None, None], [Some(2); 3]);
+    tell_leaving(rt, alloc, &high, 0, (true, from_0), &mut steps);
+    tell_leaving(rt, alloc, &high, 2, (false, from_2), &mut steps);
 }
 
 // The same where segments 0 and 1 are too low for truck 0.
 fn tell_lowered(rt: &impl Abort, alloc: Global, base: &Base) {
     let state = lowered(rt, alloc, base.network(), "0 1");
-    tell_both::<Brand>(rt, alloc, base, &state, Blank::new(1));
+    tell_all::<Brand>(rt, alloc, base, &state, Blank::new(1));
     drop(state);
+    tell_first_leaving(rt, alloc, base.network());
 }
 
 #[test]

@@ -125,17 +125,13 @@ fn is_told(parts: Parts, line: &str) -> bool {
 }
 
 // Whether a route has the potentials of a line.
-fn has_potentials(
-    network: &Network,
-    passable: &[bool],
-    ends: (u32, u32),
-    found: &Found,
-    line: &str,
-) -> bool
-    requires { IsFoundBetween network.now passable.now ends.0 ends.1 found.now }
+fn has_potentials(trip: &TripEnds, found: &Found, line: &str) -> bool
+    requires { IsFoundBetween trip.now.roads.network.now trip.now.roads.flags.now trip.now.from trip.now.to found.now }
 {
     match found {
-        Found::Route { potential, .. } => are_potentials(network, potential, part(line, '/', 5)),
+        Found::Route { potential, .. } => {
+            are_potentials(trip.roads.network, potential, part(line, '/', 5))
+        }
         _ => true,
     }
 }
@@ -147,58 +143,34 @@ fn ends_of(line: &str) -> (u32, u32) {
 }
 
 // Searches from one node to another, as a line says.
-fn find(rt: &impl Abort, alloc: Global, network: &Network, passable: &[bool], line: &str) {
-    let (from, to) = ends_of(line);
-    let are_there = from < network.nodes() && to < network.nodes();
-    assert!(rt; passable.len() == network.segments() as usize && are_there);
-    let found = search(alloc, network, passable, from, to).expect(rt, "memory");
-    let is_so = is_told(parts_of(&found), line)
-        & has_potentials(network, passable, (from, to), &found, line);
+fn find(rt: &impl Abort, alloc: Global, trip: &TripEnds, line: &str) {
+    let TripEnds { roads, from, to } = *trip;
+    let found = search(alloc, roads.network, roads.flags, from, to).expect(rt, "memory");
+    holds(rt, is_told(parts_of(&found), line), line);
+    holds(rt, has_potentials(trip, &found, line), line);
     drop(found);
-    holds(rt, is_so, line);
+}
+
+// What is found, which is let go then, is what a line says.
+fn is_found(rt: &impl Abort, found: Shortest, line: &str) {
+    holds(rt, is_told(parts_of_shortest(&found), line), line);
+    drop(found);
 }
 
 // The same by potentials that are known.
-fn find_by(rt: &impl Abort, alloc: Global, network: &Network, passable: &[bool], line: &str) {
-    let (from, to) = ends_of(line);
-    let are_there = from < network.nodes() && to < network.nodes();
-    assert!(rt; passable.len() == network.segments() as usize && are_there);
-    let roads = Passable {
-        network,
-        flags: passable,
-    };
-    let trip = TripEnds { roads, from, to };
-    let known = potentials(alloc, &trip.roads, to).expect(rt, "memory");
-    let found = shortest_walk_by(alloc, &trip, &known).expect(rt, "memory");
+fn find_by(rt: &impl Abort, alloc: Global, trip: &TripEnds, line: &str) {
+    let known = potentials(alloc, &trip.roads, trip.to).expect(rt, "memory");
+    let found = shortest_walk_by(alloc, trip, &known).expect(rt, "memory");
     drop(known);
-    let is_so = is_told(parts_of_shortest(&found), line);
-    drop(found);
-    holds(rt, is_so, line);
+    is_found(rt, found, line);
 }
 
 // The same for one start alone, by heights.
-fn find_near(
-    rt: &impl Abort,
-    alloc: Global,
-    network: &Network,
-    passable: &[bool],
-    heights: &Heights,
-    line: &str,
-)
-    requires { AreHeights network.now.segments heights.now }
+fn find_near(rt: &impl Abort, alloc: Global, trip: &TripEnds, heights: &Heights, line: &str)
+    requires { AreHeights trip.now.roads.network.now.segments heights.now }
 {
-    let (from, to) = ends_of(line);
-    let are_there = from < network.nodes() && to < network.nodes();
-    assert!(rt; passable.len() == network.segments() as usize && are_there);
-    let roads = Passable {
-        network,
-        flags: passable,
-    };
-    let trip = TripEnds { roads, from, to };
-    let found = shortest_walk(alloc, &trip, heights).expect(rt, "memory");
-    let is_so = is_told(parts_of_shortest(&found), line);
-    drop(found);
-    holds(rt, is_so, line);
+    let found = shortest_walk(alloc, trip, heights).expect(rt, "memory");
+    is_found(rt, found, line);
 }
 
 // Searches as a line says, in each way, and makes a column of heights more.
@@ -207,9 +179,17 @@ fn find_as(rt: &impl Abort, alloc: Global, network: &Network, heights: &mut Heig
     ensures { AreHeights network.now.segments heights.new }
 {
     let passable = flags(rt, alloc, network, part(line, '/', 0));
-    find(rt, alloc, network, &passable, line);
-    find_by(rt, alloc, network, &passable, line);
-    find_near(rt, alloc, network, &passable, heights, line);
+    let (from, to) = ends_of(line);
+    let are_there = from < network.nodes() && to < network.nodes();
+    assert!(rt; passable.len() == network.segments() as usize && are_there);
+    let roads = Passable {
+        network,
+        flags: &passable,
+    };
+    let trip = TripEnds { roads, from, to };
+    find(rt, alloc, &trip, line);
+    find_by(rt, alloc, &trip, line);
+    find_near(rt, alloc, &trip, heights, line);
     drop(passable);
     heights.add(alloc, network).expect(rt, "memory");
 }
@@ -337,42 +317,37 @@ const TOLD: [&str; 9] = [
     "/0 0/",
 ];
 
-// Whether the region tells what a line says.
-fn tells(
-    rt: &impl Abort,
-    alloc: Global,
-    network: &Network,
-    passable: &[bool],
-    region: &Region,
-    line: &str,
-)
-    requires { IsRegion network.now passable.now 0 region.now }
+// The region around node 0 tells what a line says.
+fn tells(rt: &impl Abort, roads: &Passable, region: &Region, line: &str)
+    requires { IsRegion roads.now.network.now roads.now.flags.now 0 region.now }
 {
     let (from, to) = ends_of(line);
-    assert!(rt; from < network.nodes() && to < network.nodes());
-    let told = region.tell(from, to).expect(rt, "memory");
-    let is_so = match &told {
-        Some(found) => is_told(parts_of_shortest(found), line),
-        None => part(line, '/', 2).is_empty(),
-    };
-    holds(rt, is_so, line);
-    drop(told);
+    assert!(rt; from < roads.network.nodes() && to < roads.network.nodes());
+    match region.tell(from, to).expect(rt, "memory") {
+        Some(found) => is_found(rt, found, line),
+        None => holds(rt, part(line, '/', 2).is_empty(), line),
+    }
+}
+
+fn tell_each(rt: &impl Abort, alloc: Global, roads: &Passable) {
+    assert!(rt; roads.network.nodes() == 9);
+    let region = Region::around(alloc, roads, 0).expect(rt, "memory");
+    for line in &TOLD {
+        tells(rt, roads, &region, line);
+    }
+    drop(region);
 }
 
 #[test]
 fn tells_by_a_region_why_there_is_no_route(rt: HostRuntime) {
     let network = network(&rt, rt.alloc(), 9, ROWS);
     let passable = flags(&rt, rt.alloc(), &network, "16");
-    assert!(rt; passable.len() == network.segments() as usize && network.nodes() == 9);
+    assert!(rt; passable.len() == network.segments() as usize);
     let roads = Passable {
         network: &network,
         flags: &passable,
     };
-    let region = Region::around(rt.alloc(), &roads, 0).expect(&rt, "memory");
-    for line in &TOLD {
-        tells(&rt, rt.alloc(), &network, &passable, &region, line);
-    }
-    drop(region);
+    tell_each(&rt, rt.alloc(), &roads);
     drop(passable);
     drop(network);
 }

@@ -1,4 +1,4 @@
 use Rattle.road_tests.proofs.analyses.tell_lowered.Given as goal
 
-abbrev pub ghosts-tell_both : goal.ghosts-tell_both
-ghosts-tell_both g a = record { name = a.blank.name; parts = a.blank.parts }
+abbrev pub ghosts-tell_all : goal.ghosts-tell_all
+ghosts-tell_all g a = record { name = a.blank.name; parts = a.blank.parts }
