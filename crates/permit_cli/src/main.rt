@@ -3,7 +3,8 @@
 #![tactic(auto)]
 
 ghost use Rattle.std.specs.Prelude.{◌≡◌, ◌<◌};
-ghost use Rattle.notice_desk.specs.Standings.{AreNew, standings};
+ghost use Rattle.notice_desk.specs.Standings.{AreNew};
+ghost use Rattle.permit_program.specs.Runs.{desk_at};
 
 use command_calls::OpenGate;
 use notice_desk::{Notice, Subscribers};
@@ -56,7 +57,7 @@ fn run_counted<L: Ledger + Send + Sync>(
     requires name { blank.name ≡ L.name }
     requires parts { blank.parts ≡ L.parts }
     requires counter { 0 < blank.parts }
-    requires notices { AreNew (standings (λ n. (⟦<dyn Notice as Notice>⟧ n.vtable).list n.value) notices.old) }
+    requires notices { AreNew (desk_at ⟦<dyn Notice as Notice>⟧ notices.old).standings }
 {
     let ended: Ended<L> = run(rt, words, source, sink, notices, &OpenGate, blank);
     ended.status

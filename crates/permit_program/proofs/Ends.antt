@@ -11,10 +11,12 @@ use Rattle.notice_desk.specs.Deliveries.{RoseAt, StoppedAt}
 use Rattle.notice_desk.specs.Lines.{WroteUntilAt}
 use Rattle.notice_desk.specs.declared.notice.Recall.{Recall}
 use Rattle.command_line.specs.declared.asked.Asked.{Asked}
+use Rattle.command_line.specs.declared.asked.Task.{Task}
 use Rattle.command_line.specs.declared.asked.Task.TheVariants as task
 use Rattle.std.specs.String.{string_bytes}
 use Rattle.permit_program.specs.Command.{Answer, Command, IsRefusalOf, Makes}
-use Rattle.permit_program.specs.Commands.{command_of}
+use Rattle.permit_program.specs.Commands.{command_by, command_of}
+use Rattle.permit_program.specs.Day.{day}
 use Rattle.permit_program.specs.Endings.{AnswersRefusal, AnswersText, AnswersUnread, WasUnread}
 use Rattle.permit_program.specs.Runs.{AsksForDay, CallFor, CountedDay, CountsItsDay, IsPlain, IsRun, IsStatusSettled, IsStatusFor, IsStatusOr, Outside, SinkFailed, SourceAt, Told, Took, WroteLine, bytes_for, bytes_line, most_bytes, status_called_for}
 use Rattle.permit_program.specs.declared.refusal.Refusal.{Refusal}
@@ -61,6 +63,10 @@ is_refusals n (inr (inr (inl nine))) plain =
     away 9 (λ e. omega (arith, e)) (λ e. omega (arith, e)) (λ e. omega (arith, e)) (λ e. omega (arith, e)) (λ e. omega (arith, e)) (λ e. omega (arith, e)) n nine plain
 is_refusals n (inr (inr (inr ten))) plain =
     away 10 (λ e. omega (arith, e)) (λ e. omega (arith, e)) (λ e. omega (arith, e)) (λ e. omega (arith, e)) (λ e. omega (arith, e)) (λ e. omega (arith, e)) n ten plain
+
+-- what holds of the command of a day holds of whatever asks for a day
+pub of_a_day : (a : Asked) → a.task ≡ task.Day → (P : Command → Type 0) → P day → P (command_of a)
+of_a_day a is P held = subst (λ (t : Task). P (command_by t a.options)) (sym is) held
 
 -- a run of a day is one of whatever asks for a day, from where nothing was done before it
 pub of_day : {S K : Type 0} (asked : Option Asked) (before from after : Outside S K) (status : ℕ) → AsksForDay asked → from ≡ before → ((a : Asked) → a.task ≡ task.Day → IsRun (Some a) from after status)

@@ -2,13 +2,14 @@
 use Rattle.std.specs.Prelude.{◌≡◌, ◌≢◌, ◌⊎◌, ℕ, ◌+◌, ◌<◌, ◌≤◌, Bool, true, false, nat_lt, List, [], ◌∷◌, ◌++◌, codes, length, take, Option, Some, None, IfSome, IsSomeAnd}
 use Rattle.std.specs.Io.KnownBytes.{Appends}
 use Rattle.office_io.specs.Causes.{Rose, TookAtMost}
+use Rattle.office_io.specs.declared.sink.Sink as Sink
+use Rattle.office_io.specs.declared.source.Source as Source
 use Rattle.notice_desk.specs.Deliveries.{Delivered, RoseAt, StoppedAt}
 use Rattle.notice_desk.specs.Standings.{Standing, fault_counts, standings, texts}
 use Rattle.notice_desk.specs.Lines.{EachWrote, WroteUntilAt}
+use Rattle.notice_desk.specs.declared.notice.Notice as Notice
 use Rattle.notice_desk.specs.declared.notice.Recall.{Recall}
 use Rattle.notice_desk.specs.declared.subscribers.Subscribers.{Subscribers}
-use Rattle.std.specs.declared.alloc.Global.{Global}
-use Rattle.std.specs.declared.dyn_box.DynBox.{DynBox}
 use Rattle.command_line.specs.declared.asked.Asked.{Asked}
 use Rattle.command_line.specs.declared.asked.Task.TheVariants.{Day}
 use Rattle.permit_program.specs.Command.{Answer, Command, Makes, MakesAndTells}
@@ -54,30 +55,28 @@ pub record Outside (S K : Type 0) : Type 0 where
   pub sink : SinkAt K
   pub desk : DeskAt
 
--- a source at some time, of which contracts see what it has left and how often it has failed
-abbrev pub source_at : {S : Type 0} → (S → Option (List ℕ)) → (S → ℕ) → S → SourceAt S
-source_at left faults source = record { itself = source; left = left source; faults = faults source }
+-- a source at some time, as the ghost members of its `Source` show it
+abbrev pub source_at : {S : Type 0} → Source.Ghosts S → S → SourceAt S
+source_at of source = record { itself = source; left = of.left source; faults = of.faults source }
 
--- a sink at some time, of which contracts see what it holds and how often it has failed
-abbrev pub sink_at : {K : Type 0} → (K → Option (List ℕ)) → (K → ℕ) → K → SinkAt K
-sink_at held faults sink = record { itself = sink; held = held sink; faults = faults sink }
+-- a sink at some time, as the ghost members of its `Sink` show it
+abbrev pub sink_at : {K : Type 0} → Sink.Ghosts K → K → SinkAt K
+sink_at of sink = record { itself = sink; held = of.held sink; faults = of.faults sink }
 
 -- what a run meets outside: this source, this sink and this desk
-abbrev pub outside_of : {S K : Type 0} → (S → Option (List ℕ)) → (S → ℕ)
-    → (K → Option (List ℕ)) → (K → ℕ) → S → K → DeskAt → Outside S K
-outside_of left source_faults held sink_faults source sink desk = record {
-  source = source_at left source_faults source;
-  sink = sink_at held sink_faults sink;
+abbrev pub outside_of : {S K : Type 0} → Source.Ghosts S → Sink.Ghosts K → S → K → DeskAt → Outside S K
+outside_of of_source of_sink source sink desk = record {
+  source = source_at of_source source;
+  sink = sink_at of_sink sink;
   desk = desk;
 }
 
--- the notice desk of these subscribers, whose objects tell these lists, count these faults and wrote these texts
-abbrev pub desk_at : {X : Type 0} {Y : X → Type 0} → (DynBox X Global Y → Option (List Recall))
-    → (DynBox X Global Y → ℕ) → (DynBox X Global Y → Option (List ℕ)) → Subscribers X Y → DeskAt
-desk_at told faults text subscribers = record {
-  standings = standings told subscribers;
-  faults = fault_counts faults subscribers;
-  texts = texts text subscribers;
+-- the notice desk of these subscribers, as the ghost members of their objects' `Notice` show it
+abbrev pub desk_at : {X : Type 0} {Y : X → Type 0} → ((x : X) → Notice.Ghosts (Y x)) → Subscribers X Y → DeskAt
+desk_at of subscribers = record {
+  standings = standings (λ n. (of n.vtable).list n.value) subscribers;
+  faults = fault_counts (λ n. (of n.vtable).faults n.value) subscribers;
+  texts = texts (λ n. (of n.vtable).text n.value) subscribers;
 }
 
 -- the source failed meanwhile

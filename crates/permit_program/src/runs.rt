@@ -3,7 +3,7 @@
 ghost use Rattle.std.specs.Prelude.{◌≡◌, ◌≢◌, ◌<◌, ◌≤◌, ◌+◌, IfErr, IfOk, Some, length, map};
 ghost use Rattle.std.specs.String.{string_bytes};
 ghost use Rattle.office_io.specs.Causes.{TookAtMost, UnlessReadFault};
-ghost use Rattle.notice_desk.specs.Standings.{AreNew, standings};
+ghost use Rattle.notice_desk.specs.Standings.{AreNew};
 ghost use Rattle.command_line.specs.Asking.{NumbersAreInRange, asked_of};
 ghost use Rattle.command_line.specs.declared.asked.Asked.{Asked};
 ghost use Rattle.command_line.specs.declared.asked.Task.TheVariants as task;
@@ -47,17 +47,6 @@ impl<L: Ledger> Ended<L> {
         Ended {
             status,
             tests: None,
-        }
-    }
-
-    // A run of a day, with its counter.
-    fn counted(status: u8, tests: Steps<L>) -> Ended<L>
-        ensures status { result.status ≡ status }
-        ensures some { result.tests ≡ Some tests }
-    {
-        Ended {
-            status,
-            tests: Some(tests),
         }
     }
 }
@@ -104,18 +93,14 @@ pub fn run<
     requires name { blank.name ≡ L.name }
     requires parts { blank.parts ≡ L.parts }
     requires counter { 0 < blank.parts }
-    requires notices { AreNew (standings (λ n. (⟦<dyn Notice as Notice>⟧ n.vtable).list n.value) notices.old) }
-    ensures run { let outside = outside_of S.left S.faults K.held K.faults in
-        let desk = desk_at (λ n. (⟦<dyn Notice as Notice>⟧ n.vtable).list n.value)
-        (λ n. (⟦<dyn Notice as Notice>⟧ n.vtable).faults n.value)
-        (λ n. (⟦<dyn Notice as Notice>⟧ n.vtable).text n.value) in
+    requires notices { AreNew (desk_at ⟦<dyn Notice as Notice>⟧ notices.old).standings }
+    ensures run { let outside = outside_of ⟦<S as Source>⟧ ⟦<K as Sink>⟧ in
+        let desk = desk_at ⟦<dyn Notice as Notice>⟧ in
         let asked = asked_of (map string_bytes words.now) in
         IsRun asked (outside source.old sink.old (desk notices.old)) (outside source.new sink.new (desk notices.new)) result.status }
     // After a day that ends with 0 the counter is handed out, and the headline holds with what it counted.
-    ensures counted { let outside = outside_of S.left S.faults K.held K.faults in
-        let desk = desk_at (λ n. (⟦<dyn Notice as Notice>⟧ n.vtable).list n.value)
-        (λ n. (⟦<dyn Notice as Notice>⟧ n.vtable).faults n.value)
-        (λ n. (⟦<dyn Notice as Notice>⟧ n.vtable).text n.value) in
+    ensures counted { let outside = outside_of ⟦<S as Source>⟧ ⟦<K as Sink>⟧ in
+        let desk = desk_at ⟦<dyn Notice as Notice>⟧ in
         let asked = asked_of (map string_bytes words.now) in
         CountsItsDay asked (outside source.old sink.old (desk notices.old)) (outside source.new sink.new (desk notices.new))
         result.status result.tests }
@@ -134,7 +119,7 @@ pub fn run_alone<R: AllocGlobal, S: Source, K: Sink>(
     source: &mut S,
     sink: &mut K,
 ) -> Alone
-    ensures { let outside = outside_of S.left S.faults K.held K.faults in
+    ensures { let outside = outside_of ⟦<S as Source>⟧ ⟦<K as Sink>⟧ in
         let asked = asked_of (map string_bytes words.now) in
         (desk : DeskAt) → IsAlone asked (outside source.old sink.old desk) (outside source.new sink.new desk) result }
 {
@@ -153,7 +138,7 @@ pub fn run_alone<R: AllocGlobal, S: Source, K: Sink>(
 /// Answers words that ask for nothing: writes how the program is used, and ends with 2.
 pub fn refuse_words<K: Sink>(sink: &mut K) -> u8
     ensures status { result ≡ 2 }
-    ensures line { let sink_at = sink_at K.held K.faults in
+    ensures line { let sink_at = sink_at ⟦<K as Sink>⟧ in
         WroteLine usage_line (sink_at sink.old) (sink_at sink.new) }
 {
     refuse(
@@ -167,7 +152,7 @@ pub fn refuse_words<K: Sink>(sink: &mut K) -> u8
 fn perform<S: Source, K: Sink>(alloc: Global, asked: Asked, source: &mut S, sink: &mut K) -> u8
     requires alone { asked.task ≢ task.Day }
     requires range { NumbersAreInRange asked.options }
-    ensures { let outside = outside_of S.left S.faults K.held K.faults in
+    ensures { let outside = outside_of ⟦<S as Source>⟧ ⟦<K as Sink>⟧ in
         (desk : DeskAt) → IsRun (Some asked) (outside source.old sink.old desk) (outside source.new sink.new desk) result }
 {
     let bytes = match take_bytes(alloc, source, reads(asked)) {
@@ -198,17 +183,13 @@ fn perform_day<
     requires name { blank.name ≡ L.name }
     requires parts { blank.parts ≡ L.parts }
     requires counter { 0 < blank.parts }
-    requires notices { AreNew (standings (λ n. (⟦<dyn Notice as Notice>⟧ n.vtable).list n.value) notices.old) }
-    ensures run { let outside = outside_of S.left S.faults K.held K.faults in
-        let desk = desk_at (λ n. (⟦<dyn Notice as Notice>⟧ n.vtable).list n.value)
-        (λ n. (⟦<dyn Notice as Notice>⟧ n.vtable).faults n.value)
-        (λ n. (⟦<dyn Notice as Notice>⟧ n.vtable).text n.value) in
+    requires notices { AreNew (desk_at ⟦<dyn Notice as Notice>⟧ notices.old).standings }
+    ensures run { let outside = outside_of ⟦<S as Source>⟧ ⟦<K as Sink>⟧ in
+        let desk = desk_at ⟦<dyn Notice as Notice>⟧ in
         (asked : Asked) → asked.task ≡ task.Day → IsRun (Some asked) (outside source.old sink.old (desk notices.old))
         (outside source.new sink.new (desk notices.new)) result.status }
-    ensures counted { let outside = outside_of S.left S.faults K.held K.faults in
-        let desk = desk_at (λ n. (⟦<dyn Notice as Notice>⟧ n.vtable).list n.value)
-        (λ n. (⟦<dyn Notice as Notice>⟧ n.vtable).faults n.value)
-        (λ n. (⟦<dyn Notice as Notice>⟧ n.vtable).text n.value) in
+    ensures counted { let outside = outside_of ⟦<S as Source>⟧ ⟦<K as Sink>⟧ in
+        let desk = desk_at ⟦<dyn Notice as Notice>⟧ in
         result.status ≡ 0 → CountedDay result.tests (outside source.old sink.old (desk notices.old))
         (outside source.new sink.new (desk notices.new)) }
 {
@@ -224,18 +205,22 @@ fn perform_day<
     if status != 0 {
         return Ended::uncounted(status);
     }
-    match notices.deliver(day.recalls.as_slice()) {
-        Ok(()) => Ended::counted(0, day.tests),
-        Err(NoticeFault { .. }) => Ended::counted(8, day.tests),
+    let status = match notices.deliver(day.recalls.as_slice()) {
+        Ok(()) => 0,
+        Err(NoticeFault { .. }) => 8,
+    };
+    Ended {
+        status,
+        tests: Some(day.tests),
     }
 }
 
 // Takes what a command reads: all that is left, or nothing.
 fn take_bytes<S: Source>(alloc: Global, source: &mut S, reads: bool) -> Result<Vec<u8>, ReadRefusal>
-    ensures took { let source_at = source_at S.left S.faults in
+    ensures took { let source_at = source_at ⟦<S as Source>⟧ in
         IfOk result (λ bytes. Took reads (source_at source.old) (source_at source.new) bytes.items) }
     ensures few { IfOk result (λ bytes. length bytes.items ≤ most_bytes) }
-    ensures unread { let source_at = source_at S.left S.faults in
+    ensures unread { let source_at = source_at ⟦<S as Source>⟧ in
         IfErr result (WasUnread reads (source_at source.old) (source_at source.new)) }
     ensures calm { IfOk result (λ bytes. S.faults source.new ≡ S.faults source.old) }
     ensures most { TookAtMost (most_bytes + 1) (S.left source.old) (S.left source.new) }
@@ -249,7 +234,7 @@ fn take_bytes<S: Source>(alloc: Global, source: &mut S, reads: bool) -> Result<V
 
 // Ends a run whose bytes were not all read.
 fn end_unread<K: Sink>(sink: &mut K, unread: ReadRefusal) -> u8
-    ensures { let sink_at = sink_at K.held K.faults in AnswersUnread unread (sink_at sink.old) (sink_at sink.new) result }
+    ensures { let sink_at = sink_at ⟦<K as Sink>⟧ in AnswersUnread unread (sink_at sink.old) (sink_at sink.new) result }
 {
     match unread {
         ReadRefusal::ReadFault => 3,
@@ -260,7 +245,7 @@ fn end_unread<K: Sink>(sink: &mut K, unread: ReadRefusal) -> u8
 
 // Ends a run whose bytes are refused.
 fn end_refused<K: Sink>(sink: &mut K, refusal: Refusal) -> u8
-    ensures { let sink_at = sink_at K.held K.faults in AnswersRefusal refusal (sink_at sink.old) (sink_at sink.new) result }
+    ensures { let sink_at = sink_at ⟦<K as Sink>⟧ in AnswersRefusal refusal (sink_at sink.old) (sink_at sink.new) result }
 {
     match refusal {
         Refusal::Refused { status, line } => refuse(sink, line.as_bytes(), status),
@@ -270,7 +255,7 @@ fn end_refused<K: Sink>(sink: &mut K, refusal: Refusal) -> u8
 
 // Writes what a command made: 0, or 4 where the sink fails.
 fn end_made<K: Sink>(sink: &mut K, text: &[u8]) -> u8
-    ensures { let sink_at = sink_at K.held K.faults in AnswersText text.now (sink_at sink.old) (sink_at sink.new) result }
+    ensures { let sink_at = sink_at ⟦<K as Sink>⟧ in AnswersText text.now (sink_at sink.old) (sink_at sink.new) result }
 {
     match write_all(sink, text) {
         Ok(()) => 0,
@@ -281,7 +266,7 @@ fn end_made<K: Sink>(sink: &mut K, text: &[u8]) -> u8
 // Writes the line of a refusal, and hands its status on.
 fn refuse<K: Sink>(sink: &mut K, line: &[u8], status: u8) -> u8
     ensures status { result ≡ status }
-    ensures line { let sink_at = sink_at K.held K.faults in
+    ensures line { let sink_at = sink_at ⟦<K as Sink>⟧ in
         WroteLine line.now (sink_at sink.old) (sink_at sink.new) }
 {
     // A fault of the sink leaves the status as it is.

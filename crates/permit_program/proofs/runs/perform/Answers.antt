@@ -9,7 +9,7 @@ use Rattle.permit_program.proofs.runs.perform.Goals as goal
 
 pub returns-in-Ok-make_text : goal.returns-in-Ok-make_text
 returns-in-Ok-make_text g c = λ desk.
-    let outside = outside_of g.S.Source.left g.S.Source.faults g.K.Sink.held g.K.Sink.faults in
+    let outside = outside_of g.S.Source g.K.Sink in
     let before = outside c.args.source.now c.args.sink.now desk in
     let after = outside c.take_bytes.new.source c.end_made.new.sink desk in
     let asked = c.args.asked in
@@ -22,7 +22,7 @@ returns-in-Ok-make_text g c = λ desk.
 
 pub returns : goal.returns
 returns g c = λ desk.
-    let outside = outside_of g.S.Source.left g.S.Source.faults g.K.Sink.held g.K.Sink.faults in
+    let outside = outside_of g.S.Source g.K.Sink in
     let before = outside c.args.source.now c.args.sink.now desk in
     let after = outside c.take_bytes.new.source c.end_refused.new.sink desk in
     let asked = c.args.asked in

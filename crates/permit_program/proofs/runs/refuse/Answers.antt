@@ -4,5 +4,5 @@ use Rattle.permit_program.proofs.runs.refuse.Goals as goal
 
 pub returns-clause-line : goal.returns-clause-line
 returns-clause-line g c =
-    let now = sink_at g.K.Sink.held g.K.Sink.faults in
+    let now = sink_at g.K.Sink in
     written_line c.args.line.now (now c.args.sink.now) (now c.write_all.new.sink) c.write_all.result c.write_all.ensures.all c.write_all.ensures.part c.write_all.ensures.fault

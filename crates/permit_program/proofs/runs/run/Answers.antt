@@ -7,8 +7,8 @@ use Rattle.permit_program.proofs.runs.run.Goals as goal
 
 pub returns-in-Status-clause-run : goal.returns-in-Status-clause-run
 returns-in-Status-clause-run g c =
-    let desk_now = desk_at (λ n. (g.dyn-1.0.entry n.vtable).1.list n.value) (λ n. (g.dyn-1.0.entry n.vtable).1.faults n.value) (λ n. (g.dyn-1.0.entry n.vtable).1.text n.value) in
-    let outside = outside_of g.S.Source.left g.S.Source.faults g.K.Sink.held g.K.Sink.faults in
+    let desk_now = desk_at (λ v. (g.dyn-1.0.entry v).1) in
+    let outside = outside_of g.S.Source g.K.Sink in
     let before = outside c.args.source.now c.args.sink.now (desk_now c.args.notices.now) in
     let after = outside c.run_alone.new.source c.run_alone.new.sink (desk_now c.args.notices.now) in
     subst (λ (n : ℕ). IsRun (asked_of (map string_bytes c.args.words.now)) before after n) (sym c.uncounted.ensures.status)
@@ -16,8 +16,8 @@ returns-in-Status-clause-run g c =
 
 pub returns-in-Status-clause-counted : goal.returns-in-Status-clause-counted
 returns-in-Status-clause-counted g c =
-    let desk_now = desk_at (λ n. (g.dyn-1.0.entry n.vtable).1.list n.value) (λ n. (g.dyn-1.0.entry n.vtable).1.faults n.value) (λ n. (g.dyn-1.0.entry n.vtable).1.text n.value) in
-    let outside = outside_of g.S.Source.left g.S.Source.faults g.K.Sink.held g.K.Sink.faults in
+    let desk_now = desk_at (λ v. (g.dyn-1.0.entry v).1) in
+    let outside = outside_of g.S.Source g.K.Sink in
     let before = outside c.args.source.now c.args.sink.now (desk_now c.args.notices.now) in
     let after = outside c.run_alone.new.source c.run_alone.new.sink (desk_now c.args.notices.now) in
     none_counted (asked_of (map string_bytes c.args.words.now)) before after c.uncounted.result.status c.uncounted.result.tests
@@ -25,8 +25,8 @@ returns-in-Status-clause-counted g c =
 
 pub returns-in-Day-clause-run : goal.returns-in-Day-clause-run
 returns-in-Day-clause-run g c =
-    let desk_now = desk_at (λ n. (g.dyn-1.0.entry n.vtable).1.list n.value) (λ n. (g.dyn-1.0.entry n.vtable).1.faults n.value) (λ n. (g.dyn-1.0.entry n.vtable).1.text n.value) in
-    let outside = outside_of g.S.Source.left g.S.Source.faults g.K.Sink.held g.K.Sink.faults in
+    let desk_now = desk_at (λ v. (g.dyn-1.0.entry v).1) in
+    let outside = outside_of g.S.Source g.K.Sink in
     let alone = c.in-Day.ensures (desk_now c.args.notices.now) in
     let before = outside c.args.source.now c.args.sink.now (desk_now c.args.notices.now) in
     let from = outside c.run_alone.new.source c.run_alone.new.sink (desk_now c.args.notices.now) in
@@ -35,8 +35,8 @@ returns-in-Day-clause-run g c =
 
 pub returns-in-Day-clause-counted : goal.returns-in-Day-clause-counted
 returns-in-Day-clause-counted g c =
-    let desk_now = desk_at (λ n. (g.dyn-1.0.entry n.vtable).1.list n.value) (λ n. (g.dyn-1.0.entry n.vtable).1.faults n.value) (λ n. (g.dyn-1.0.entry n.vtable).1.text n.value) in
-    let outside = outside_of g.S.Source.left g.S.Source.faults g.K.Sink.held g.K.Sink.faults in
+    let desk_now = desk_at (λ v. (g.dyn-1.0.entry v).1) in
+    let outside = outside_of g.S.Source g.K.Sink in
     let alone = c.in-Day.ensures (desk_now c.args.notices.now) in
     let before = outside c.args.source.now c.args.sink.now (desk_now c.args.notices.now) in
     let from = outside c.run_alone.new.source c.run_alone.new.sink (desk_now c.args.notices.now) in
