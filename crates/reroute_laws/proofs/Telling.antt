@@ -1,5 +1,5 @@
 -- Each recall has its answer, and a line tells it.
-use Rattle.std.proofs.Common.{◌≡◌, ◌≢◌, ◌∙◌, ◌<◌, ◌+◌, ap, sym, refl, subst, ℕ, List, [], ◌∷◌, ◌++◌, Bool, true, false, cond, All, Some, length, map, append_assoc, eq-eqb, inl, inr, ◌==◌, ◌||◌, arith}
+use Rattle.std.proofs.Common.{◌≡◌, ◌≢◌, ◌∙◌, ◌<◌, ap, sym, refl, subst, ℕ, List, [], ◌∷◌, ◌++◌, Bool, true, false, cond, All, Some, length, map, append_assoc, eq-eqb, ◌==◌, ◌||◌, arith}
 use Rattle.std.proofs.lemmas.Bool.Decides.{nat_tests}
 use Rattle.std.proofs.lemmas.List.{append-nil, map-append}
 use Rattle.std.proofs.lemmas.List.Elements.{All-head, All-tail, filter-append}
@@ -13,10 +13,11 @@ use Rattle.office_words.specs.declared.entry.Entry.{Entry}
 use Rattle.office_words.specs.declared.entry.Reply.{Reply}
 use Rattle.office_words.specs.declared.entry.Reply.TheVariants as reply
 use Rattle.office_core.specs.Happened.{Day, History, Numbers, day_after}
-use Rattle.office_core.specs.Machine.{IsAnswer, IsLegal, IsLegalFrom, Machine, after_all, entries_by, machine_of, opened, state_in, version_of}
+use Rattle.office_core.specs.Machine.{IsLegal, IsLegalFrom, after_all, entries_by, machine_of, opened}
 use Rattle.office_core.specs.Offices.{entry}
 use Rattle.office_core.specs.Promises.{KeepsPromises}
-use Rattle.office_core.proofs.Cases.{apply_cases}
+use Rattle.office_core.specs.Replies.{is_full}
+use Rattle.office_core.proofs.Cases.{never_full}
 use Rattle.office_core.proofs.Histories.{last_step}
 use Rattle.office_core.proofs.Prefixes.{legal_front, legal_later}
 use Rattle.recall_list.specs.Issues.{recalled_in, recalled_numbers}
@@ -58,30 +59,13 @@ at_place : (P : Entry → Type 0) (front : History) (e : Entry) (back : History)
 at_place P [] e back all = All-head P e back all
 at_place P (x ∷ front) e back all = at_place P front e back (All-tail P x (front ++ e ∷ back) all)
 
--- no answer of a legal history says that it is full
-abbrev IsRoomy : Reply → Type 0
-IsRoomy (reply.Full n) = ⊥
-IsRoomy _ = Unit {0}
-
-held_roomy : (base : BaseLists) (m : Machine) (caller : ℕ) (a : Application) (r : Reply) → IsAnswer base m caller (call.Held a) r → IsRoomy r
-held_roomy base m caller a r (inl (w, is, given)) = subst IsRoomy (sym given) (apply_cases base (state_in base m) (version_of m) m.day (length m.permits + 1) a w IsRoomy tt tt (record {
-  not_needed = λ _. tt;
-  no_road = λ _ _ _. tt;
-  now_fails = λ _ _ _ _. tt;
-  issued = λ _ _ _. tt;
-  refused = λ _ _ _ _. tt;
-  now_meets = λ _ _ _. tt;
-  cut_refused = λ _ _ _ _ _ _ _ _. tt;
-  cut_meets = λ _ _ _ _. tt;
-}))
-held_roomy base m caller a r (inr (lacks, _)) = subst IsRoomy (sym lacks) tt
-
-told_of : (r : Reply) → AnswersRenewal r → IsRoomy r → r ≢ reply.NoMemory → IsTold r
-told_of (reply.Issued n v routes) answers roomy memory = tt
-told_of (reply.Refused v failing) answers roomy memory = tt
-told_of (reply.Full n) answers roomy memory = absurd roomy
-told_of reply.NoMemory answers roomy memory = absurd (memory refl)
-told_of _ answers roomy memory = absurd answers
+-- such an answer is told where neither the history was full nor memory wanting
+told_of : (r : Reply) → AnswersRenewal r → is_full r ≡ false → r ≢ reply.NoMemory → IsTold r
+told_of (reply.Issued n v routes) answers room memory = tt
+told_of (reply.Refused v failing) answers room memory = tt
+told_of (reply.Full n) answers room memory = absurd cc
+told_of reply.NoMemory answers room memory = absurd (memory refl)
+told_of _ answers room memory = absurd answers
 
 -- such an answer recalls nothing
 quiet : (r : Reply) → IsTold r → recalled_numbers r ≡ []
@@ -113,7 +97,7 @@ module _ (base : BaseLists) (day : Day) (caller : ℕ) (all : History) (roads : 
   renewal_told : (front : History) (e : Entry) (back : History) (n : ℕ) → all ≡ front ++ e ∷ back → is_number_among n (recalled_in front) ≡ true → IsRenewed day caller front n e → IsTold e.reply
   renewal_told front e back n is on again =
       told_of e.reply (answers_renewal base day front caller k.trip (wanted base day all n k.trip k.routes k.on_road.0 keeps (was_issued k) k.on_road.1) roads trains e.reply step)
-      (held_roomy base (machine_of base day front) caller a e.reply (last_step base day front (entry caller (call.Held a) e.reply) step).answer)
+      (never_full base (machine_of base day front) caller (call.Held a) e.reply (last_step base day front (entry caller (call.Held a) e.reply) step).answer)
       (at_place (λ (f : Entry). f.reply ≢ reply.NoMemory) front e back (subst FoundMemory is memory))
     where
       k : IsKnown base day all front n
