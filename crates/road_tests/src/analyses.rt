@@ -240,7 +240,7 @@ fn tells_sound_applications(rt: HostRuntime) {
 
 // Whether these are the fields of the application of the test below.
 fn check_fields(rt: &impl Abort, alloc: Global, a: &Application) {
-    same(rt, 0, &(a.truck(), a.from(), a.to()), &(1, 0, 1));
+    same(rt, 0, (a.truck(), a.from(), a.to()), (1, 0, 1));
     let asked = routes_told(alloc, a.asked().expect(rt, "routes")).expect(rt, "memory");
     holds(rt, asked.as_str() == "route [1, 2] [0]", "asked");
     drop(asked);
@@ -541,8 +541,8 @@ fn tell_limit<L: Ledger>(
     steps: &mut Steps<L>,
 ) {
     assert!(rt; truck.base.network().segments() == 3);
-    same(rt, 0, &truck.failing_limit(1, steps), &wanted);
-    same(rt, 1, &truck.is_passable(1, steps), &wanted.is_none());
+    same(rt, 0, truck.failing_limit(1, steps), wanted);
+    same(rt, 1, truck.is_passable(1, steps), wanted.is_none());
 }
 
 // On segments 2, 1 and 0 the first that fails truck 0 is segment 1.
@@ -588,7 +588,7 @@ fn first_leaving_of(
 fn tell_first_leaving(rt: &impl Abort, alloc: Global, network: &Network) {
     for (row, (nodes, leaving)) in LEAVING.iter().enumerate() {
         let first = first_leaving_of(rt, alloc, network, nodes);
-        same(rt, row, &first, leaving);
+        same(rt, row, first, *leaving);
     }
 }
 
@@ -611,7 +611,7 @@ fn tell_leaving<L: Ledger>(
         first_meeting_out(on.base, on.state, on.truck, &set, steps),
     ];
     drop(set);
-    same(rt, node as usize, &(is_left, next), &wanted);
+    same(rt, node as usize, (is_left, next), wanted);
 }
 
 // All with one counter.

@@ -181,6 +181,6 @@ const BETWEEN: [(&str, &str, u32); 7] = [
 fn counts_the_days_between_two(rt: HostRuntime) {
     for (row, &(first, last, days)) in BETWEEN.iter().enumerate() {
         let since = day(&rt, last).days_since(day(&rt, first));
-        same(&rt, row, &since, &days);
+        same(&rt, row, since, days);
     }
 }

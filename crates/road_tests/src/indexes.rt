@@ -8,7 +8,7 @@ use std::process::Abort;
 fn uses(rt: &impl Abort, index: &Index, segment: u32, numbers: &[u32])
     requires { segment < length index.now }
 {
-    same(rt, segment as usize, &index.using(segment), &numbers);
+    same(rt, segment as usize, index.using(segment), numbers);
 }
 
 // Two routes over three segments, of which the first holds a segment twice.

@@ -180,7 +180,7 @@ fn try_each(
             rows.len()
         };
         let limit = limit_after(rt, alloc, network, load, &rows[i..end]);
-        same(rt, i, &limit, &limit_of(rt, rows[i].1));
+        same(rt, i, limit, limit_of(rt, rows[i].1));
     }
 }
 
@@ -413,7 +413,7 @@ const LEGAL: [(u32, u32, &[(u32, u32)], bool); 4] = [
 fn tells_which_loads_are_legal(rt: HostRuntime) {
     for (row, &(height, width, pairs, legal)) in LEGAL.iter().enumerate() {
         let found = is_legal(&rt, rt.alloc(), height, width, pairs);
-        same(&rt, row, &found, &legal);
+        same(&rt, row, found, legal);
     }
 }
 
@@ -423,15 +423,15 @@ fn tells_the_parts_of_a_load(rt: HostRuntime) {
     let sizes = (load.height(), load.width(), load.length());
     let (gross, found) = (load.train().gross(), load.worst());
     drop(load);
-    same(&rt, 0, &sizes, &(162, 102, 720));
-    same(&rt, 1, &gross, &80_000);
+    same(&rt, 0, sizes, (162, 102, 720));
+    same(&rt, 1, gross, 80_000);
     let worst = WorstGroup {
         i: 1,
         j: 4,
         weight: 68_000,
         limit: 65_500,
     };
-    same(&rt, 2, &found, &worst);
+    same(&rt, 2, found, worst);
 }
 
 // Two axles of a pound each, an inch apart.
@@ -461,7 +461,7 @@ const SIZES: [((u32, u32, u32), bool); 8] = [
 #[test]
 fn takes_numbers_in_range(rt: HostRuntime) {
     for (row, &(sizes, taken)) in SIZES.iter().enumerate() {
-        same(&rt, row, &is_taken(&rt, rt.alloc(), sizes), &taken);
+        same(&rt, row, is_taken(&rt, rt.alloc(), sizes), taken);
     }
     says(&rt, rt.alloc(), &Range, "a number is out of its range");
 }

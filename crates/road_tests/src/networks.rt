@@ -113,7 +113,7 @@ fn refuses_a_span_by_the_first_cause_that_applies(rt: HostRuntime) {
 
 fn set_limits(rt: &impl Abort, network: &mut Network, cases: &[(Posted, Taken)]) {
     for (row, &((segment, what, value), answer)) in cases.iter().enumerate() {
-        same(rt, row, &network.set_limit(segment, what, value), &answer);
+        same(rt, row, network.set_limit(segment, what, value), answer);
     }
 }
 
@@ -157,7 +157,7 @@ fn find_each(rt: &impl Abort, network: &Network, cases: &[Numbered]) {
             network.segment_named(&name),
             network.span_named(&name),
         ];
-        same(rt, row, &found, &numbers);
+        same(rt, row, found, numbers);
     }
 }
 
@@ -180,15 +180,15 @@ fn finds_each_name_among_its_kind(rt: HostRuntime) {
 }
 
 fn tell_segment(rt: &impl Abort, segment: Segment, name: &[u8], ends: (u32, u32), feet: u32) {
-    same(rt, 0, &segment.name, &named(rt, name));
-    same(rt, 1, &(segment.from, segment.to), &ends);
-    same(rt, 2, &segment.feet, &feet);
-    same(rt, 3, &segment.base, &Values::default());
+    same(rt, 0, segment.name, named(rt, name));
+    same(rt, 1, (segment.from, segment.to), ends);
+    same(rt, 2, segment.feet, feet);
+    same(rt, 3, segment.base, Values::default());
 }
 
 fn tell_span(rt: &impl Abort, span: Span, name: &[u8], numbers: (u32, u32, u32)) {
-    same(rt, 0, &span.name, &named(rt, name));
-    same(rt, 1, &(span.segment, span.inches, span.rating), &numbers);
+    same(rt, 0, span.name, named(rt, name));
+    same(rt, 1, (span.segment, span.inches, span.rating), numbers);
 }
 
 fn tell(rt: &impl Abort, network: &Network) {
@@ -204,9 +204,9 @@ fn tells_segments_and_spans_by_number(rt: HostRuntime) {
     drop(network);
 }
 
-fn has_set(rt: &impl Abort, network: &Network, segment: u32, values: &Values) {
+fn has_set(rt: &impl Abort, network: &Network, segment: u32, values: Values) {
     assert!(rt; segment < network.segments());
-    same(rt, segment as usize, &network.segment(segment).base, values);
+    same(rt, segment as usize, network.segment(segment).base, values);
 }
 
 const SET: [(Posted, Taken); 5] = [
@@ -221,7 +221,7 @@ const SET: [(Posted, Taken); 5] = [
 fn sets_one_limit_and_leaves_the_others(rt: HostRuntime) {
     let mut network = network(&rt, rt.alloc(), GROWN);
     set_limits(&rt, &mut network, &SET);
-    same(&rt, 0, &network.segments(), &4);
+    same(&rt, 0, network.segments(), 4);
     let values = Values {
         closed: false,
         height: 168,
@@ -231,16 +231,16 @@ fn sets_one_limit_and_leaves_the_others(rt: HostRuntime) {
         allowance: 100_000,
         tridem: 51_000,
     };
-    has_set(&rt, &network, 0, &values);
-    has_set(&rt, &network, 1, &Values::default());
+    has_set(&rt, &network, 0, values);
+    has_set(&rt, &network, 1, Values::default());
     drop(network);
 }
 
 // What begins and ends at a node.
 fn meets(rt: &impl Abort, network: &Network, node: u32, outgoing: &[u32], incoming: &[Arrival]) {
     assert!(rt; node < network.nodes());
-    same(rt, 0, &network.outgoing(node), &outgoing);
-    same(rt, 1, &network.incoming(node), &incoming);
+    same(rt, 0, network.outgoing(node), outgoing);
+    same(rt, 1, network.incoming(node), incoming);
 }
 
 const INTO_A: [Arrival; 1] = [Arrival {
@@ -269,7 +269,7 @@ const INTO_B: [Arrival; 3] = [
 
 fn carries(rt: &impl Abort, network: &Network, segment: u32, spans: &[u32]) {
     assert!(rt; segment < network.segments());
-    same(rt, segment as usize, &network.spans_of(segment), &spans);
+    same(rt, segment as usize, network.spans_of(segment), spans);
 }
 
 #[test]
@@ -303,8 +303,8 @@ fn has_room_for_4096_nodes(rt: HostRuntime) {
     same(
         &rt,
         2,
-        &network.node_named(&numbered(&rt, 4_095)),
-        &Some(4_095),
+        network.node_named(&numbered(&rt, 4_095)),
+        Some(4_095),
     );
     drop(network);
 }
@@ -330,8 +330,8 @@ fn has_room_for_16384_segments(rt: HostRuntime) {
     same(
         &rt,
         2,
-        &network.segment_named(&numbered(&rt, 16_383)),
-        &Some(16_383),
+        network.segment_named(&numbered(&rt, 16_383)),
+        Some(16_383),
     );
     drop(network);
 }
@@ -359,8 +359,8 @@ fn has_room_for_2048_spans_and_16_on_a_segment(rt: HostRuntime) {
     same(
         &rt,
         2,
-        &network.span_named(&numbered(&rt, 2_047)),
-        &Some(2_047),
+        network.span_named(&numbered(&rt, 2_047)),
+        Some(2_047),
     );
     drop(network);
 }
@@ -368,10 +368,10 @@ fn has_room_for_2048_spans_and_16_on_a_segment(rt: HostRuntime) {
 fn hands_back(rt: &impl Abort, alloc: Global, list: &[u32]) {
     let numbers = Numbers::of(list.to_vec(alloc).expect(rt, "memory"));
     let copy = numbers.try_clone(alloc).expect(rt, "memory");
-    same(rt, 0, &copy.as_slice(), &list);
+    same(rt, 0, copy.as_slice(), list);
     drop(copy);
     let back = numbers.into_vec();
-    same(rt, 1, &back.as_slice(), &list);
+    same(rt, 1, back.as_slice(), list);
     drop(back);
 }
 

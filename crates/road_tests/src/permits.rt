@@ -45,8 +45,8 @@ const STANDINGS: [(u32, &str, Option<Status>); 7] = [
 fn expires_after_its_last_day(rt: HostRuntime) {
     let book = two(&rt, rt.alloc());
     for (row, &(number, text, status)) in STANDINGS.iter().enumerate() {
-        same(&rt, row, &book.status(number, day(&rt, text)), &status);
-        same(&rt, row, &book.get(number).is_some(), &status.is_some());
+        same(&rt, row, book.status(number, day(&rt, text)), status);
+        same(&rt, row, book.get(number).is_some(), status.is_some());
     }
     drop(book);
 }
@@ -82,15 +82,10 @@ fn surrender(rt: &impl Abort, book: &mut Book, number: u32) {
 fn keeps_marks(rt: &impl Abort, book: &Book) {
     let late = day(rt, "2027-01-01");
     let recalled = Status::Recalled { version: 5 };
-    same(rt, 1, &book.status(1, late), &Some(recalled));
-    same(rt, 2, &book.status(2, late), &Some(Status::Surrendered));
+    same(rt, 1, book.status(1, late), Some(recalled));
+    same(rt, 2, book.status(2, late), Some(Status::Surrendered));
     assert!(rt; book.len() == 2 && !book.is_empty());
-    same(
-        rt,
-        0,
-        &book.permits()[0].mark,
-        &Mark::Recalled { version: 5 },
-    );
+    same(rt, 0, book.permits()[0].mark, Mark::Recalled { version: 5 });
 }
 
 #[test]

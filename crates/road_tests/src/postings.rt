@@ -24,15 +24,15 @@ fn post(rt: &impl Abort, network: &Network, log: &mut Log, row: usize, change: C
     requires { AreTaken network.now log.old }
     ensures { AreTaken network.now log.new }
 {
-    same(rt, row, &takes(network, &change), &taken);
+    same(rt, row, takes(network, &change), taken);
     let version = log.version();
     let (answer, next) = if taken {
         (Ok(version + 1), version + 1)
     } else {
         (Err(PostRefusal::Range), version)
     };
-    same(rt, row, &log.post(network, change), &answer);
-    same(rt, row, &log.version(), &next);
+    same(rt, row, log.post(network, change), answer);
+    same(rt, row, log.version(), next);
 }
 
 // Posts each of the changes.
@@ -98,22 +98,22 @@ fn state_after(rt: &impl Abort, alloc: Global, network: &Network, changes: &[Rep
     'changes: for (row, &(posted, segment)) in changes.iter().enumerate() {
         let change = change(posted);
         assert!(rt; takes(network, &change));
-        same(rt, row, &touched(network, &change), &segment);
+        same(rt, row, touched(network, &change), segment);
         state = after(rt, alloc, network, &state, &change);
     }
     state
 }
 
 // The limits of the two segments and the ratings of the three spans.
-fn is_state(rt: &impl Abort, state: &State, values: &[Values; 2], ratings: &[u32; 3])
+fn is_state(rt: &impl Abort, state: &State, values: [Values; 2], ratings: [u32; 3])
     requires values { length state.now.values ≡ 2 }
     requires ratings { length state.now.ratings ≡ 3 }
 {
-    same(rt, 0, &[state.segment(0), state.segment(1)], values);
+    same(rt, 0, [state.segment(0), state.segment(1)], values);
     same(
         rt,
         1,
-        &[state.rating(0), state.rating(1), state.rating(2)],
+        [state.rating(0), state.rating(1), state.rating(2)],
         ratings,
     );
 }
@@ -142,7 +142,7 @@ fn replace_each(rt: &impl Abort, alloc: Global, network: &Network) {
         tridem: 51_000,
     };
     assert!(rt; network.segments() == 2 && network.spans() == 3);
-    is_state(rt, &state, &[values, Values::default()], &[1_000, 750, 500]);
+    is_state(rt, &state, [values, Values::default()], [1_000, 750, 500]);
     drop(state);
 }
 
@@ -162,7 +162,7 @@ fn tell_each(rt: &impl Abort, network: &Network, log: &Log, cases: &[Changed])
 {
     for (row, &(segment, after, changed)) in cases.iter().enumerate() {
         assert!(rt; segment < network.segments());
-        same(rt, row, &log.changed(network, segment, after), &changed);
+        same(rt, row, log.changed(network, segment, after), changed);
     }
 }
 
@@ -187,9 +187,9 @@ const CHANGED: [Changed; 9] = [
 
 fn tell_changes(rt: &impl Abort, alloc: Global, network: &Network) {
     let mut log = Log::start(alloc, network).expect(rt, "memory");
-    same(rt, 0, &log.version(), &0);
+    same(rt, 0, log.version(), 0);
     post_each(rt, network, &mut log, &POSTINGS);
-    same(rt, 3, &log.version(), &3);
+    same(rt, 3, log.version(), 3);
     tell_each(rt, network, &log, &CHANGED);
     drop(log);
 }
@@ -197,7 +197,7 @@ fn tell_changes(rt: &impl Abort, alloc: Global, network: &Network) {
 #[test]
 fn tells_what_changed_after_a_version(rt: HostRuntime) {
     let network = network(&rt, rt.alloc(), ROADS);
-    same(&rt, 0, &network.segments(), &2);
+    same(&rt, 0, network.segments(), 2);
     tell_changes(&rt, rt.alloc(), &network);
     drop(network);
 }
@@ -228,9 +228,9 @@ fn differs_at(rt: &impl Abort, state: &State, segment: Option<u32>, span: Option
 {
     for i in 0..MANY {
         let height = if segment == Some(i) { 168 } else { 999 };
-        same(rt, i as usize, &state.segment(i).height, &height);
+        same(rt, i as usize, state.segment(i).height, height);
         let rating = if span == Some(i) { 750 } else { 1_000 };
-        same(rt, i as usize, &state.rating(i), &rating);
+        same(rt, i as usize, state.rating(i), rating);
     }
 }
 
@@ -241,8 +241,8 @@ fn post_far(rt: &impl Abort, alloc: Global, network: &Network, of: u32)
 {
     let (limit, rating) = (change((HEIGHT, of, 168)), change((RATING, of, 750)));
     assert!(rt; takes(network, &limit) && takes(network, &rating));
-    same(rt, of as usize, &touched(network, &limit), &of);
-    same(rt, of as usize, &touched(network, &rating), &of);
+    same(rt, of as usize, touched(network, &limit), of);
+    same(rt, of as usize, touched(network, &rating), of);
     let base = base_state(rt, alloc, network);
     let lower = after(rt, alloc, network, &base, &limit);
     let weaker = after(rt, alloc, network, &lower, &rating);
@@ -286,9 +286,9 @@ fn find_each(rt: &impl Abort, alloc: Global, network: &Network)
 {
     let stamps = stamped(rt, alloc, network, &[(5, 1), (63, 2), (129, 3), (5, 4)]);
     for (row, &(number, from, first)) in ABOVE.iter().enumerate() {
-        same(rt, row, &stamps.next_above(number, from), &first);
+        same(rt, row, stamps.next_above(number, from), first);
     }
-    same(rt, 10, &[stamps.stamp(5), stamps.stamp(64)], &[4, 0]);
+    same(rt, 10, [stamps.stamp(5), stamps.stamp(64)], [4, 0]);
     drop(stamps);
 }
 

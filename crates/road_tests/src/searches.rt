@@ -427,14 +427,14 @@ fn takes_the_first_of_the_walks_over_a_grid(rt: HostRuntime) {
 fn is_slack_each(rt: &impl Abort, network: &Network, known: &Potentials, digits: &[u8])
     requires { length known.now ≡ length network.now.nodes }
 {
-    same(rt, 0, &digits.len(), &(network.segments() as usize));
+    same(rt, 0, digits.len(), network.segments() as usize);
     for segment in 0..network.segments() {
         let wanted = digits.get(segment as usize) == Some(&b'1');
         same(
             rt,
             segment as usize,
-            &known.is_slack(network, segment),
-            &wanted,
+            known.is_slack(network, segment),
+            wanted,
         );
     }
 }

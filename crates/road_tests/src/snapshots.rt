@@ -100,9 +100,9 @@ fn post_row(
 {
     let &(posted, wanted, in_force) = posting;
     let version = post(network, store, change(posted), in_two_steps);
-    same(rt, row, &version, &wanted);
+    same(rt, row, version, wanted);
     let found = told(rt, network, store.version(), store.now());
-    same(rt, row, &found, &in_force);
+    same(rt, row, found, in_force);
 }
 
 fn post_each(rt: &impl Abort, network: &Network, store: &mut Store, in_two_steps: bool)
@@ -133,7 +133,7 @@ fn ask_each(rt: &impl Abort, network: &Network, store: &Store, rows: &[(u32, u32
 {
     for (row, &(segment, after, changed)) in rows.iter().enumerate() {
         assert!(rt; segment < network.segments());
-        same(rt, row, &store.changed(network, segment, after), &changed);
+        same(rt, row, store.changed(network, segment, after), changed);
     }
 }
 
@@ -150,7 +150,7 @@ const NEXT: [(u32, u32, Option<u32>); 7] = [
 
 fn look_each(rt: &impl Abort, snapshot: &Snapshot) {
     for (row, &(after, from, next)) in NEXT.iter().enumerate() {
-        same(rt, row, &snapshot.next_changed(after, from), &next);
+        same(rt, row, snapshot.next_changed(after, from), next);
     }
 }
 
@@ -166,7 +166,7 @@ fn check_store(rt: &impl Abort, alloc: Global, network: &Network, in_two_steps: 
     drop(last);
     let found = told(rt, network, first.version(), first.state());
     drop(first);
-    same(rt, 0, &found, &BASE);
+    same(rt, 0, found, BASE);
 }
 
 fn check_over_roads(rt: &impl Abort, alloc: Global, in_two_steps: bool) {
