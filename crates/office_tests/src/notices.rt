@@ -134,7 +134,18 @@ fn tells_what_failed_once_more(rt: HostRuntime) {
     subscribers.close();
 }
 
-// The second of three objects fails at its second recall.
+// Three who are told of all recalls. The object of the second fails at its second recall.
+fn three_listeners(rt: &impl Abort, alloc: Global) -> Subscribers
+    ensures { AreNew (standings (λ n. (⟦<dyn Notice as Notice>⟧ n.vtable).list n.value) result) }
+{
+    let mut subscribers = nobody(alloc);
+    add(rt, &mut subscribers, Whom::All, notice(rt, alloc, &[]));
+    add(rt, &mut subscribers, Whom::All, notice(rt, alloc, &[2]));
+    add(rt, &mut subscribers, Whom::All, notice(rt, alloc, &[]));
+    subscribers
+}
+
+// The first delivery stops at the second.
 fn stop_at_the_second(rt: &impl Abort, subscribers: &mut Subscribers, recalls: &[Recall])
     requires { AreNew (standings (λ n. (⟦<dyn Notice as Notice>⟧ n.vtable).list n.value) subscribers.old) }
     ensures { let told = standings (λ n. (⟦<dyn Notice as Notice>⟧ n.vtable).list n.value) in
@@ -150,25 +161,7 @@ fn stop_at_the_second(rt: &impl Abort, subscribers: &mut Subscribers, recalls: &
 #[test]
 fn goes_on_where_it_stopped(rt: HostRuntime) {
     let recalls = three(&rt);
-    let mut subscribers = nobody(rt.alloc());
-    add(
-        &rt,
-        &mut subscribers,
-        Whom::All,
-        notice(&rt, rt.alloc(), &[]),
-    );
-    add(
-        &rt,
-        &mut subscribers,
-        Whom::All,
-        notice(&rt, rt.alloc(), &[2]),
-    );
-    add(
-        &rt,
-        &mut subscribers,
-        Whom::All,
-        notice(&rt, rt.alloc(), &[]),
-    );
+    let mut subscribers = three_listeners(&rt, rt.alloc());
     stop_at_the_second(&rt, &mut subscribers, &recalls);
     assert!(rt; deliver_more(&mut subscribers, &recalls) == Ok(()));
     stands(&rt, &subscribers, 0, 3, &recalls);
@@ -181,25 +174,7 @@ fn goes_on_where_it_stopped(rt: HostRuntime) {
 #[test]
 fn goes_on_without_the_one_that_failed(rt: HostRuntime) {
     let recalls = three(&rt);
-    let mut subscribers = nobody(rt.alloc());
-    add(
-        &rt,
-        &mut subscribers,
-        Whom::All,
-        notice(&rt, rt.alloc(), &[]),
-    );
-    add(
-        &rt,
-        &mut subscribers,
-        Whom::All,
-        notice(&rt, rt.alloc(), &[2]),
-    );
-    add(
-        &rt,
-        &mut subscribers,
-        Whom::All,
-        notice(&rt, rt.alloc(), &[]),
-    );
+    let mut subscribers = three_listeners(&rt, rt.alloc());
     stop_at_the_second(&rt, &mut subscribers, &recalls);
     leave(&rt, &mut subscribers, 1, &recalls);
     assert!(rt; subscribers.len() == 2);

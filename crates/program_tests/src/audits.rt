@@ -1,6 +1,6 @@
 // Runs of `audit`: journals that are legal for their day files, and each way in which something is not.
 
-use crate::days::{DAYS, ISSUED, MEETING, MET};
+use crate::days::{DAYS, Day, ISSUED, MEETING, MET};
 use crate::runs::ends;
 use std::alloc::Global;
 use std::process::Abort;
@@ -45,10 +45,7 @@ pub(crate) fn audits_legal<R: Abort + Threads + Wait + AllocGlobal + Sync>(
     drop(line);
 }
 
-fn audits_each_legal<R: Abort + Threads + Wait + AllocGlobal + Sync>(
-    rt: &R,
-    days: &[(&str, &str)],
-) {
+fn audits_each_legal<R: Abort + Threads + Wait + AllocGlobal + Sync>(rt: &R, days: &[Day]) {
     for &(input, output) in days {
         audits_legal(rt, output, input);
     }
@@ -95,8 +92,8 @@ const JUDGED: [(&str, u8, &str); 7] = [
 #[test]
 fn judges_what_is_no_legal_journal(rt: HostRuntime) {
     for &(journal, status, line) in &JUDGED {
-        audits(&rt, &[journal, DAYS[ISSUED].0], status, line);
+        audits(&rt, &[journal, ISSUED.0], status, line);
     }
-    audits(&rt, &[DAYS[ISSUED].1], 5, "refused: record 1 end\n");
+    audits(&rt, &[ISSUED.1], 5, "refused: record 1 end\n");
     audits(&rt, &[], 5, "refused: line 1\n");
 }

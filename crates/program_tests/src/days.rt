@@ -1,29 +1,12 @@
 // Day files, each with its journal, for the tests. Those of `examples/` stand there alone: the gate compares what the program
 // writes for them, and audits it.
 
-/// Which of these days is the one with one road and one load.
-pub(crate) const ISSUED: usize = 0;
-
-/// Which of these days is the one with two loads, of which a posting recalls one.
-pub(crate) const RECALLING: usize = 2;
-
-/// Which of these days has a permit that is given back twice.
-pub(crate) const GIVEN_BACK: usize = 3;
-
-/// Which of these days has an allowance that the worst axle group is over.
-pub(crate) const OVER_ALLOWANCE: usize = 4;
-
-/// Which of these days has a bridge that is rated lower.
-pub(crate) const RATED: usize = 6;
-
-/// Which of these days has a permit for a year on two routes.
-pub(crate) const ANNUAL: usize = 9;
-
 /// A day file, and the journal that `day` writes for it.
-pub(crate) const DAYS: [(&str, &str); 10] = [
-    // One road posted at 168 in, and a load as high as that.
-    (
-        "\
+pub(crate) type Day = (&'static str, &'static str);
+
+/// One road posted at 168 in, and a load as high as that.
+pub(crate) const ISSUED: Day = (
+    "\
 day,2026-03-02,,,,,,
 node,A,,,,,,
 node,B,,,,,,
@@ -34,16 +17,17 @@ actor,ann,,,,,,
 apply,ann,T1,A,B,,2026-03-02,2026-03-06
 end,,,,,,,
 ",
-        "\
+    "\
 permit-journal 3
 1 snapshot = at 0
 1 submit truck 1 from 1 to 2 asked none days 2026-03-02 2026-03-06 seen 0 route 1 = issued 1 at 0 route 1
 end 2
 ",
-    ),
-    // The same road and load until a leap day.
-    (
-        "\
+);
+
+// The same road and load until a leap day.
+const ISSUED_TO_A_LEAP_DAY: Day = (
+    "\
 day,2026-03-02,,,,,,
 node,A,,,,,,
 node,B,,,,,,
@@ -54,16 +38,17 @@ actor,ann,,,,,,
 apply,ann,T1,A,B,,2026-03-02,2028-02-29
 end,,,,,,,
 ",
-        "\
+    "\
 permit-journal 3
 1 snapshot = at 0
 1 submit truck 1 from 1 to 2 asked none days 2026-03-02 2028-02-29 seen 0 route 1 = issued 1 at 0 route 1
 end 2
 ",
-    ),
-    // Two loads with a permit, and a posting of 167 in that recalls the higher one's; the same posting again recalls none.
-    (
-        "\
+);
+
+/// Two loads with a permit, and a posting of 167 in that recalls the higher one's; the same posting again recalls none.
+pub(crate) const RECALLING: Day = (
+    "\
 day,2026-03-02,,,,,,
 node,A,,,,,,
 node,B,,,,,,
@@ -79,7 +64,7 @@ show,ann,1,,,,,
 post,ann,S1,height,167,,,
 end,,,,,,,
 ",
-        "\
+    "\
 permit-journal 3
 1 snapshot = at 0
 1 submit truck 1 from 1 to 2 asked none days 2026-03-02 2026-03-06 seen 0 route 1 = issued 1 at 0 route 1
@@ -90,10 +75,11 @@ permit-journal 3
 1 post segment 1 height 167 = posted 2 recalled -
 end 7
 ",
-    ),
-    // A day set back, a permit given back twice, and a permit that was never issued.
-    (
-        "\
+);
+
+/// A day set back, a permit given back twice, and a permit that was never issued.
+pub(crate) const GIVEN_BACK: Day = (
+    "\
 day,2026-03-02,,,,,,
 node,A,,,,,,
 node,B,,,,,,
@@ -108,7 +94,7 @@ surrender,ann,1,,,,,
 show,ann,0,,,,,
 end,,,,,,,
 ",
-        "\
+    "\
 permit-journal 3
 1 snapshot = at 0
 1 submit truck 1 from 1 to 2 asked none days 2026-03-02 2026-03-06 seen 0 route 1 = issued 1 at 0 route 1
@@ -118,10 +104,11 @@ permit-journal 3
 1 show 0 = unknown
 end 6
 ",
-    ),
-    // An allowance that the worst axle group is over.
-    (
-        "\
+);
+
+/// An allowance that the worst axle group is over.
+pub(crate) const OVER_ALLOWANCE: Day = (
+    "\
 day,2026-03-02,,,,,,
 node,A,,,,,,
 node,B,,,,,,
@@ -132,16 +119,17 @@ actor,ann,,,,,,
 apply,ann,FHWA,A,B,,2026-03-02,2026-03-06
 end,,,,,,,
 ",
-        "\
+    "\
 permit-journal 3
 1 snapshot = at 0
 1 submit truck 1 from 1 to 2 asked none days 2026-03-02 2026-03-06 seen 0 cut 1 = refused 0 segment 1 group 2-5 weight 68000 limit 65500 allowance 1038
 end 2
 ",
-    ),
-    // The allowance at which that group passes.
-    (
-        "\
+);
+
+// The allowance at which that group passes.
+const AT_ALLOWANCE: Day = (
+    "\
 day,2026-03-02,,,,,,
 node,A,,,,,,
 node,B,,,,,,
@@ -152,16 +140,17 @@ actor,ann,,,,,,
 apply,ann,FHWA,A,B,,2026-03-02,2026-03-06
 end,,,,,,,
 ",
-        "\
+    "\
 permit-journal 3
 1 snapshot = at 0
 1 submit truck 1 from 1 to 2 asked none days 2026-03-02 2026-03-06 seen 0 route 1 = issued 1 at 0 route 1
 end 2
 ",
-    ),
-    // A bridge rated as the design truck itself, then a thousandth less.
-    (
-        "\
+);
+
+/// A bridge rated as the design truck itself, then a thousandth less.
+pub(crate) const RATED: Day = (
+    "\
 day,2026-03-02,,,,,,
 node,A,,,,,,
 node,B,,,,,,
@@ -174,7 +163,7 @@ post,ann,B1,rating,999,,,
 apply,ann,HS20,A,B,,2026-03-02,2026-03-06
 end,,,,,,,
 ",
-        "\
+    "\
 permit-journal 3
 1 snapshot = at 0
 1 submit truck 1 from 1 to 2 asked none days 2026-03-02 2026-03-06 seen 0 route 1 = issued 1 at 0 route 1
@@ -183,10 +172,11 @@ permit-journal 3
 1 submit truck 1 from 1 to 2 asked none days 2026-03-02 2026-03-06 seen 1 cut 1 = refused 1 segment 1 span 1 moment 1920000/1 hs20 1920000/1 rating 999
 end 5
 ",
-    ),
-    // A truck by the two-tandem exception, which needs no permit.
-    (
-        "\
+);
+
+// A truck by the two-tandem exception, which needs no permit.
+const LEGAL: Day = (
+    "\
 day,2026-03-02,,,,,,
 node,A,,,,,,
 node,B,,,,,,
@@ -197,16 +187,17 @@ actor,ann,,,,,,
 apply,ann,T1,A,B,,2026-03-02,2026-03-06
 end,,,,,,,
 ",
-        "\
+    "\
 permit-journal 3
 1 snapshot = at 0
 1 submit truck 1 from 1 to 2 asked none days 2026-03-02 2026-03-06 seen 0 none = notneeded
 end 2
 ",
-    ),
-    // A trip that would begin before the day.
-    (
-        "\
+);
+
+// A trip that would begin before the day.
+const LATE: Day = (
+    "\
 day,2026-03-02,,,,,,
 node,A,,,,,,
 node,B,,,,,,
@@ -217,16 +208,17 @@ actor,ann,,,,,,
 apply,ann,T1,A,B,,2026-03-01,2026-03-06
 end,,,,,,,
 ",
-        "\
+    "\
 permit-journal 3
 1 snapshot = at 0
 1 submit truck 1 from 1 to 2 asked none days 2026-03-01 2026-03-06 seen 0 route 1 = late 2026-03-02
 end 2
 ",
-    ),
-    // A permit for a year on two routes, of which a posting closes the second.
-    (
-        "\
+);
+
+/// A permit for a year on two routes, of which a posting closes the second.
+pub(crate) const ANNUAL: Day = (
+    "\
 day,2026-03-02,,,,,,
 node,A,,,,,,
 node,B,,,,,,
@@ -240,14 +232,27 @@ apply,ann,T1,A,B,S1|S2 S3,2026-03-02,2027-03-02
 post,ann,S3,closed,1,,,
 end,,,,,,,
 ",
-        "\
+    "\
 permit-journal 3
 1 snapshot = at 0
 1 submit truck 1 from 1 to 2 asked 1/2,3 days 2026-03-02 2027-03-02 seen 0 route 1/2,3 = issued 1 at 0 route 1/2,3
 1 post segment 3 closed 1 = posted 1 recalled 1
 end 3
 ",
-    ),
+);
+
+/// All of these days.
+pub(crate) const DAYS: [Day; 10] = [
+    ISSUED,
+    ISSUED_TO_A_LEAP_DAY,
+    RECALLING,
+    GIVEN_BACK,
+    OVER_ALLOWANCE,
+    AT_ALLOWANCE,
+    RATED,
+    LEGAL,
+    LATE,
+    ANNUAL,
 ];
 
 /// A day file that names 29 February of a year that has none.

@@ -1,7 +1,7 @@
 // Day files as they come in: marked, with other ends of lines, cut off anywhere, and with as many commands as are allowed and one more.
 
-use crate::days::{ANNUAL, DAYS, GIVEN_BACK, ISSUED, OVER_ALLOWANCE, RATED, RECALLING};
-use crate::runs::{ends, run_words};
+use crate::days::{ANNUAL, Day, GIVEN_BACK, ISSUED, OVER_ALLOWANCE, RATED, RECALLING};
+use crate::runs::{ends, holds, run_words};
 use day_text::{Order, read_day};
 use office_words::Command;
 use std::alloc::Global;
@@ -29,8 +29,8 @@ fn kinds(rt: &impl Abort, alloc: Global, orders: &[Order]) -> String {
     kinds
 }
 
-// Which of the days, how many nodes, segments, spans, trucks and actors it has, and the kinds of its commands.
-const READ: [(usize, [usize; 5], &str); 5] = [
+// A day, how many nodes, segments, spans, trucks and actors it has, and the kinds of its commands.
+const READ: [(Day, [usize; 5], &str); 5] = [
     (RECALLING, [2, 1, 0, 2, 1], "aapsp"),
     (GIVEN_BACK, [2, 1, 0, 1, 1], "adggs"),
     (OVER_ALLOWANCE, [2, 1, 0, 1, 1], "a"),
@@ -52,20 +52,15 @@ fn is_read(rt: &impl Abort, alloc: Global, text: &str, wanted: &[usize; 5], lett
     ];
     let kinds = kinds(rt, alloc, file.commands());
     drop(file);
-    assert!(rt; date.as_slice() == b"2026-03-02".as_slice(), "{text}");
-    assert!(rt; found == *wanted && kinds.as_str() == letters, "{text}");
-}
-
-fn are_read(rt: &impl Abort, alloc: Global, days: &[(&str, &str)]) {
-    for (day, counts, letters) in &READ {
-        let (input, _) = days.get(*day).expect(rt, letters);
-        is_read(rt, alloc, input, counts, letters);
-    }
+    holds(rt, date.as_slice() == b"2026-03-02".as_slice(), text);
+    holds(rt, found == *wanted && kinds.as_str() == letters, text);
 }
 
 #[test]
 fn reads_what_each_day_has(rt: HostRuntime) {
-    are_read(&rt, rt.alloc(), &DAYS);
+    for ((text, _), counts, letters) in &READ {
+        is_read(&rt, rt.alloc(), text, counts, letters);
+    }
 }
 
 // A text behind a mark, with these bytes where its lines end.
@@ -90,7 +85,7 @@ const WRITTEN: [(&[u8], &[u8]); 3] = [
 // Runs a day as it may be written: its journal is the same.
 fn ends_as_written<R: Abort + Threads + Wait + AllocGlobal + Sync>(
     rt: &R,
-    day: (&str, &str),
+    day: Day,
     written_as: (&[u8], &[u8]),
 ) {
     let (mark, end) = written_as;
@@ -101,7 +96,7 @@ fn ends_as_written<R: Abort + Threads + Wait + AllocGlobal + Sync>(
 #[test]
 fn takes_a_mark_and_other_ends_of_lines(rt: HostRuntime) {
     for &form in &WRITTEN {
-        ends_as_written(&rt, DAYS[ISSUED], form);
+        ends_as_written(&rt, ISSUED, form);
     }
 }
 
@@ -116,14 +111,14 @@ fn ends_cut<R: Abort + Threads + Wait + AllocGlobal + Sync>(
         ends(rt, &["day"], front, 0, output);
     } else {
         let ran = run_words(rt, &["day"], front, &[], &[]);
-        assert!(rt; ran.status == 5, "{left}");
-        assert!(rt; ran.text.starts_with(b"refused: record "), "{left}");
+        let is_refused = ran.text.starts_with(b"refused: record ");
+        assert!(rt; ran.status == 5 && is_refused, "{left}");
     }
 }
 
 #[test]
 fn refuses_each_front_of_a_day(rt: HostRuntime) {
-    let (input, output) = DAYS[ISSUED];
+    let (input, output) = ISSUED;
     let input = input.as_bytes();
     for length in 0..=input.len() {
         ends_cut(&rt, &input[..length], input.len() - length, output);

@@ -7,9 +7,8 @@ use crate::runs::{FHWA, ends};
 // are closed in turn. In the second the permit is for both ways, so that closing the longer one recalls it; the replacement goes the
 // shorter way, is recalled a day before its last and replaced once more; what was refused is not tried again when its way opens. In
 // the third there is no other way, and in the last there is nothing.
-const DAYS: [(&str, &str); 4] = [
-    (
-        "\
+const BOTH_CLOSED: (&str, &str) = (
+    "\
 day,2026-03-02,,,,,,
 node,A,,,,,,
 node,B,,,,,,
@@ -24,11 +23,14 @@ post,ann,S1,closed,1,,,
 post,ann,S3,closed,1,,,
 end,,,,,,,
 ",
-        "\
+    "\
 permit 1 replaced 2 at 1 route 2,3
 permit 2 refused 2 segment 1 closed
 ",
-    ),
+);
+
+const DAYS: [(&str, &str); 4] = [
+    BOTH_CLOSED,
     (
         "\
 day,2026-03-02,,,,,,
@@ -79,6 +81,6 @@ fn refuses_what_is_no_day(rt: HostRuntime) {
 
 #[test]
 fn reads_options_and_uses_none(rt: HostRuntime) {
-    let (input, report) = DAYS[0];
+    let (input, report) = BOTH_CLOSED;
     ends(&rt, &["reroute", "--gap", "7"], input.as_bytes(), 0, report);
 }

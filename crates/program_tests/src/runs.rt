@@ -181,10 +181,15 @@ fn list_of(rt: &impl Abort, alloc: Global, words: &[&str]) -> Vec<String> {
     list
 }
 
+// What is said of a text is so.
+pub(crate) fn holds(rt: &impl Abort, fact: bool, text: &str) {
+    assert!(rt; fact, "{text}");
+}
+
 // That a run ends with this status and writes this text.
 fn same(rt: &impl Abort, ran: &Ran, status: u8, text: &str) {
-    assert!(rt; ran.status == status, "{text}");
-    assert!(rt; ran.text.as_slice() == text.as_bytes(), "{text}");
+    holds(rt, ran.status == status, text);
+    holds(rt, ran.text.as_slice() == text.as_bytes(), text);
 }
 
 // The same of a run of these words over this input.
@@ -301,9 +306,8 @@ fn faults_at<R: Abort + Threads + Wait + AllocGlobal + Sync>(
     let ran = run_words(rt, &[word], input.as_bytes(), &[read], &[write]);
     let (found, is_empty) = (ran.status, ran.text.is_empty());
     drop(ran);
-    assert!(rt; found == status, "{word}, read {read}, write {write}");
     assert!(rt;
-        is_empty == (status != 0),
+        found == status && is_empty == (status != 0),
         "{word}, read {read}, write {write}"
     );
 }
@@ -314,8 +318,8 @@ fn answers_a_fault_at_each_call(rt: HostRuntime) {
         faults_at(&rt, "check", FHWA, fault);
         faults_at(&rt, "design", HS20, fault);
         faults_at(&rt, "convoy", HS20, fault);
-        faults_at(&rt, "day", DAYS[ISSUED].0, fault);
-        faults_at(&rt, "reroute", DAYS[RECALLING].0, fault);
+        faults_at(&rt, "day", ISSUED.0, fault);
+        faults_at(&rt, "reroute", RECALLING.0, fault);
     }
 }
 
@@ -330,7 +334,7 @@ const REFUSED_IN_VAIN: [(&[&str], &str, u32, u8); 3] = [
 fn keeps_its_status_where_the_refusal_is_not_written(rt: HostRuntime) {
     for &(words, input, read, status) in &REFUSED_IN_VAIN {
         let ran = run_words(&rt, words, input.as_bytes(), &[read], &[1]);
-        assert!(rt; ran.status == status, "{input}");
+        holds(&rt, ran.status == status, input);
     }
 }
 
@@ -402,7 +406,7 @@ fn hear<R: Abort + Threads + Wait + AllocGlobal + Sync>(
 // journal was written.
 #[test]
 fn tells_of_recalls(rt: HostRuntime) {
-    let (input, output) = DAYS[RECALLING];
+    let (input, output) = RECALLING;
     let (ran, heard) = hear(&rt, input, &[], &[]);
     same(&rt, &ran, 0, output);
     assert_eq!(rt; heard.len(), 1);
@@ -415,7 +419,7 @@ fn tells_of_recalls(rt: HostRuntime) {
 // Where it can't be told the status is 8, and the journal stands.
 #[test]
 fn ends_with_8_where_nobody_hears(rt: HostRuntime) {
-    let (input, output) = DAYS[RECALLING];
+    let (input, output) = RECALLING;
     let (ran, heard) = hear(&rt, input, &[1], &[]);
     same(&rt, &ran, 8, output);
     assert!(rt; heard.is_empty());
@@ -424,7 +428,7 @@ fn ends_with_8_where_nobody_hears(rt: HostRuntime) {
 // A later delivery of the same recalls to the same subscribers tells them.
 #[test]
 fn tells_later_what_was_not_heard(rt: HostRuntime) {
-    let (input, output) = DAYS[RECALLING];
+    let (input, output) = RECALLING;
     let (ran, recalls) = hear(&rt, input, &[], &[]);
     same(&rt, &ran, 0, output);
     let (ran, heard) = hear(&rt, input, &[1], &recalls);
@@ -545,7 +549,7 @@ fn runs_sixteen_actors(rt: HostRuntime) {
     let ran = run_words(&rt, &["day"], SIXTEEN.as_bytes(), &[], &[]);
     assert_eq!(rt; ran.status, 0);
     for &line in &SHOWN {
-        assert!(rt; lines_like(&ran.text, line) == 1, "{line}");
+        holds(&rt, lines_like(&ran.text, line) == 1, line);
     }
 }
 

@@ -140,7 +140,7 @@ fn too_many(row: u64, kind: Kind) -> Option<FileRefusal> {
 fn refuse(rt: &impl Abort, alloc: Global, rows: &[(&str, RecordCause)]) {
     for (row, &(record, cause)) in rows.iter().enumerate() {
         let text = format!(in alloc; "{BEGUN}{record}").expect(rt, "memory");
-        same(rt, row, &refusal(alloc, text.as_bytes()), &bad(10, cause));
+        same(rt, row, refusal(alloc, text.as_bytes()), bad(10, cause));
     }
 }
 
@@ -352,7 +352,7 @@ const ANNUAL: [(&str, &str, RecordCause); 15] = [
 fn refuses_routes_of_another_form_or_for_too_long(rt: HostRuntime) {
     for (row, &(routes, last, cause)) in ANNUAL.iter().enumerate() {
         let found = day_of_routes(&rt, rt.alloc(), routes, last).err();
-        same(&rt, row, &found, &bad(10, cause));
+        same(&rt, row, found, bad(10, cause));
     }
 }
 
@@ -430,7 +430,7 @@ const PLACES: [Refused; 9] = [
 #[test]
 fn refuses_what_stands_at_no_place(rt: HostRuntime) {
     for (number, &(text, row, cause)) in PLACES.iter().enumerate() {
-        same(&rt, number, &refusal(rt.alloc(), text), &bad(row, cause));
+        same(&rt, number, refusal(rt.alloc(), text), bad(row, cause));
     }
 }
 
@@ -463,10 +463,10 @@ end,,,,,,,
 #[test]
 fn refuses_the_first_record_that_is_bad(rt: HostRuntime) {
     let taken = refusal_with(&rt, rt.alloc(), AXLES, "A,B,S1");
-    same(&rt, 0, &taken, &None);
+    same(&rt, 0, taken, None);
     for (number, &(axles, trip, row, cause)) in CHANGED.iter().enumerate() {
         let found = refusal_with(&rt, rt.alloc(), axles, trip);
-        same(&rt, number, &found, &bad(row, cause));
+        same(&rt, number, found, bad(row, cause));
     }
 }
 
@@ -482,7 +482,7 @@ fn refuses_each_front_of_a_day(rt: HostRuntime) {
             Some(FileRefusal::Refused { cause, .. }) => !taken && matches!(cause, Cause::Bad(_)),
             Some(_) => false,
         };
-        same(&rt, length, &is_so, &true);
+        same(&rt, length, is_so, true);
     }
 }
 
@@ -496,28 +496,37 @@ fn add_records(rt: &impl Abort, text: &mut String, before: &str, after: &str, co
 // A day record and one actor.
 const NOTHING_BEGUN: &str = "day,2026-03-02,,,,,,\nactor,ann,,,,,,\n";
 
-// The records that stand first; what stands in a record before its number and behind it; how many of these are allowed more; and
-// their kind.
-const ROOMS: [(&str, &str, &str, u32, Kind); 7] = [
-    (BEGUN, "node,n", ",,,,,,", 4_093, Kind::Nodes),
-    (BEGUN, "segment,s", ",A,A,1,,,", 16_382, Kind::Segments),
-    (BEGUN, "span,p", ",S,1,0,,,", 15, Kind::SpansOfSegment),
-    (BEGUN, "truck,t", ",ACME,1,1,1,0:1 1:1,", 63, Kind::Trucks),
-    (BEGUN, "actor,a", ",,,,,,", 15, Kind::Actors),
-    (BEGUN, "show,ann,", ",,,,,", 4_096, Kind::Commands),
-    (NOTHING_BEGUN, "show,ann,", ",,,,,", 4_096, Kind::Commands),
+// What stands in a record before its number and behind it; how many of these are allowed more; and their kind.
+type Room = (&'static str, &'static str, u32, Kind);
+
+const ROOMS: [Room; 6] = [
+    ("node,n", ",,,,,,", 4_093, Kind::Nodes),
+    ("segment,s", ",A,A,1,,,", 16_382, Kind::Segments),
+    ("span,p", ",S,1,0,,,", 15, Kind::SpansOfSegment),
+    ("truck,t", ",ACME,1,1,1,0:1 1:1,", 63, Kind::Trucks),
+    ("actor,a", ",,,,,,", 15, Kind::Actors),
+    SHOWS,
 ];
 
-// As many as are allowed are taken, and the next is refused.
+const SHOWS: Room = ("show,ann,", ",,,,,", 4_096, Kind::Commands);
+
+// As many as are allowed behind these records are taken, and the next is refused.
+fn has_room(rt: &impl Abort, alloc: Global, begun: &str, more: &Room) {
+    let &(before, after, room, kind) = more;
+    let mut text = begun.to_string(alloc).expect(rt, "memory");
+    add_records(rt, &mut text, before, after, room.wrapping_add(1));
+    let found = refusal(alloc, text.as_bytes());
+    drop(text);
+    let last = begun.lines().count() as u64 + u64::from(room) + 1;
+    holds(rt, found == too_many(last, kind), before);
+}
+
 #[test]
 fn counts_records_of_a_kind(rt: HostRuntime) {
-    for (row, &(begun, before, after, room, kind)) in ROOMS.iter().enumerate() {
-        let mut text = begun.to_string(rt.alloc()).expect(&rt, "memory");
-        add_records(&rt, &mut text, before, after, room.wrapping_add(1));
-        let last = begun.lines().count() as u64 + u64::from(room) + 1;
-        let found = refusal(rt.alloc(), text.as_bytes());
-        same(&rt, row, &found, &too_many(last, kind));
+    for room in &ROOMS {
+        has_room(&rt, rt.alloc(), BEGUN, room);
     }
+    has_room(&rt, rt.alloc(), NOTHING_BEGUN, &SHOWS);
 }
 
 // 129 segments, 128 of them with 16 spans each and the last with one.
@@ -531,7 +540,7 @@ fn counts_spans(rt: HostRuntime) {
         write!(text, "span,p{i},s{segment},1,0,,,\n").expect(&rt, "memory");
     }
     let found = refusal(rt.alloc(), text.as_bytes());
-    same(&rt, 0, &found, &too_many(2_180, Kind::Spans));
+    same(&rt, 0, found, too_many(2_180, Kind::Spans));
 }
 
 const CHECKS: [Refused; 13] = [
@@ -578,7 +587,7 @@ const CHECKS: [Refused; 13] = [
 fn refuses_what_is_no_check_file(rt: HostRuntime) {
     for (number, &(text, row, cause)) in CHECKS.iter().enumerate() {
         let found = read_check(rt.alloc(), text).err();
-        same(&rt, number, &found, &bad(row, cause));
+        same(&rt, number, found, bad(row, cause));
     }
 }
 
@@ -588,5 +597,5 @@ fn takes_a_check_file(rt: HostRuntime) {
     let file = read_check(rt.alloc(), text).expect(&rt, "a check file");
     let probes = file.probes.as_slice().len();
     drop(file);
-    same(&rt, 0, &probes, &1);
+    same(&rt, 0, probes, 1);
 }

@@ -4,7 +4,7 @@ use std::fmt::Debug;
 use std::process::Abort;
 
 // What is found is what a row of a table says.
-pub fn same<T: PartialEq + Debug>(rt: &impl Abort, row: usize, found: &T, wanted: &T) {
+pub fn same<T: PartialEq + Debug + Copy>(rt: &impl Abort, row: usize, found: T, wanted: T) {
     assert_eq!(rt; found, wanted, "row {row}");
 }
 

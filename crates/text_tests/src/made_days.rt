@@ -37,5 +37,5 @@ fn is_read_as_a_day_file(rt: HostRuntime) {
         file.commands().len(),
     ];
     drop(file);
-    same(&rt, 0, &counts, &[4, 4, 60]);
+    same(&rt, 0, counts, [4, 4, 60]);
 }

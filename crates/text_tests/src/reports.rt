@@ -133,7 +133,7 @@ fn judges_by_the_effects_that_aashto_prints(rt: HostRuntime) {
         assert!(rt; 1 <= feet && feet <= 500);
         let found = effects(12 * feet);
         // A tenth of a foot-kip is 1,200 pounds times inches, and a tenth of a kip is 100 pounds.
-        same(&rt, row, &is_near(&rt, found.moment, 1200, moment), &true);
-        same(&rt, row, &is_near(&rt, found.shear, 100, shear), &true);
+        same(&rt, row, is_near(&rt, found.moment, 1200, moment), true);
+        same(&rt, row, is_near(&rt, found.shear, 100, shear), true);
     }
 }

@@ -1,12 +1,17 @@
 use day_reroute::serve_rerouted;
 use day_text::read_day;
 use journal_text::print;
+use std::alloc::Global;
+use std::process::Abort;
 
 // Each day has one actor, so the desk calls as number 2. Its truck is 168 in high, so it needs a permit. S1 leads from A to B, S2
 // and S3 lead around it, and S4 is a longer way.
 
+// A day on which recalled permits are replaced, and the journal of its history.
+type Served = (&'static [u8], &'static [u8]);
+
 // The way of permit 1 is closed, so permit 2 takes its place along the way around. That is closed too, and no way is left.
-const REPLACED: (&[u8], &[u8]) = (
+const REPLACED: Served = (
     b"day,2026-03-02,,,,,,
 node,A,,,,,,
 node,B,,,,,,
@@ -33,7 +38,7 @@ end 6
 );
 
 // Nothing is posted, so the desk asks for nothing.
-const UNPOSTED: (&[u8], &[u8]) = (
+const UNPOSTED: Served = (
     b"day,2026-03-02,,,,,,
 node,A,,,,,,
 node,B,,,,,,
@@ -53,7 +58,7 @@ end 3
 );
 
 // A replacement is recalled and replaced in turn. It belongs to the desk, so nobody else can give it back.
-const REPLACED_TWICE: (&[u8], &[u8]) = (
+const REPLACED_TWICE: Served = (
     b"day,2026-03-02,,,,,,
 node,A,,,,,,
 node,B,,,,,,
@@ -83,7 +88,7 @@ end 7
 );
 
 // Two permits are recalled at once, on a later day. The first began before it, and its replacement begins on it.
-const LATER: (&[u8], &[u8]) = (
+const LATER: Served = (
     b"day,2026-03-02,,,,,,
 node,A,,,,,,
 node,B,,,,,,
@@ -110,14 +115,19 @@ end 8
 ",
 );
 
-// A day on which recalled permits are replaced, and the journal of its history.
+const SERVED: [Served; 4] = [REPLACED, UNPOSTED, REPLACED_TWICE, LATER];
+
+fn serves(rt: &impl Abort, alloc: Global, day: &[u8], journal: &[u8]) {
+    let file = read_day(alloc, day).expect(rt, "a day file");
+    let office = serve_rerouted(alloc, file).expect(rt, "memory");
+    let text = print(alloc, office.history()).expect(rt, "memory");
+    drop(office);
+    assert!(rt; text.as_slice() == journal);
+}
+
 #[test]
 fn replaces_what_each_command_recalled(rt: HostRuntime) {
-    for (day, journal) in [REPLACED, UNPOSTED, REPLACED_TWICE, LATER] {
-        let file = read_day(rt.alloc(), day).expect(&rt, "a day file");
-        let office = serve_rerouted(rt.alloc(), file).expect(&rt, "memory");
-        let text = print(rt.alloc(), office.history()).expect(&rt, "memory");
-        drop(office);
-        assert!(rt; text.as_slice() == journal);
+    for &(day, journal) in &SERVED {
+        serves(&rt, rt.alloc(), day, journal);
     }
 }

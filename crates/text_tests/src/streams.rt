@@ -52,7 +52,7 @@ fn takes_all_bytes_up_to_the_limit_or_one_more(rt: HostRuntime) {
         let one = read_len(&rt, rt.alloc(), &mut source, limit);
         let other = read_len(&rt, rt.alloc(), &mut source, 10);
         drop(source);
-        same(&rt, row, &(one, other), &(first, Ok(second)));
+        same(&rt, row, (one, other), (first, Ok(second)));
     }
 }
 
@@ -68,7 +68,7 @@ fn hands_on_a_fault_of_each_read(rt: HostRuntime) {
         } else {
             Ok(20_000)
         };
-        same(&rt, call as usize, &read, &wanted);
+        same(&rt, call as usize, read, wanted);
     }
 }
 
@@ -86,7 +86,7 @@ fn appends_what_there_is_room_for(rt: HostRuntime) {
     let failing = [2].to_vec(rt.alloc()).expect(&rt, "memory");
     let mut sink = MemorySink::new(rt.alloc(), 5, failing).expect(&rt, "memory");
     for (row, &(bytes, answer)) in WRITTEN.iter().enumerate() {
-        same(&rt, row, &write_all(&mut sink, bytes), &answer);
+        same(&rt, row, write_all(&mut sink, bytes), answer);
     }
     let is_all = sink.bytes() == b"abcde".as_slice();
     drop(sink);
@@ -99,7 +99,7 @@ fn tells_how_much_was_written(rt: HostRuntime) {
     let answer = write_all(&mut sink, b"abc");
     let is_front = sink.bytes() == b"ab".as_slice();
     drop(sink);
-    same(&rt, 0, &answer, &Err(WriteFault { written: 2 }));
+    same(&rt, 0, answer, Err(WriteFault { written: 2 }));
     assert!(rt; is_front);
 }
 
@@ -117,9 +117,9 @@ fn adapts_a_reader(rt: HostRuntime) {
 fn adapts_a_writer(rt: HostRuntime) {
     let mut room = [0u8; 2];
     let mut sink = StdSink::new(&mut room[..]);
-    same(&rt, 0, &sink.write(b"ab"), &Ok(2));
-    same(&rt, 1, &sink.write(b""), &Ok(0));
-    same(&rt, 2, &sink.write(b"c"), &Err(Failed));
+    same(&rt, 0, sink.write(b"ab"), Ok(2));
+    same(&rt, 1, sink.write(b""), Ok(0));
+    same(&rt, 2, sink.write(b"c"), Err(Failed));
 }
 
 // Whether a text is a name, which then has its bytes.

@@ -77,7 +77,7 @@ fn asks_for_a_task_with_its_numbers(rt: HostRuntime) {
             gap,
         };
         let wanted = Ok(Asked { task, options });
-        same(&rt, row, &read(&rt, rt.alloc(), words), &wanted);
+        same(&rt, row, read(&rt, rt.alloc(), words), wanted);
     }
 }
 
@@ -129,8 +129,8 @@ fn refuses_what_the_command_line_does_not_take(rt: HostRuntime) {
         same(
             &rt,
             row,
-            &read(&rt, rt.alloc(), words),
-            &Err(WordsRefusal::Usage),
+            read(&rt, rt.alloc(), words),
+            Err(WordsRefusal::Usage),
         );
     }
 }
