@@ -44,7 +44,7 @@ use Rattle.day_text.specs.Bounds.{AreAskedRoutes}
 use Rattle.office_core.specs.Machine.{IsAnswer, IsGood, IsLegalFrom, Machine, MayAsk, after, after_entry, opened, posted_reply, recalled_with, reply_in, state_at, state_in, state_with, trip_for, version_of, with_day, with_permit, with_posting, with_surrender}
 use Rattle.office_core.specs.Recalls.{is_recalled, recalled_if}
 use Rattle.office_core.specs.Replies.{day_reply, early_reply, show_reply, shown, surrender_reply}
-use Rattle.office_core.proofs.Cases.{apply_found, none_early}
+use Rattle.office_core.proofs.Cases.{apply_found, given, held_given, none_early}
 use Rattle.office_core.proofs.Founds.{of_base}
 use Rattle.office_core.proofs.Goods.{good_after}
 use Rattle.office_core.proofs.Lasting.{numbers_of}
@@ -249,25 +249,18 @@ module _ (base : BaseLists) (roads : IsRoads base.roads) (fleet : IsBase base) (
             let p = h.each (number - 1) no_permit (omega (arith, some, within)) in
             (omega (arith, within, h.permits), p.caller, p.truck, p.first, p.last, p.version, p.seen, status_fits (permit_of m.permits number).mark (permit_of m.permits number).trip.last m.day p.mark)
 
-    answered : {N : Type 0} (x r : Reply) → FitsReply x → (r ≡ x) ⊎ ((r ≡ reply.NoMemory) × N) → FitsReply r
-    answered x r fits (inl e) = subst FitsReply (sym e) fits
-    answered x r fits (inr e) = subst FitsReply (sym e.0) tt
-
-    held_fits : (caller : ℕ) (a : Application) (r : Reply) → IsRequest a → Sound base a → IsAnswer base m caller (call.Held a) r → FitsReply r
-    held_fits caller a r request sound (inl g) = subst FitsReply (sym g.2) (found_fits a g.0 sound.truck (λ early. known (state_in base m) a g.0 sound request.asked (g.1 early)))
-    held_fits caller a r request sound (inr e) = subst FitsReply (sym e.0) tt
-
     reply_fits : (caller : ℕ) (c : Call) (r : Reply) → IsAsked c → MayAsk base m c → IsAnswer base m caller c r → FitsReply r
-    reply_fits caller call.Snapshot r asked may is = answered (reply.SnapshotAt (version_of m)) r version_fits is
+    reply_fits caller call.Snapshot r asked may is = given FitsReply (reply.SnapshotAt (version_of m)) r version_fits tt is
     reply_fits caller (call.Submit a p) r asked may is =
-        answered (reply_in base m a p.what) r (found_fits a p.what may.sound.truck (λ _. known (state_at base m p.seen) a p.what may.sound asked.asked may.found)) is
-    reply_fits caller (call.Held a) r asked may is = held_fits caller a r asked may is
+        given FitsReply (reply_in base m a p.what) r (found_fits a p.what may.sound.truck (λ _. known (state_at base m p.seen) a p.what may.sound asked.asked may.found)) tt is
+    reply_fits caller (call.Held a) r asked may is =
+        held_given FitsReply base m caller a r (λ w held. found_fits a w may.truck (λ early. known (state_in base m) a w may asked.asked (held early))) tt is
     reply_fits caller (call.Post change) r asked may is =
-        answered (posted_reply base m change) r (pick FitsReply (takes base.roads change) (reply.Posted (version_of m + 1) (recalled_with base m change)) reply.OutOfRange (λ _. (omega (arith, h.postings), recalled_fit change)) (λ _. tt)) is
+        given FitsReply (posted_reply base m change) r (pick FitsReply (takes base.roads change) (reply.Posted (version_of m + 1) (recalled_with base m change)) reply.OutOfRange (λ _. (omega (arith, h.postings), recalled_fit change)) (λ _. tt)) tt is
     reply_fits caller (call.Day day) r asked may is =
-        answered (day_reply m.day day) r (pick FitsReply (is_before day m.day) (reply.DayBack m.day) (reply.DayIs day) (λ _. h.day) (λ _. asked)) is
-    reply_fits caller (call.Surrender number) r asked may is = answered (surrender_reply m.permits m.day caller number) r (surrender_fits caller number) is
-    reply_fits caller (call.Show number) r asked may is = answered (show_reply m.permits m.day number) r (show_fits number) is
+        given FitsReply (day_reply m.day day) r (pick FitsReply (is_before day m.day) (reply.DayBack m.day) (reply.DayIs day) (λ _. h.day) (λ _. asked)) tt is
+    reply_fits caller (call.Surrender number) r asked may is = given FitsReply (surrender_reply m.permits m.day caller number) r (surrender_fits caller number) tt is
+    reply_fits caller (call.Show number) r asked may is = given FitsReply (show_reply m.permits m.day number) r (show_fits number) tt is
 
     call_fits : (c : Call) → IsAsked c → MayAsk base m c → FitsCall c
     call_fits call.Snapshot asked may = tt
