@@ -9,10 +9,10 @@ use Rattle.office_words.specs.declared.entry.Reply.{Reply}
 use Rattle.office_words.specs.declared.entry.Reply.TheVariants as reply
 use Rattle.office_core.specs.Calls.{Calling}
 use Rattle.office_core.specs.Replies.{is_full}
-use Rattle.command_calls.specs.Leaves.{CarriedOut, Grew}
-use Rattle.command_calls.specs.Unfolds.{AreFinished, IsFinished, Unfolds, WentTo}
-use Rattle.command_calls.proofs.Growing.{caller_of, grew_join, grew_nothing}
-use Rattle.command_calls.proofs.Runs.{finished_by, finished_more}
+use Rattle.analyst_pool.specs.Leaves.{CarriedOut, Grew}
+use Rattle.analyst_pool.specs.Unfolds.{AreFinished, IsFinished, Unfolds, WentTo}
+use Rattle.analyst_pool.proofs.Growing.{caller_of, grew_join, grew_nothing}
+use Rattle.analyst_pool.proofs.Runs.{finished_by, finished_more}
 
 module _ {P : Type 0} where
   -- so many commands of a script were finished

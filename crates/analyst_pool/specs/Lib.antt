@@ -1,5 +1,10 @@
 pub mod Ran
+pub mod Unfolds
+pub mod Leaves
+pub mod Following
+pub mod Attempts
+pub mod Laws
+pub mod Interrupted
 pub use Rattle.office_core.specs.Calls
 pub use Rattle.office_words.specs.Commands
-pub use Rattle.command_calls.specs.Unfolds
-pub use Rattle.command_calls.specs.Leaves
+pub use Rattle.office_core.specs.Machine

@@ -1,6 +1,6 @@
 -- What a worker has done.
 use Rattle.std.specs.Prelude.{◌≡◌, ◌≢◌, ◌≤◌, [], ℕ, List, Option, Some, All, vec_len}
-use Rattle.fleet.specs.Bases.{BaseLists}
+use Rattle.trip_analysis.specs.Bases.{BaseLists}
 use Rattle.office_words.specs.declared.entry.Command.{Command}
 use Rattle.office_words.specs.declared.entry.Entry.{Entry}
 use Rattle.office_core.specs.Calls.{Calling}
@@ -8,8 +8,8 @@ use Rattle.analyst_pool.specs.declared.worker.Outcome.{Outcome}
 use Rattle.analyst_pool.specs.declared.worker.Outcome.TheVariants as outcome
 use Rattle.analyst_pool.specs.declared.worker.Worker.{Worker}
 use Rattle.office_words.specs.Commands.{MayCarryOut}
-use Rattle.command_calls.specs.Leaves.{Grew}
-use Rattle.command_calls.specs.Unfolds.{AreFinished, IsBrokenOff, IsStopped, WentTo}
+use Rattle.analyst_pool.specs.Leaves.{Grew}
+use Rattle.analyst_pool.specs.Unfolds.{AreFinished, IsBrokenOff, IsStopped, WentTo}
 
 -- the entries that a script adds with this outcome, to the own entries of calls that are then full so
 abbrev pub AddsEntries : ℕ → List Command → Outcome → List Entry → Option ℕ → Type 0

@@ -4,17 +4,20 @@ ghost use Rattle.std.specs.Prelude.{◌≡◌, ◌<◌, ◌≤◌, ℕ, length, 
 ghost use Rattle.analyst_pool.specs.declared.worker.Outcome.TheVariants as outcome;
 ghost use Rattle.analyst_pool.specs.declared.worker.Worker.{Worker};
 ghost use Rattle.office_words.specs.Commands.{MayCarryOut};
-ghost use Rattle.command_calls.specs.Following.{MayFollow};
+ghost use Rattle.analyst_pool.specs.Following.{MayFollow};
 ghost use Rattle.analyst_pool.specs.Ran.{CarriedOutAll, HasNotBegun, Ran};
 
-use command_calls::{Errand, Finder, Gate, carry_out};
-use fleet::Base;
+use crate::deciding::carry_out;
+use crate::errand::Errand;
+use crate::finder::Finder;
+use crate::gate::Gate;
 use office_core::OfficeCalls;
 use office_words::{Command, Reply};
 use std::alloc::Global;
 use std::marker::Brand;
 use std::sync::ledger::{Blank, Ledger};
 use std::thread::{Threads, for_each_mut};
+use trip_analysis::Base;
 
 /// How far a worker came with its script. Commands are numbered from 0.
 #[derive(Clone, Copy, PartialEq, Eq)]

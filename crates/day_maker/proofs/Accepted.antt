@@ -4,10 +4,9 @@ use Rattle.std.specs.Prelude.{codes}
 use Rattle.csv.specs.Records.{field_at}
 use Rattle.csv.specs.Reading.{strip_bom}
 use Rattle.csv.specs.Writing.{fields_text, is_blank}
-use Rattle.record_text.specs.Causes.{◌>>=◌}
-use Rattle.record_text.specs.Records.{Row, rows_of}
+use Rattle.day_text.specs.Causes.{◌>>=◌}
+use Rattle.day_text.specs.Records.{Row, rows_of, judged}
 use Rattle.day_text.specs.Days.{DayParts, day_of, ended_day, judge_day, fresh_day, opening_of, file_parts_of}
-use Rattle.record_text.specs.Records.{judged}
 use Rattle.day_maker.specs.Making.{Maker, ◌>>◌}
 use Rattle.day_maker.specs.Made.{actors, commands, last_record, made_day, made_rows, nodes, segments, spans, trucks}
 use Rattle.day_maker.specs.Texts.{line, row}

@@ -13,7 +13,7 @@ use Rattle.std.proofs.lemmas.Bool.{le-leb, le-ltb, ne_eqb}
 use Rattle.axle_train.specs.declared.axle.Axle.{Axle}
 use Rattle.axle_train.specs.Refusals.{place_fault, refusal_of, rise_fault, weight_fault}
 use Rattle.axle_train.specs.Trains.{axle_at}
-use Rattle.record_text.specs.Fields.{axle_of, axles_of, of_each}
+use Rattle.day_text.specs.Fields.{axle_of, axles_of, of_each}
 use Rattle.day_maker.specs.Made.{axle_text, axles, axles_text, more_axles}
 use Rattle.day_maker.specs.Making.{drawn}
 use Rattle.day_maker.proofs.Leaves.{number_ok}

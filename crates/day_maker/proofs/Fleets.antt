@@ -10,8 +10,8 @@ use Rattle.csv.specs.Records.{field_at}
 use Rattle.axle_train.specs.declared.axle.Axle.{Axle}
 use Rattle.axle_train.specs.Refusals.{refusal_of}
 use Rattle.road_graph.specs.Roads.{has_name, segment_names}
-use Rattle.fleet.specs.declared.base.Truck.{Truck}
-use Rattle.record_text.specs.Fields.{name_field}
+use Rattle.trip_analysis.specs.declared.base.Truck.{Truck}
+use Rattle.day_text.specs.Fields.{name_field}
 use Rattle.day_text.specs.Days.{judge_day}
 use Rattle.day_text.specs.Fleets.{actors_of, fleet_of, truck_names}
 use Rattle.day_text.specs.Trucks.{load_of, truck_fields_of}

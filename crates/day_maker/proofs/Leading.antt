@@ -1,8 +1,8 @@
 -- Where what is made leads the judge of day files, whatever is drawn.
 use Rattle.std.proofs.Common.{◌≡◌, ◌∙◌, ◌<◌, ◌≤◌, ◌+◌, ◌%◌, ◌∷◌, ◌++◌, [], ℕ, zero, suc, List, Result, Ok, Err, Bool, true, false, refl, ap, subst, arith}
 use Rattle.std.specs.List.{AllByRecursion}
-use Rattle.record_text.specs.Records.{Row, go_on, judge_record, judged}
-use Rattle.record_text.specs.declared.refusal.Cause.{Cause}
+use Rattle.day_text.specs.Records.{Row, go_on, judge_record, judged}
+use Rattle.day_text.specs.declared.refusal.Cause.{Cause}
 use Rattle.day_text.specs.Days.{DayParts, ended_day, judge_day}
 use Rattle.day_maker.specs.Making.{Draws, Maker, ◌>>◌, drawn, each, nothing, put, when}
 use Rattle.day_maker.proofs.Judge.{DayProgress, DaySoFar, open_day}

@@ -12,8 +12,8 @@ use Rattle.std.proofs.lemmas.List.Folds.{list_all-append}
 use Rattle.std.proofs.lemmas.List.Splits.{slice_split_at, slice_split_none}
 use Rattle.std.proofs.lemmas.Str.Parse.{digit_at, digit_from_value}
 use Rattle.names.specs.Names.{is_name_byte}
-use Rattle.record_text.specs.Fields.{name_field, number_field}
-use Rattle.record_text.proofs.Numbers.{number_read}
+use Rattle.day_text.specs.Fields.{name_field, number_field}
+use Rattle.day_text.proofs.Numbers.{number_read}
 use Rattle.day_maker.specs.Made.{cell, numbered_name}
 
 -- what holds of each digit holds of a number's text

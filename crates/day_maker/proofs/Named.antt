@@ -5,8 +5,7 @@ use Rattle.std.specs.List.{AllByRecursion}
 use Rattle.std.specs.Str.{bytes_eq}
 use Rattle.std.proofs.lemmas.Bool.Decides.{nat_tests}
 use Rattle.std.proofs.lemmas.Slice.Eq.{bytes_eq-Decides}
-use Rattle.road_graph.specs.Roads.{has_name}
-use Rattle.road_graph.specs.Roads.{number_of as number_named}
+use Rattle.road_graph.specs.Roads.{has_name, number_of as number_named}
 
 -- the place of a name, by recursion
 abbrev pub place_in : List ℕ → List (List ℕ) → Option ℕ

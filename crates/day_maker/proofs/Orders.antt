@@ -7,7 +7,7 @@ use Rattle.csv.specs.Records.{field_at}
 use Rattle.office_words.specs.declared.entry.Command.TheVariants as command
 use Rattle.restriction_log.specs.declared.change.Change.TheVariants as change
 use Rattle.road_graph.specs.Roads.{number_of as number_named}
-use Rattle.trip_applications.specs.Applications.{application_of}
+use Rattle.trip_analysis.specs.Applications.{application_of}
 use Rattle.day_text.specs.Commands.{apply_fields_of, post_of, posting_of, resolved_of}
 use Rattle.day_text.specs.Days.{judge_day}
 use Rattle.day_text.specs.Fleets.{truck_names}

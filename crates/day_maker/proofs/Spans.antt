@@ -7,8 +7,7 @@ use Rattle.std.proofs.lemmas.List.{map-append}
 use Rattle.std.proofs.lemmas.Bool.{le-leb, lt-ltb, ne_eqb}
 use Rattle.csv.specs.Records.{field_at}
 use Rattle.road_graph.specs.Adding.{with_span}
-use Rattle.road_graph.specs.Roads.{has_name, segment_names, span_names}
-use Rattle.road_graph.specs.Roads.{number_of as number_named}
+use Rattle.road_graph.specs.Roads.{has_name, segment_names, span_names, number_of as number_named}
 use Rattle.road_graph.specs.declared.segment.Span.{Span}
 use Rattle.day_text.specs.Days.{judge_day}
 use Rattle.day_text.specs.Roads.{with_span_of}

@@ -10,8 +10,8 @@ use Rattle.csv.specs.Machine.{next_record}
 use Rattle.csv.specs.Reading.{default_config}
 use Rattle.csv.specs.declared.parser.State.TheVariants as st
 use Rattle.csv.proofs.RoundTrip.{read-write}
-use Rattle.record_text.specs.Records.{Row, is_record}
-use Rattle.record_text.proofs.Rows.{rows_from, rows_from_none, rows_from_some}
+use Rattle.day_text.specs.Records.{Row, is_record}
+use Rattle.day_text.proofs.Rows.{rows_from, rows_from_none, rows_from_some}
 use Rattle.day_maker.specs.Texts.{line}
 
 -- a byte of ASCII

@@ -9,7 +9,7 @@ use Rattle.csv.specs.declared.writer.Writer.{Writer}
 use Rattle.csv.specs.declared.writer.WriterBuilder.{WriterBuilder}
 use Rattle.std.proofs.lemmas.List.{append-nil}
 use Rattle.axle_train.specs.declared.axle.Axle.{Axle}
-use Rattle.record_text.specs.Records.{Row}
+use Rattle.day_text.specs.Records.{Row}
 use Rattle.day_maker.specs.Made.{axle_text, axles_text}
 use Rattle.day_maker.specs.Making.{put}
 use Rattle.day_maker.specs.Texts.{PageParts, page_after, line, row}

@@ -2,7 +2,7 @@
 use Rattle.std.specs.Prelude.{ℕ, zero, suc, ◌+◌, ◌*◌, ◌%◌, ◌==◌, nat_lt, if◌then◌else◌, List, [], ◌∷◌, ◌++◌, codes, flat_map}
 use Rattle.std.specs.Fmt.{decimal}
 use Rattle.axle_train.specs.declared.axle.Axle.{Axle}
-use Rattle.record_text.specs.Records.{Row}
+use Rattle.day_text.specs.Records.{Row}
 use Rattle.day_maker.specs.Making.{Draws, Maker, ◌>>=◌, ◌>>◌, draw, drawn, each, put, when}
 use Rattle.day_maker.specs.Texts.{line, row}
 

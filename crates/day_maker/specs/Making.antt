@@ -1,7 +1,7 @@
 -- Records that are made one after another, with draws between them. What is made is said of the number that stands before
 -- its first draw, and tells the number that stands behind its last one.
 use Rattle.std.specs.Prelude.{ℕ, zero, suc, ◌+◌, ◌*◌, ◌%◌, Bool, if◌then◌else◌, List, [], ◌∷◌, ◌++◌}
-use Rattle.record_text.specs.Records.{Row}
+use Rattle.day_text.specs.Records.{Row}
 
 -- some records, and the number behind their draws
 pub record Made : Type 0 where

@@ -1,7 +1,7 @@
 -- The text of records, and a page that grows by what is made.
 use Rattle.std.specs.Prelude.{ℕ, ◌-◌, List, [], ◌++◌, length, replicate, flat_map}
 use Rattle.csv.specs.Writing.{default_writer, row_text}
-use Rattle.record_text.specs.Records.{Row}
+use Rattle.day_text.specs.Records.{Row}
 use Rattle.day_maker.specs.Making.{Maker}
 
 -- some fields, and empty ones behind them to make eight

@@ -5,7 +5,7 @@ ghost use Rattle.day_maker.specs.Fields.{field_text};
 ghost use Rattle.day_maker.specs.Made.{axle_text, axles_text};
 
 use axle_train::Axle;
-use numerals::write_number;
+use office_io::write_number;
 use std::alloc::AllocError;
 
 /// A field: a word, a number, a letter with a number, a letter with a row and a column of the grid, or axles.

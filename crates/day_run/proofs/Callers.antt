@@ -8,8 +8,8 @@ use Rattle.day_text.specs.Days.{DayParts}
 use Rattle.day_text.specs.Scripts.{script_of}
 use Rattle.office_words.specs.declared.entry.Entry.{Entry}
 use Rattle.office_core.specs.Machine.{entries_by, opened}
-use Rattle.command_calls.specs.Laws.{RunsAreOne}
-use Rattle.command_calls.specs.Unfolds.{AreFinished}
+use Rattle.analyst_pool.specs.Laws.{RunsAreOne}
+use Rattle.analyst_pool.specs.Unfolds.{AreFinished}
 use Rattle.day_run.specs.Served.{IsServed}
 
 -- what holds of each caller's entries holds of all

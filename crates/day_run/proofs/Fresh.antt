@@ -12,7 +12,7 @@ use Rattle.office_core.specs.Calls.{Who}
 use Rattle.office_turn.specs.Told.{Lock, Passing, receipt_for}
 use Rattle.office_turn.specs.declared.view.Receipt.{Receipt}
 use Rattle.office_desk.specs.Desks.{Terms, calls_with_pass, terms_in}
-use Rattle.fleet.specs.Bases.{BaseLists}
+use Rattle.trip_analysis.specs.Bases.{BaseLists}
 use Rattle.office_words.specs.Commands.{MayCarryOut}
 use Rattle.analyst_pool.specs.Ran.{AddsEntries, HasNotBegun, Ran}
 use Rattle.analyst_pool.specs.declared.worker.Outcome.TheVariants as outcome

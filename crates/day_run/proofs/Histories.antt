@@ -12,17 +12,17 @@ use Rattle.office_words.specs.declared.entry.Entry.{Entry}
 use Rattle.office_words.specs.declared.entry.Reply.TheVariants as reply
 use Rattle.office_core.specs.Machine.{IsLegal, entries_by}
 use Rattle.office_core.specs.Promises.{KeepsPromises}
-use Rattle.fleet.specs.Bases.{BaseLists}
+use Rattle.trip_analysis.specs.Bases.{BaseLists}
 use Rattle.office_turn.specs.Told.{Lock}
 use Rattle.office_turn.specs.declared.view.Receipt.{Receipt}
 use Rattle.office_desk.specs.Desks.{Terms}
 use Rattle.analyst_pool.specs.Ran.{AddsEntries}
-use Rattle.command_calls.specs.Unfolds.{AreFinished}
+use Rattle.analyst_pool.specs.Unfolds.{AreFinished}
 use Rattle.analyst_pool.specs.declared.worker.Outcome.{Outcome}
 use Rattle.analyst_pool.specs.declared.worker.Outcome.TheVariants as outcome
-use Rattle.command_calls.proofs.Lengths.{short, shorter}
-use Rattle.command_calls.proofs.Memory.{finished_found}
-use Rattle.command_calls.proofs.Runs.{finished_short}
+use Rattle.analyst_pool.proofs.Lengths.{short, shorter}
+use Rattle.analyst_pool.proofs.Memory.{finished_found}
+use Rattle.analyst_pool.proofs.Runs.{finished_short}
 use Rattle.day_run.specs.Served.{IsServed}
 use Rattle.day_run.proofs.Callers.{all_by}
 use Rattle.day_run.specs.Workers.{HasRun, IsFullOutcome, full_by}

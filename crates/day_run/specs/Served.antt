@@ -7,7 +7,7 @@ use Rattle.office_words.specs.declared.entry.Entry.{Entry}
 use Rattle.office_words.specs.declared.entry.Reply.TheVariants as reply
 use Rattle.office_core.specs.Machine.{IsLegal, entries_by}
 use Rattle.office_core.specs.Promises.{KeepsPromises}
-use Rattle.command_calls.specs.Unfolds.{AreFinished}
+use Rattle.analyst_pool.specs.Unfolds.{AreFinished}
 
 -- The history is one of an office of the file's roads and trucks that opened on its day, and keeps every promise of such an
 -- office. The entries of each actor are those of its finished commands, one after another in the order of the file; nobody

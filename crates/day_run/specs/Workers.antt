@@ -1,7 +1,7 @@
 -- What the actors of a day leave at their desk.
 use Rattle.std.specs.Prelude.{◌≡◌, ◌≢◌, ◌<◌, ◌≤◌, ℕ, List, [], Some, None, Option, length, slice_index_or, All, Any, Contains, Vec, vec_len, if◌then◌else◌}
 use Rattle.std.specs.Global.{Global}
-use Rattle.fleet.specs.Bases.{BaseLists}
+use Rattle.trip_analysis.specs.Bases.{BaseLists}
 use Rattle.office_words.specs.declared.entry.Command.{Command}
 use Rattle.office_words.specs.declared.entry.Entry.{Entry}
 use Rattle.office_turn.specs.Told.{IsReady, Lock, Passing, receipt_for}

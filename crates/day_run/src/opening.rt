@@ -6,9 +6,8 @@ ghost use Rattle.office_turn.specs.Told.{opening_root};
 ghost use Rattle.day_text.specs.Laws.{IsDayFile};
 ghost use Rattle.day_text.specs.Scripts.{AreScripts};
 
-use command_calls::most_entries;
+use analyst_pool::most_entries;
 use day_text::DayFile;
-use fleet::Base;
 use names::NoMemory;
 use office_desk::{Desk, Root};
 use office_words::Command;
@@ -16,6 +15,7 @@ use permit_days::Day;
 use std::alloc::Global;
 use std::sync::Arc;
 use std::sync::ledger::{Blank, Ledger};
+use trip_analysis::Base;
 
 /// What the actors of a day work with: a new desk with its root, what it is about, and the script of each.
 pub(crate) struct Opening<L: Ledger> {

@@ -7,15 +7,14 @@ ghost use Rattle.day_run.specs.declared.ended.Ended.TheVariants as ended;
 ghost use Rattle.day_run.specs.Workers.{AreAt, AreDoneFrom, AreFresh, AreReceivedFrom, AreShort, AreSound, HaveRun, OneIsFull};
 
 use crate::ended::Ended;
-use analyst_pool::{Worker, run_actors};
-use command_calls::Gate;
-use fleet::Base;
+use analyst_pool::{Gate, Worker, run_actors};
 use office_desk::{Desk, Root, Seat};
 use office_words::Command;
 use std::alloc::AllocError;
 use std::sync::Wait;
 use std::sync::ledger::Ledger;
 use std::thread::Threads;
+use trip_analysis::Base;
 
 /// An actor with its script and its seat at the desk.
 type Actor<'a, R, L> = Worker<Seat<'a, R, L>>;

@@ -5,8 +5,8 @@ use Rattle.std.specs.List.{slice_split}
 use Rattle.std.proofs.lemmas.Bool.{leb-true}
 use Rattle.std.proofs.lemmas.List.Splits.{length-slice_split}
 use Rattle.road_graph.specs.Roads.{number_of as number_named}
-use Rattle.record_text.specs.Fields.{few_routes, name_field, of_each, route_of, routes_field}
-use Rattle.record_text.proofs.Each.{each_then}
+use Rattle.day_text.specs.Fields.{few_routes, name_field, of_each, route_of, routes_field}
+use Rattle.day_text.proofs.Each.{each_then}
 use Rattle.day_text.specs.Commands.{asked_routes_of, numbers_of}
 
 -- the segment of a text, where it is a segment's name

@@ -7,30 +7,29 @@ use Rattle.std.proofs.lemmas.List.{length-map}
 use Rattle.road_graph.specs.declared.values.What.{What}
 use Rattle.road_graph.specs.declared.values.What.TheVariants as limits
 use Rattle.road_graph.specs.Ranges.{is_limit, is_rating}
-use Rattle.road_graph.specs.Roads.{Roads, segment_names, span_names}
-use Rattle.road_graph.specs.Roads.{number_of as number_named}
+use Rattle.road_graph.specs.Roads.{Roads, segment_names, span_names, number_of as number_named}
 use Rattle.road_graph.specs.declared.segment.Segment.{Segment}
 use Rattle.restriction_log.specs.Changes.{change_of, flag, takes}
 use Rattle.restriction_log.specs.declared.change.Change.TheVariants as change
 use Rattle.permit_days.specs.Days.{is_day_text}
-use Rattle.trip_applications.specs.declared.application.Application.{Application}
-use Rattle.fleet.specs.declared.base.Truck.{Truck}
-use Rattle.trip_applications.specs.Applications.{AreAskedThere, AreThere, Sound, application_of, application_refusal}
-use Rattle.fleet.specs.Bases.{BaseLists}
-use Rattle.trip_applications.proofs.Joined.{all_joined}
-use Rattle.trip_applications.proofs.Unbroken.{sound_if}
+use Rattle.trip_analysis.specs.declared.application.Application.{Application}
+use Rattle.trip_analysis.specs.declared.base.Truck.{Truck}
+use Rattle.trip_analysis.specs.Applications.{AreAskedThere, AreThere, Sound, application_of, application_refusal}
+use Rattle.trip_analysis.specs.Bases.{BaseLists}
+use Rattle.trip_analysis.proofs.Joined.{all_joined}
+use Rattle.trip_analysis.proofs.Unbroken.{sound_if}
 use Rattle.office_words.specs.Commands.{MayCarryOut}
 use Rattle.office_words.specs.declared.entry.Command.TheVariants as command
-use Rattle.record_text.specs.Causes.{demand, or_bad}
-use Rattle.record_text.specs.Fields.{field_of, of_each}
-use Rattle.record_text.specs.Forms.{Day, Form, Name, Number, Posted, Routes, said_in}
-use Rattle.record_text.specs.Records.{Row}
-use Rattle.record_text.specs.declared.posted.Posted.{Posted as PostedWord}
-use Rattle.record_text.specs.declared.posted.Posted.TheVariants as posted
-use Rattle.record_text.specs.declared.refusal.RecordCause.TheVariants as bad
-use Rattle.record_text.proofs.Each.{each_holds}
-use Rattle.record_text.proofs.Saying.{all_said}
-use Rattle.record_text.proofs.Steps.{Gives, found_some, gives, not_refused, then_gives, was_demanded}
+use Rattle.day_text.specs.Causes.{demand, or_bad}
+use Rattle.day_text.specs.Fields.{field_of, of_each}
+use Rattle.day_text.specs.Forms.{Day, Form, Name, Number, Posted, Routes, said_in}
+use Rattle.day_text.specs.Records.{Row}
+use Rattle.day_text.specs.declared.posted.Posted.{Posted as PostedWord}
+use Rattle.day_text.specs.declared.posted.Posted.TheVariants as posted
+use Rattle.day_text.specs.declared.refusal.RecordCause.TheVariants as bad
+use Rattle.day_text.proofs.Each.{each_holds}
+use Rattle.day_text.proofs.Saying.{all_said}
+use Rattle.day_text.proofs.Steps.{Gives, found_some, gives, not_refused, then_gives, was_demanded}
 use Rattle.day_text.specs.Bounds.{AreAskedRoutes, IsCommandWithin}
 use Rattle.day_text.specs.Commands.{applied, apply_fields_of, apply_of, asked_routes_of, cause_of, numbers_of, asked_permit_of, post_of, posting_of, resolved_of, set_day_of, show_of, surrender_of}
 use Rattle.day_text.specs.Fleets.{truck_names}

@@ -9,8 +9,8 @@ use Rattle.axle_train.specs.Bounds.{IsTrain}
 use Rattle.axle_train.specs.Refusals.{refusal_of}
 use Rattle.axle_train.proofs.Accepted.{is_train}
 use Rattle.clearance_rules.specs.Loads.{LoadParts, is_cross_section, is_length, is_load}
-use Rattle.fleet.specs.Bases.{BaseLists}
-use Rattle.fleet.specs.declared.base.Truck.{Truck}
+use Rattle.trip_analysis.specs.Bases.{BaseLists}
+use Rattle.trip_analysis.specs.declared.base.Truck.{Truck}
 use Rattle.office_words.specs.Commands.{MayCarryOut}
 use Rattle.office_words.specs.declared.entry.Command.{Command}
 use Rattle.office_words.specs.declared.entry.Command.TheVariants as command
@@ -20,16 +20,16 @@ use Rattle.restriction_log.specs.declared.change.Replaced.{Replaced}
 use Rattle.restriction_log.specs.declared.change.Replaced.TheVariants as replaced
 use Rattle.road_graph.specs.Ranges.{is_limit, is_rating}
 use Rattle.road_graph.specs.Roads.{IsRoads, Roads, has_name, no_roads}
-use Rattle.record_text.specs.Causes.{◌>>=◌, Tells, demand, limit, or_bad, unless_refused}
-use Rattle.record_text.specs.Fields.{field_of}
-use Rattle.record_text.specs.Forms.{Day as day_form, Name, said_in}
-use Rattle.record_text.specs.Records.{Row, judged, rows_of}
-use Rattle.record_text.specs.declared.refusal.Cause.{Cause}
-use Rattle.record_text.specs.declared.refusal.FileRefusal.{FileRefusal}
-use Rattle.record_text.specs.declared.refusal.Kind.TheVariants as kind
-use Rattle.record_text.specs.declared.refusal.RecordCause.TheVariants as bad
-use Rattle.record_text.proofs.Saying.{all_said}
-use Rattle.record_text.proofs.Steps.{Gives, found_some, gives, not_refused, records_keep, refuses, then_gives, was_demanded, was_within}
+use Rattle.day_text.specs.Causes.{◌>>=◌, Tells, demand, limit, or_bad, unless_refused}
+use Rattle.day_text.specs.Fields.{field_of}
+use Rattle.day_text.specs.Forms.{Day as day_form, Name, said_in}
+use Rattle.day_text.specs.Records.{Row, judged, rows_of}
+use Rattle.day_text.specs.declared.refusal.Cause.{Cause}
+use Rattle.day_text.specs.declared.refusal.FileRefusal.{FileRefusal}
+use Rattle.day_text.specs.declared.refusal.Kind.TheVariants as kind
+use Rattle.day_text.specs.declared.refusal.RecordCause.TheVariants as bad
+use Rattle.day_text.proofs.Saying.{all_said}
+use Rattle.day_text.proofs.Steps.{Gives, found_some, gives, not_refused, records_keep, refuses, then_gives, was_demanded, was_within}
 use Rattle.day_text.specs.Bounds.{DayFilesAreBounded, IsBounded, IsCommandWithin, IsSized}
 use Rattle.day_text.specs.Commands.{with_order}
 use Rattle.day_text.specs.Days.{DayParts, added, come_to, day_of, ended_day, file_parts_of, fresh_day, judge_day, judge_kind, on_actors, on_fleet, on_orders, on_roads, opening_of}

@@ -12,22 +12,21 @@ use Rattle.road_graph.specs.declared.segment.Segment.{Segment}
 use Rattle.road_graph.specs.declared.values.What.{What}
 use Rattle.road_graph.specs.declared.segment.Span.{Span}
 use Rattle.road_graph.specs.Adding.{limited, new_segment, network_with_limit, with_node, with_segment, with_span}
-use Rattle.road_graph.specs.Roads.{IsRoads, Roads, has_name, no_segment, segment_at, segment_names, span_names, spans_of}
-use Rattle.road_graph.specs.Roads.{number_of as number_named}
+use Rattle.road_graph.specs.Roads.{IsRoads, Roads, has_name, no_segment, segment_at, segment_names, span_names, spans_of, number_of as number_named}
 use Rattle.road_graph.proofs.Growth.{roads-limit, roads-node, roads-segment, roads-span}
 use Rattle.road_graph.proofs.Places.{get-front}
-use Rattle.trip_applications.specs.Walks.{IsWalk, every}
-use Rattle.trip_applications.specs.Applications.{IsAskedWalk, Sound}
-use Rattle.fleet.specs.Bases.{BaseLists}
-use Rattle.trip_applications.specs.declared.application.Application.{Application}
-use Rattle.record_text.specs.Causes.{demand, limit, or_bad}
-use Rattle.record_text.specs.Forms.{Limit, Name, Number, said_in}
+use Rattle.trip_analysis.specs.Walks.{IsWalk, every}
+use Rattle.trip_analysis.specs.Applications.{IsAskedWalk, Sound}
+use Rattle.trip_analysis.specs.Bases.{BaseLists}
+use Rattle.trip_analysis.specs.declared.application.Application.{Application}
+use Rattle.day_text.specs.Causes.{demand, limit, or_bad}
+use Rattle.day_text.specs.Forms.{Limit, Name, Number, said_in}
 use Rattle.road_graph.specs.Ranges.{AreInRange, default_values, is_feet, is_inches, is_limit, is_rating}
-use Rattle.record_text.specs.declared.refusal.Kind.TheVariants as kind
-use Rattle.record_text.specs.Records.{Row}
-use Rattle.record_text.specs.declared.refusal.RecordCause.TheVariants as bad
+use Rattle.day_text.specs.declared.refusal.Kind.TheVariants as kind
+use Rattle.day_text.specs.Records.{Row}
+use Rattle.day_text.specs.declared.refusal.RecordCause.TheVariants as bad
 use Rattle.day_text.specs.Roads.{with_limit_of, with_node_of, with_segment_of, with_span_of}
-use Rattle.record_text.proofs.Steps.{Gives, found_some, gives, then_gives, was_demanded, was_within}
+use Rattle.day_text.proofs.Steps.{Gives, found_some, gives, then_gives, was_demanded, was_within}
 
 -- a name that is found stands among the others
 pub named_within : (name : List ℕ) (names : List (List ℕ)) (i : ℕ) → number_named name names ≡ Some i → i < length names

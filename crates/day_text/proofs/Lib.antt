@@ -7,3 +7,12 @@ pub mod EveryDay
 pub mod Counts
 pub mod Dealt
 pub mod Dealing
+pub mod Rows
+pub mod Reading
+pub mod Judging
+pub mod Blanks
+pub mod Numbers
+pub mod Steps
+pub mod Saying
+pub mod Each
+pub mod Routes

@@ -6,10 +6,9 @@ use Rattle.std.specs.Char.{is_ascii_digit}
 use Rattle.std.specs.Str.Parse.{digits_value}
 use Rattle.std.proofs.lemmas.Bool.{leb-true}
 use Rattle.std.proofs.lemmas.Str.Parse.{IsNumeralModel, numerals_by_value, digits_value_short}
-use Rattle.permit_days.specs.Days.{has_shape, is_day, is_day_text}
-use Rattle.permit_days.specs.Days.{day_of_month as day_in_month, month_of, year_of}
+use Rattle.permit_days.specs.Days.{has_shape, is_day, is_day_text, day_of_month as day_in_month, month_of, year_of}
 use Rattle.permit_days.specs.declared.refusal.DayRefusal.TheVariants.{NoSuchDay, Shape}
-use Rattle.record_text.specs.Fields.{day_field as day_field_of, day_or_none, number_field, of_each, route_of, routes_field}
+use Rattle.day_text.specs.Fields.{day_field as day_field_of, day_or_none, number_field, of_each, route_of, routes_field}
 
 -- words that are read
 own : IsNumeralModel (λ ds. list_all is_ascii_digit ds ≡ true) (digits_value 10)

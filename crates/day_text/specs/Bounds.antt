@@ -5,8 +5,8 @@ use Rattle.permit_days.specs.Days.{is_day_text}
 use Rattle.restriction_log.specs.Changes.{takes}
 use Rattle.road_graph.specs.Roads.{Roads, IsRoads}
 use Rattle.trip_routes.specs.Routes.{AreRoutes}
-use Rattle.fleet.specs.Bases.{IsBase}
-use Rattle.fleet.specs.declared.base.Truck.{Truck}
+use Rattle.trip_analysis.specs.Bases.{IsBase}
+use Rattle.trip_analysis.specs.declared.base.Truck.{Truck}
 use Rattle.office_words.specs.declared.entry.Command.{Command}
 use Rattle.office_words.specs.declared.entry.Command.TheVariants.{Apply, Day, Post, Show, Surrender}
 use Rattle.day_text.specs.Days.{DayParts, day_of}

@@ -1,18 +1,18 @@
 -- What a check file says, judged over the whole list of its records.
 use Rattle.std.specs.Prelude.{ℕ, ◌+◌, Bool, ◌&&◌, ◌||◌, nat_le, if◌then◌else◌, List, [], ◌∷◌, ◌++◌, length, codes, Result, Ok, Err}
-use Rattle.record_text.specs.Causes.{◌>>=◌, demand, limit}
-use Rattle.record_text.specs.Forms.{Number, said_in}
-use Rattle.record_text.specs.Records.{Row, has_kind, judged, rows_of}
+use Rattle.day_text.specs.Causes.{◌>>=◌, demand, limit}
+use Rattle.day_text.specs.Forms.{Number, said_in}
+use Rattle.day_text.specs.Records.{Row, has_kind, judged, rows_of}
 use Rattle.day_text.specs.Trucks.{load_of, truck_fields_of}
-use Rattle.fleet.specs.declared.base.Truck.{Truck}
+use Rattle.trip_analysis.specs.declared.base.Truck.{Truck}
 use Rattle.day_text.specs.declared.check_file.Probe.{Probe}
 use Rattle.day_text.specs.declared.check_file.CheckFile.{CheckFile}
 use Rattle.day_text.specs.declared.check_file.CheckProgress.{CheckProgress}
 use Rattle.day_text.specs.declared.check_file.CheckProgress.TheVariants as so_far
-use Rattle.record_text.specs.declared.refusal.Cause.{Cause}
-use Rattle.record_text.specs.declared.refusal.Cause.TheVariants as why
-use Rattle.record_text.specs.declared.refusal.RecordCause.TheVariants as bad
-use Rattle.record_text.specs.declared.refusal.Kind.TheVariants as kind
+use Rattle.day_text.specs.declared.refusal.Cause.{Cause}
+use Rattle.day_text.specs.declared.refusal.Cause.TheVariants as why
+use Rattle.day_text.specs.declared.refusal.RecordCause.TheVariants as bad
+use Rattle.day_text.specs.declared.refusal.Kind.TheVariants as kind
 
 -- whether a record is of a kind that a check file has
 abbrev pub is_check_kind : Row → Bool

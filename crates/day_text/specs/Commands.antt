@@ -5,27 +5,26 @@ use Rattle.restriction_log.specs.Changes.{change_of}
 use Rattle.restriction_log.specs.declared.change.Change.{Change}
 use Rattle.restriction_log.specs.declared.change.Change.TheVariants as change
 use Rattle.road_graph.specs.Ranges.{is_limit, is_rating}
-use Rattle.road_graph.specs.Roads.{Roads, segment_names, span_names}
-use Rattle.road_graph.specs.Roads.{number_of as number_named}
-use Rattle.trip_applications.specs.declared.application.Application.{Application}
-use Rattle.trip_applications.specs.declared.refusal.ApplicationRefusal.{ApplicationRefusal}
-use Rattle.trip_applications.specs.declared.refusal.ApplicationRefusal.TheVariants.{AnnualDays, BrokenRoute, DayOrder, SamePlace}
-use Rattle.trip_applications.specs.Applications.{application_of, application_refusal}
-use Rattle.record_text.specs.Causes.{◌>>=◌, demand, limit, or_bad, unless_refused}
-use Rattle.record_text.specs.Fields.{of_each}
-use Rattle.record_text.specs.Forms.{Day, Name, Number, Posted, Routes, said_in}
+use Rattle.road_graph.specs.Roads.{Roads, segment_names, span_names, number_of as number_named}
+use Rattle.trip_analysis.specs.declared.application.Application.{Application}
+use Rattle.trip_analysis.specs.declared.application_refusal.ApplicationRefusal.{ApplicationRefusal}
+use Rattle.trip_analysis.specs.declared.application_refusal.ApplicationRefusal.TheVariants.{AnnualDays, BrokenRoute, DayOrder, SamePlace}
+use Rattle.trip_analysis.specs.Applications.{application_of, application_refusal}
+use Rattle.day_text.specs.Causes.{◌>>=◌, demand, limit, or_bad, unless_refused}
+use Rattle.day_text.specs.Fields.{of_each}
+use Rattle.day_text.specs.Forms.{Day, Name, Number, Posted, Routes, said_in}
 use Rattle.day_text.specs.Fleets.{truck_names}
-use Rattle.record_text.specs.Records.{Row}
+use Rattle.day_text.specs.Records.{Row}
 use Rattle.office_words.specs.declared.entry.Command.TheVariants as command
 use Rattle.day_text.specs.declared.commands.ApplyFields.{ApplyFields}
 use Rattle.day_text.specs.declared.day_so_far.DaySoFar.{DaySoFar}
-use Rattle.record_text.specs.declared.posted.Posted.{Posted as PostedWord}
-use Rattle.record_text.specs.declared.posted.Posted.TheVariants as posted
+use Rattle.day_text.specs.declared.posted.Posted.{Posted as PostedWord}
+use Rattle.day_text.specs.declared.posted.Posted.TheVariants as posted
 use Rattle.day_text.specs.declared.orders.Order.{Order}
-use Rattle.record_text.specs.declared.refusal.Cause.{Cause}
-use Rattle.record_text.specs.declared.refusal.RecordCause.{RecordCause}
-use Rattle.record_text.specs.declared.refusal.RecordCause.TheVariants as bad
-use Rattle.record_text.specs.declared.refusal.Kind.TheVariants as kind
+use Rattle.day_text.specs.declared.refusal.Cause.{Cause}
+use Rattle.day_text.specs.declared.refusal.RecordCause.{RecordCause}
+use Rattle.day_text.specs.declared.refusal.RecordCause.TheVariants as bad
+use Rattle.day_text.specs.declared.refusal.Kind.TheVariants as kind
 
 -- the fields of an application's record, each in its form
 unfoldable pub apply_fields_of : Row → Result ApplyFields Cause

@@ -1,12 +1,12 @@
 -- What a day file says, judged over the whole list of its records.
 use Rattle.std.specs.Prelude.{ℕ, List, [], ◌∷◌, Option, Some, None, Result, Ok, Err}
 use Rattle.road_graph.specs.Roads.{Roads, no_roads}
-use Rattle.fleet.specs.Bases.{BaseLists}
-use Rattle.fleet.specs.declared.base.Truck.{Truck}
-use Rattle.record_text.specs.Causes.{◌>>=◌, or_bad}
-use Rattle.record_text.specs.Fields.{field_of}
-use Rattle.record_text.specs.Forms.{Day as day_form, said_in}
-use Rattle.record_text.specs.Records.{Row, judged, rows_of}
+use Rattle.trip_analysis.specs.Bases.{BaseLists}
+use Rattle.trip_analysis.specs.declared.base.Truck.{Truck}
+use Rattle.day_text.specs.Causes.{◌>>=◌, or_bad}
+use Rattle.day_text.specs.Fields.{field_of}
+use Rattle.day_text.specs.Forms.{Day as day_form, said_in}
+use Rattle.day_text.specs.Records.{Row, judged, rows_of}
 use Rattle.day_text.specs.Commands.{apply_of, post_of, set_day_of, show_of, surrender_of, with_order}
 use Rattle.day_text.specs.Fleets.{actors_of, fleet_of}
 use Rattle.day_text.specs.Kinds.{kind_of}
@@ -17,9 +17,9 @@ use Rattle.day_text.specs.declared.kind.RecordKind.TheVariants.{Actor, Apply, Da
 use Rattle.day_text.specs.declared.orders.Order.{Order}
 use Rattle.day_text.specs.declared.progress.DayProgress.{DayProgress}
 use Rattle.day_text.specs.declared.progress.DayProgress.TheVariants as so_far
-use Rattle.record_text.specs.declared.refusal.Cause.{Cause}
-use Rattle.record_text.specs.declared.refusal.Cause.TheVariants as why
-use Rattle.record_text.specs.declared.refusal.RecordCause.TheVariants as bad
+use Rattle.day_text.specs.declared.refusal.Cause.{Cause}
+use Rattle.day_text.specs.declared.refusal.Cause.TheVariants as why
+use Rattle.day_text.specs.declared.refusal.RecordCause.TheVariants as bad
 
 -- a day file: roads and trucks, the opening day as its text, the names of the actors, and the commands in the order of their
 -- records; everything is numbered by its place, from 0

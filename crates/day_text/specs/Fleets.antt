@@ -1,15 +1,15 @@
 -- The trucks and the actors of a day file: what their records add, or the first cause for which they are refused.
 use Rattle.std.specs.Prelude.{ℕ, not, nat_lt, List, [], ◌∷◌, ◌++◌, length, map, Result, Ok}
 use Rattle.road_graph.specs.Roads.{has_name}
-use Rattle.record_text.specs.Causes.{◌>>=◌, demand, limit}
-use Rattle.record_text.specs.Forms.{Name, said_in}
-use Rattle.record_text.specs.Records.{Row}
+use Rattle.day_text.specs.Causes.{◌>>=◌, demand, limit}
+use Rattle.day_text.specs.Forms.{Name, said_in}
+use Rattle.day_text.specs.Records.{Row}
 use Rattle.day_text.specs.Trucks.{load_of, truck_fields_of}
 use Rattle.day_text.specs.declared.truck.TruckFields.{TruckFields}
-use Rattle.fleet.specs.declared.base.Truck.{Truck}
-use Rattle.record_text.specs.declared.refusal.Cause.{Cause}
-use Rattle.record_text.specs.declared.refusal.RecordCause.TheVariants as bad
-use Rattle.record_text.specs.declared.refusal.Kind.TheVariants as kind
+use Rattle.trip_analysis.specs.declared.base.Truck.{Truck}
+use Rattle.day_text.specs.declared.refusal.Cause.{Cause}
+use Rattle.day_text.specs.declared.refusal.RecordCause.TheVariants as bad
+use Rattle.day_text.specs.declared.refusal.Kind.TheVariants as kind
 
 -- the names of some trucks
 abbrev pub truck_names : List Truck → List (List ℕ)

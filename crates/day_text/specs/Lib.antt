@@ -1,6 +1,3 @@
-pub use Rattle.record_text.specs.Fields
-pub use Rattle.record_text.specs.Causes
-pub use Rattle.record_text.specs.Records
 pub mod Refusals
 pub mod Trucks
 pub mod Spans
@@ -13,3 +10,8 @@ pub mod Days
 pub mod Bounds
 pub mod Laws
 pub mod Scripts
+pub mod Fields
+pub mod Causes
+pub mod Records
+pub mod Forms
+pub use Rattle.names.specs.Names

@@ -1,8 +1,8 @@
 -- What is told of a refusal.
 use Rattle.std.specs.Prelude.{◌≡◌, ℕ, Result, Err}
-use Rattle.record_text.specs.declared.refusal.Cause.{Cause}
-use Rattle.record_text.specs.declared.refusal.FileRefusal.{FileRefusal}
-use Rattle.record_text.specs.declared.refusal.FileRefusal.TheVariants.{NoMemory, Refused}
+use Rattle.day_text.specs.declared.refusal.Cause.{Cause}
+use Rattle.day_text.specs.declared.refusal.FileRefusal.{FileRefusal}
+use Rattle.day_text.specs.declared.refusal.FileRefusal.TheVariants.{NoMemory, Refused}
 
 -- the file is refused just so: the refusal has the row and the cause that the definition gives, unless memory ran out
 abbrev pub IsRefusedAs : {T : Type 0} → Result T (ℕ × Cause) → FileRefusal → Type 0

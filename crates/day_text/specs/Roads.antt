@@ -2,14 +2,13 @@
 use Rattle.std.specs.Prelude.{not, nat_lt, [], ◌∷◌, length, Result, Ok}
 use Rattle.road_graph.specs.Adding.{new_segment, network_with_limit, with_node, with_segment, with_span}
 use Rattle.road_graph.specs.Ranges.{is_feet, is_inches, is_limit, is_rating}
-use Rattle.road_graph.specs.Roads.{Roads, has_name, segment_names, span_names, spans_of}
-use Rattle.road_graph.specs.Roads.{number_of as number_named}
-use Rattle.record_text.specs.Causes.{◌>>=◌, demand, limit, or_bad}
-use Rattle.record_text.specs.Forms.{Limit, Name, Number, said_in}
-use Rattle.record_text.specs.Records.{Row}
-use Rattle.record_text.specs.declared.refusal.Cause.{Cause}
-use Rattle.record_text.specs.declared.refusal.RecordCause.TheVariants as bad
-use Rattle.record_text.specs.declared.refusal.Kind.TheVariants as kind
+use Rattle.road_graph.specs.Roads.{Roads, has_name, segment_names, span_names, spans_of, number_of as number_named}
+use Rattle.day_text.specs.Causes.{◌>>=◌, demand, limit, or_bad}
+use Rattle.day_text.specs.Forms.{Limit, Name, Number, said_in}
+use Rattle.day_text.specs.Records.{Row}
+use Rattle.day_text.specs.declared.refusal.Cause.{Cause}
+use Rattle.day_text.specs.declared.refusal.RecordCause.TheVariants as bad
+use Rattle.day_text.specs.declared.refusal.Kind.TheVariants as kind
 
 -- node,NAME
 unfoldable pub with_node_of : Roads → Row → Result Roads Cause

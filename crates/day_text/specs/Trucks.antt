@@ -4,13 +4,13 @@ use Rattle.axle_train.specs.declared.axle.Axle.{Axle}
 use Rattle.axle_train.specs.declared.refusal.TrainRefusal.{TrainRefusal}
 use Rattle.axle_train.specs.declared.refusal.TrainRefusal.TheVariants.{TooFew, TooMany, PlaceOrder, Weight, Gross, TooLong}
 use Rattle.axle_train.specs.Refusals.{refusal_of}
-use Rattle.record_text.specs.Causes.{◌>>=◌, demand, unless_refused}
-use Rattle.record_text.specs.Forms.{Axles, Name, Number, said_in}
-use Rattle.record_text.specs.Records.{Row}
+use Rattle.day_text.specs.Causes.{◌>>=◌, demand, unless_refused}
+use Rattle.day_text.specs.Forms.{Axles, Name, Number, said_in}
+use Rattle.day_text.specs.Records.{Row}
 use Rattle.clearance_rules.specs.Loads.{LoadParts, is_cross_section, is_length}
 use Rattle.day_text.specs.declared.truck.TruckFields.{TruckFields}
-use Rattle.record_text.specs.declared.refusal.Cause.{Cause}
-use Rattle.record_text.specs.declared.refusal.RecordCause.TheVariants as bad
+use Rattle.day_text.specs.declared.refusal.Cause.{Cause}
+use Rattle.day_text.specs.declared.refusal.RecordCause.TheVariants as bad
 
 -- the fields of the record, each in its form
 unfoldable pub truck_fields_of : Row → Result TruckFields Cause

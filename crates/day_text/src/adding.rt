@@ -2,18 +2,19 @@
 
 ghost use Rattle.std.specs.Prelude.{◌≡◌, ◌≢◌};
 ghost use Rattle.csv.specs.Records.{fields_of};
-ghost use Rattle.record_text.specs.Causes.{Grows};
+ghost use Rattle.day_text.specs.Causes.{Grows};
 ghost use Rattle.day_text.specs.Days.{added};
 
 use crate::commands::{parse_apply, parse_permit, parse_post, parse_set_day};
 use crate::day_so_far::DaySoFar;
+use crate::demands::has_only;
 use crate::kind::RecordKind;
 use crate::members::{add_actor, add_truck};
 use crate::orders::Order;
+use crate::refusal::RecordRefusal;
 use crate::roads::{add_node, add_segment, add_span, set_limit};
 use csv::StringRecord;
 use office_words::Command;
-use record_text::{RecordRefusal, has_only};
 use std::alloc::Global;
 
 /// Adds what a record of this kind says, which stands behind the day.

@@ -3,13 +3,15 @@
 ghost use Rattle.std.specs.Prelude.{◌≡◌, ◌<◌, ◌≤◌, ◌==◌, ◌++◌, ◌∷◌, [], length, IfOk, option_and_then, unwrap_or};
 ghost use Rattle.std.specs.List.{slice_split};
 ghost use Rattle.road_graph.specs.Roads.{number_of, segment_names};
-ghost use Rattle.trip_applications.specs.Applications.{AreAskedThere};
-ghost use Rattle.record_text.specs.Causes.{Judges, or_bad};
-ghost use Rattle.record_text.specs.Fields.{name_field, of_each, route_of};
-ghost use Rattle.record_text.specs.declared.refusal.RecordCause.{RecordCause};
+ghost use Rattle.trip_analysis.specs.Applications.{AreAskedThere};
+ghost use Rattle.day_text.specs.Causes.{Judges, or_bad};
+ghost use Rattle.day_text.specs.Fields.{name_field, of_each, route_of};
+ghost use Rattle.day_text.specs.declared.refusal.RecordCause.{RecordCause};
 ghost use Rattle.day_text.specs.Commands.{asked_routes_of, numbers_of};
 
-use record_text::{RecordCause, RecordRefusal, RouteField, parse_name};
+use crate::fields::parse_name;
+use crate::refusal::{RecordCause, RecordRefusal};
+use crate::route::RouteField;
 use road_graph::{Network, Numbers};
 use std::alloc::{AllocError, Global};
 use trip_routes::{Routes, RoutesRefusal, SharedRoutes};

@@ -4,18 +4,18 @@ ghost use Rattle.std.specs.Prelude.{◌≡◌, ◌+◌, ◌++◌, ◌∷◌, [],
 ghost use Rattle.csv.specs.Records.{fields_of};
 ghost use Rattle.day_text.specs.Refusals.{IsRefusedAs};
 ghost use Rattle.day_text.specs.Spans.{AreSpans, IsProbeSpan};
-ghost use Rattle.record_text.specs.Causes.{Grows, Judges, Tells};
+ghost use Rattle.day_text.specs.Causes.{Grows, Judges, Tells};
 ghost use Rattle.day_text.specs.Checks.{check_of, ended_check, is_check_kind, judge_check, judge_check_kind, judge_later, judge_truck, probes_of};
 
+use crate::demands::{demand, has_only, limit, number_in};
+use crate::fields::field;
+use crate::records::{Progress, is_blank_from, read_records};
+use crate::refusal::{FileRefusal, Kind, RecordCause, RecordRefusal};
 use crate::truck::{load_of, parse_truck};
 use csv::StringRecord;
-use fleet::Truck;
-use record_text::{
-    FileRefusal, Kind, Progress, RecordCause, RecordRefusal, demand, field, has_only,
-    is_blank_from, limit, number_in, read_records,
-};
 use std::alloc::Global;
 use std::marker::Model;
+use trip_analysis::Truck;
 
 /// A span to try the truck on: its inches (1 to 6,000), and its rating per mille of HS20-44 (at most 100,000).
 #[derive(Clone, Copy, Drop, PartialEq, Eq)]

@@ -2,25 +2,26 @@
 
 ghost use Rattle.std.specs.Prelude.{◌≡◌};
 ghost use Rattle.csv.specs.Records.{fields_of};
-ghost use Rattle.record_text.specs.Causes.{Judges};
+ghost use Rattle.day_text.specs.Causes.{Judges};
 ghost use Rattle.day_text.specs.Commands.{apply_fields_of, apply_of, cause_of, asked_permit_of, post_of, posting_of, set_day_of};
 
 use crate::asked::find_asked;
 use crate::day_so_far::DaySoFar;
+use crate::demands::{day_in, demand, has_only, name_in, number_in, or_bad};
+use crate::fields::field;
 use crate::orders::Order;
+use crate::posted::{Posted, parse_posted};
 use crate::referred::known;
+use crate::refusal::{Cause, RecordCause, RecordRefusal};
+use crate::route::{RouteField, parse_routes};
 use csv::StringRecord;
 use names::Name;
 use office_words::Command;
 use permit_days::Day;
-use record_text::{
-    Cause, Posted, RecordCause, RecordRefusal, RouteField, day_in, demand, field, has_only,
-    name_in, number_in, or_bad, parse_posted, parse_routes,
-};
 use restriction_log::Change;
 use road_graph::{Network, Span};
 use std::alloc::Global;
-use trip_applications::{Application, ApplicationRefusal};
+use trip_analysis::{Application, ApplicationRefusal};
 
 /// The fields of an application's record, each in its form. A day that the calendar lacks is none.
 #[derive(Drop)]

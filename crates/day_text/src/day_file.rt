@@ -1,7 +1,7 @@
 // The day file: a road network, trucks, actors and the commands of a day.
 
 ghost use Rattle.std.specs.Prelude.{◌≡◌, Ok, IfErr, IfOk};
-ghost use Rattle.record_text.specs.Causes.{Tells};
+ghost use Rattle.day_text.specs.Causes.{Tells};
 ghost use Rattle.day_text.specs.Days.{day_of, ended_day};
 ghost use Rattle.day_text.specs.Laws.{IsDayFile};
 ghost use Rattle.day_text.specs.Refusals.{IsRefusedAs};
@@ -10,12 +10,13 @@ use crate::day_so_far::DaySoFar;
 use crate::name_set::Names;
 use crate::orders::Order;
 use crate::progress::DayProgress;
-use fleet::Base;
+use crate::records::read_records;
+use crate::refusal::{FileRefusal, RecordCause, RecordRefusal};
 use names::Name;
 use permit_days::Day;
-use record_text::{FileRefusal, RecordCause, RecordRefusal, read_records};
 use std::alloc::Global;
 use std::marker::Model;
+use trip_analysis::Base;
 
 /// A day file. Nodes, segments, spans, trucks, actors and commands are numbered from 0 in the order of their records.
 #[derive(Drop)]

@@ -2,16 +2,17 @@
 
 ghost use Rattle.std.specs.Prelude.{◌≡◌};
 ghost use Rattle.csv.specs.Records.{fields_of};
-ghost use Rattle.record_text.specs.Causes.{Grows};
+ghost use Rattle.day_text.specs.Causes.{Grows};
 ghost use Rattle.day_text.specs.Fleets.{actors_of, fleet_of};
 
+use crate::demands::{demand, has_only, limit, name_in};
 use crate::name_set::Names;
+use crate::refusal::{Kind, RecordCause, RecordRefusal};
 use crate::truck::{load_of, parse_truck};
 use crate::trucks::Fleet;
 use csv::StringRecord;
-use fleet::Truck;
-use record_text::{Kind, RecordCause, RecordRefusal, demand, has_only, limit, name_in};
 use std::alloc::Global;
+use trip_analysis::Truck;
 
 /// The most trucks of a day file.
 const MOST_TRUCKS: usize = 64;

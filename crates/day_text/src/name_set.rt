@@ -2,11 +2,11 @@
 
 ghost use Rattle.std.specs.Prelude.{◌≡◌, ◌++◌, ◌∷◌, ◌<◌, [], length, false, OnOk, OnErr, IfErr, IfSome};
 ghost use Rattle.road_graph.specs.Roads.{has_name, number_of};
-ghost use Rattle.record_text.specs.declared.refusal.RecordRefusal.TheVariants as refusal;
+ghost use Rattle.day_text.specs.declared.refusal.RecordRefusal.TheVariants as refusal;
 
+use crate::refusal::RecordRefusal;
 use indexmap::IndexSet;
 use names::Name;
-use record_text::RecordRefusal;
 use std::alloc::Global;
 use std::marker::Model;
 

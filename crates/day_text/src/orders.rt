@@ -1,11 +1,12 @@
 // The commands of a day file, in the order of their records.
 
 ghost use Rattle.std.specs.Prelude.{◌≡◌, []};
-ghost use Rattle.record_text.specs.Causes.{Grows};
+ghost use Rattle.day_text.specs.Causes.{Grows};
 ghost use Rattle.day_text.specs.Commands.{with_order};
 
+use crate::demands::limit;
+use crate::refusal::{Kind, RecordRefusal};
 use office_words::Command;
-use record_text::{Kind, RecordRefusal, limit};
 use std::alloc::Global;
 use std::marker::Model;
 

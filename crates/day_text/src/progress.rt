@@ -5,17 +5,20 @@
 
 ghost use Rattle.std.specs.Prelude.{◌≡◌, Ok, Err, OnOk, IfErr};
 ghost use Rattle.csv.specs.Records.{fields_of};
-ghost use Rattle.record_text.specs.Causes.{Judges};
+ghost use Rattle.day_text.specs.Causes.{Judges};
 ghost use Rattle.day_text.specs.Days.{come_to, judge_day, judge_kind};
 
 use crate::adding::add;
 use crate::day_so_far::{DaySoFar, Growing};
+use crate::demands::{day_in, has_only, or_bad};
+use crate::fields::field;
 use crate::kind::{RecordKind, parse_kind};
 use crate::name_set::Names;
 use crate::orders::Orders;
+use crate::records::Progress;
+use crate::refusal::{RecordCause, RecordRefusal};
 use crate::trucks::Fleet;
 use csv::StringRecord;
-use record_text::{Progress, RecordCause, RecordRefusal, day_in, field, has_only, or_bad};
 use road_graph::Network;
 use std::alloc::Global;
 

@@ -2,14 +2,14 @@
 
 ghost use Rattle.std.specs.Prelude.{◌≡◌};
 ghost use Rattle.csv.specs.Records.{fields_of};
-ghost use Rattle.record_text.specs.Causes.{Grows};
+ghost use Rattle.day_text.specs.Causes.{Grows};
 ghost use Rattle.day_text.specs.Roads.{with_limit_of, with_node_of, with_segment_of, with_span_of};
 
+use crate::demands::{demand, has_only, limit, name_in, number_in, or_bad};
+use crate::fields::field;
 use crate::referred::known;
+use crate::refusal::{Kind, RecordCause, RecordRefusal};
 use csv::StringRecord;
-use record_text::{
-    Kind, RecordCause, RecordRefusal, demand, field, has_only, limit, name_in, number_in, or_bad,
-};
 use road_graph::{AddRefusal, Network, Span, What};
 
 /// Adds the node of a record.

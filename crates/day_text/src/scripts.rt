@@ -6,11 +6,11 @@ ghost use Rattle.day_text.specs.Scripts.{AreScripts};
 
 use crate::day_file::DayFile;
 use crate::orders::Order;
-use fleet::Base;
 use names::NoMemory;
 use office_words::Command;
 use permit_days::Day;
 use std::alloc::Global;
+use trip_analysis::Base;
 
 impl DayFile {
     /// The roads and the trucks, the opening day, and the script of each actor: its commands, in the order of their records.

@@ -2,17 +2,17 @@
 
 ghost use Rattle.std.specs.Prelude.{◌≡◌};
 ghost use Rattle.csv.specs.Records.{fields_of};
-ghost use Rattle.record_text.specs.Causes.{Judges};
+ghost use Rattle.day_text.specs.Causes.{Judges};
 ghost use Rattle.day_text.specs.Trucks.{load_of, train_number, truck_fields_of};
 
+use crate::axles::{Axles, parse_axles};
+use crate::demands::{demand, has_only, name_in, number_in, or_bad};
+use crate::fields::field;
+use crate::refusal::{Cause, RecordCause, RecordRefusal};
 use axle_train::{Train, TrainRefusal};
 use clearance_rules::{Load, is_cross_section, is_length};
 use csv::StringRecord;
 use names::Name;
-use record_text::{
-    Axles, Cause, RecordCause, RecordRefusal, demand, field, has_only, name_in, number_in, or_bad,
-    parse_axles,
-};
 use std::alloc::Global;
 
 /// The fields of a truck's record, each in its form.

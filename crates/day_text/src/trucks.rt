@@ -3,14 +3,14 @@
 ghost use Rattle.std.specs.Prelude.{◌≡◌, ◌++◌, ◌∷◌, ◌<◌, [], length, ◌≤◌, false, OnOk, IfErr, IfSome};
 ghost use Rattle.road_graph.specs.Roads.{has_name, number_of};
 ghost use Rattle.day_text.specs.Fleets.{truck_names};
-ghost use Rattle.record_text.specs.declared.refusal.RecordRefusal.TheVariants as refusal;
+ghost use Rattle.day_text.specs.declared.refusal.RecordRefusal.TheVariants as refusal;
 
 use crate::name_set::Names;
-use fleet::Truck;
+use crate::refusal::RecordRefusal;
 use names::Name;
-use record_text::RecordRefusal;
 use std::alloc::Global;
 use std::marker::Model;
+use trip_analysis::Truck;
 
 /// Trucks, numbered from 0 in the order in which they came, each with a name of its own.
 #[derive(Drop)]
@@ -21,7 +21,7 @@ pub(crate) struct Fleet {
 
 impl Model for Fleet {
     ghost use Rattle.std.specs.Prelude.{List, length, ◌≤◌, ◌≡◌};
-    ghost use Rattle.fleet.specs.declared.base.Truck.{Truck};
+    ghost use Rattle.trip_analysis.specs.declared.base.Truck.{Truck};
     ghost use Rattle.day_text.specs.Fleets.{truck_names};
 
     ghost Value = { List Truck };

@@ -7,7 +7,7 @@ use Rattle.std.proofs.lemmas.Bool.{leb-true}
 use Rattle.std.proofs.lemmas.List.{append-nil, length-append}
 use Rattle.std.proofs.lemmas.List.Elements.{All-append, All-nil, All-weaker}
 use Rattle.names.specs.declared.refusal.NoMemory.{NoMemory}
-use Rattle.fleet.specs.Bases.{BaseLists}
+use Rattle.trip_analysis.specs.Bases.{BaseLists}
 use Rattle.day_text.specs.declared.orders.Order.{Order}
 use Rattle.day_text.specs.Days.{DayParts}
 use Rattle.office_words.specs.declared.entry.Command.{Command}
@@ -19,10 +19,10 @@ use Rattle.office_core.specs.Machine.{IsLegal}
 use Rattle.office_core.specs.Offices.{IsFull, Opened, newly_opened}
 use Rattle.office_core.specs.Promises.{KeepsPromises}
 use Rattle.office_core.specs.Replies.{is_full}
-use Rattle.command_calls.specs.Laws.{FinishedFoundMemory, StoppedAreShorter, UnfoldingsAreShort}
-use Rattle.command_calls.specs.Leaves.{CarriedOut}
+use Rattle.analyst_pool.specs.Laws.{FinishedFoundMemory, StoppedAreShorter, UnfoldingsAreShort}
+use Rattle.analyst_pool.specs.Leaves.{CarriedOut}
 use Rattle.office_words.specs.Commands.{MayCarryOut}
-use Rattle.command_calls.specs.Unfolds.{IsFinished, Unfolds}
+use Rattle.analyst_pool.specs.Unfolds.{IsFinished, Unfolds}
 use Rattle.day_trial.specs.Serial.{CarriesOut, IsSerial}
 use Rattle.day_trial.specs.Serving.{HasCarriedOut, HasServed, WasCarriedOut, grown_by}
 use Rattle.day_trial.proofs.Lengths.{few_callers, few_more, has_place}

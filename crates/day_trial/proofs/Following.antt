@@ -1,11 +1,11 @@
 -- What was followed up to an office can be followed to what it has become.
 use Rattle.std.proofs.Common.{◌≡◌, [], List, Option, None, IfSome, refl, ap, sym, subst, ◌∙◌}
-use Rattle.fleet.specs.Bases.{BaseLists}
+use Rattle.trip_analysis.specs.Bases.{BaseLists}
 use Rattle.trip_analysis.specs.Followers.{Followed}
 use Rattle.office_words.specs.declared.entry.Entry.{Entry}
 use Rattle.office_core.specs.Calls.{Calling}
 use Rattle.office_core.specs.Offices.{Opened}
-use Rattle.command_calls.proofs.Followings.{follows_grown}
+use Rattle.analyst_pool.proofs.Followings.{follows_grown}
 use Rattle.day_trial.specs.Serving.{FollowsOffice, grown_by}
 
 -- the calls of one who is alone at an office, of which these are the caller's own

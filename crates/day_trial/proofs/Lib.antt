@@ -2,3 +2,10 @@ pub mod Lengths
 pub mod Carrying
 pub mod One
 pub mod Following
+pub mod RerouteLengths
+pub mod AtOnce
+pub mod Finishing
+pub mod Renewing
+pub mod RerouteCarrying
+pub mod RerouteOne
+pub mod Served

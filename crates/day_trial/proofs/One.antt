@@ -1,13 +1,13 @@
 -- The histories of a day file's commands are one.
 use Rattle.std.proofs.Common.{◌≡◌, ◌∷◌, [], ◌++◌, List, ap, sym, ◌∙◌, subst}
 use Rattle.road_graph.specs.Roads.{IsRoads}
-use Rattle.fleet.specs.Bases.{BaseLists}
+use Rattle.trip_analysis.specs.Bases.{BaseLists}
 use Rattle.day_text.specs.declared.orders.Order.{Order}
 use Rattle.day_text.specs.Days.{DayParts}
 use Rattle.office_words.specs.declared.entry.Entry.{Entry}
 use Rattle.office_core.specs.Machine.{IsLegalFrom, Machine, after_all, opened}
 use Rattle.office_core.proofs.Prefixes.{legal_front, legal_later}
-use Rattle.command_calls.specs.Laws.{FinishedAreOne}
+use Rattle.analyst_pool.specs.Laws.{FinishedAreOne}
 use Rattle.day_trial.specs.Serial.{CarriesOut, IsSerial}
 
 -- the entries of some commands, carried out from one machine on, are determined

@@ -2,8 +2,12 @@ pub mod Serial
 pub mod Serving
 pub mod Blanks
 pub mod LoneOffices
+pub mod Rerouted
+pub mod Rerouting
 pub use Rattle.office_core.specs.Machine
 pub use Rattle.office_core.specs.Promises
-pub use Rattle.command_calls.specs.Unfolds
+pub use Rattle.analyst_pool.specs.Unfolds
 pub use Rattle.day_text.specs.Days
 pub use Rattle.day_text.specs.Laws
+pub use Rattle.reroute_desk.specs.Issues
+pub use Rattle.reroute_desk.specs.Replacements

@@ -7,7 +7,7 @@ use Rattle.office_words.specs.declared.entry.Entry.{Entry}
 use Rattle.office_words.specs.declared.entry.Reply.TheVariants as reply
 use Rattle.office_core.specs.Machine.{IsLegal}
 use Rattle.office_core.specs.Promises.{KeepsPromises}
-use Rattle.command_calls.specs.Unfolds.{IsFinished}
+use Rattle.analyst_pool.specs.Unfolds.{IsFinished}
 
 -- the first of some commands was carried out by these entries, and the others by those behind them
 pub record CarriesOutFirst (order : Order) (rest : List Entry → Type 0) (history : List Entry) : Type 0 where

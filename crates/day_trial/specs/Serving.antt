@@ -6,8 +6,8 @@ use Rattle.office_words.specs.declared.entry.Entry.{Entry}
 use Rattle.office_words.specs.declared.entry.Reply.{Reply}
 use Rattle.office_words.specs.declared.entry.Reply.TheVariants as reply
 use Rattle.office_core.specs.Offices.{IsFull, Opened, stored_in_office}
-use Rattle.command_calls.specs.Following.{FollowsAt}
-use Rattle.command_calls.specs.Unfolds.{IsFinished, Unfolds}
+use Rattle.analyst_pool.specs.Following.{FollowsAt}
+use Rattle.analyst_pool.specs.Unfolds.{IsFinished, Unfolds}
 use Rattle.day_trial.specs.Serial.{CarriesOut}
 
 -- a follower is of the office's base, and has been given no snapshot behind what is posted

@@ -8,10 +8,8 @@ ghost use Rattle.day_trial.specs.Blanks.{AreBlanks};
 ghost use Rattle.day_trial.specs.Serving.{WasCarriedOut};
 
 use crate::blanks::Blanks;
-use command_calls::{Errand, Finder, OpenGate, carry_out};
-use day_start::prepare;
-use day_text::{DayFile, Order};
-use fleet::Base;
+use analyst_pool::{Errand, Finder, OpenGate, carry_out};
+use day_text::{DayFile, Order, prepare};
 use names::NoMemory;
 use office_core::{CountedOffice, Office, OneSeat};
 use office_words::Reply;
@@ -20,6 +18,7 @@ use std::alloc::Global;
 use std::marker::Model;
 use std::sync::Arc;
 use std::sync::ledger::Ledger;
+use trip_analysis::Base;
 
 /// An office that carries out commands one after another, which nobody calls meanwhile: with its counter, with what it is about,
 /// and with who finds what applications need.

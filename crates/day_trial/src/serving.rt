@@ -12,7 +12,7 @@ ghost use Rattle.day_trial.specs.Serving.{HasCarriedOut, HasServed};
 
 use crate::blanks::Blanks;
 use crate::lone::LoneOffice;
-use command_calls::{most_entries, scripts_are_short, unfoldings_are_short};
+use analyst_pool::{most_entries, scripts_are_short, unfoldings_are_short};
 use day_text::{DayFile, Order};
 use names::NoMemory;
 use office_core::Office;

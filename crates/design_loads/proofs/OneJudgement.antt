@@ -10,13 +10,11 @@ use Rattle.span_rating.specs.declared.judgement.Fit.TheVariants.{Fits, Moment, S
 use Rattle.span_rating.specs.Loading.{AreEffects}
 use Rattle.span_rating.specs.Judgement.{IsWithin, AreWithin, IsMomentOver, IsShearAloneOver, fit_of}
 use Rattle.span_rating.proofs.OneValue.{within_from}
-use Rattle.design_loads.specs.Greatest.{AreGreatest, IsGreatest, IsGreatestMoment, IsGreatestShear, effects_in}
-use Rattle.design_loads.specs.Greatest.{IsPeakMomentBy, IsPeakShearBy}
+use Rattle.design_loads.specs.Greatest.{AreGreatest, IsGreatest, IsGreatestMoment, IsGreatestShear, effects_in, IsPeakMomentBy, IsPeakShearBy}
 use Rattle.design_loads.specs.Fitting.{EffectFits, MomentFitsGreatest, ShearFitsGreatest, FitIsOfTheGreatest}
 use Rattle.design_loads.specs.declared.governing.By.{By}
 use Rattle.design_loads.specs.declared.governing.GreatestEffects.{GreatestEffects}
-use Rattle.design_loads.proofs.OneGreatest.{HasOneValue, HaveOneValue, greatest_same}
-use Rattle.design_loads.proofs.OneGreatest.{moment_has_one, shear_has_one, moments_have_one, shears_have_one}
+use Rattle.design_loads.proofs.OneGreatest.{HasOneValue, HaveOneValue, greatest_same, moment_has_one, shear_has_one, moments_have_one, shears_have_one}
 
 -- one effect is within the rating of another exactly where the peaks that they are fit
 within_is_fit : (IsTruckPeak IsDesignPeak : Ratio → Type 0) (rating : ℕ) (truck design : Ratio)

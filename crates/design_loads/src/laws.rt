@@ -1,8 +1,7 @@
 // Laws of the areas under influence lines and of the effects of the design loads. These functions do nothing
 // when they run: each one's contract is a law that is proved once.
 
-ghost use Rattle.design_loads.specs.Laws.{GreatestIsOfThePeaks, GreatestIsOne, LaneIsOne, LaneIsThePeaks};
-ghost use Rattle.design_loads.specs.Laws.{MomentAreaIsParted, MomentAreaIsUnderTheLine, ReactionAreaIsUnderTheLine};
+ghost use Rattle.design_loads.specs.Laws.{GreatestIsOfThePeaks, GreatestIsOne, LaneIsOne, LaneIsThePeaks, MomentAreaIsParted, MomentAreaIsUnderTheLine, ReactionAreaIsUnderTheLine};
 
 /// What the definition of the lane load calls twice an area is that under the influence line: on a straight
 /// part of the line the length of the interval times the sum of the line at both ends, and of an interval

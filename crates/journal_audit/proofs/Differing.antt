@@ -1,6 +1,6 @@
 -- A reply that is not the one that is given again.
 use Rattle.std.proofs.Common.{◌≡◌, ◌≢◌, Bool, true, false}
-use Rattle.fleet.specs.Bases.{BaseLists}
+use Rattle.trip_analysis.specs.Bases.{BaseLists}
 use Rattle.office_words.specs.declared.entry.Entry.{Entry}
 use Rattle.office_words.specs.declared.entry.Reply.{Reply}
 use Rattle.office_words.specs.declared.entry.Reply.TheVariants as reply

@@ -2,11 +2,11 @@
 use Rattle.std.proofs.Common.{◌≡◌, ◌≤◌, ℕ, ap₂, subst}
 use Rattle.restriction_log.specs.States.{InForce, state_of}
 use Rattle.snapshot_store.specs.Stores.{Stored, state_now}
-use Rattle.trip_applications.specs.declared.application.Application.{Application}
+use Rattle.trip_analysis.specs.declared.application.Application.{Application}
 use Rattle.trip_analysis.specs.declared.finding.Proposal.{Proposal}
 use Rattle.trip_analysis.specs.declared.finding.What.{What}
-use Rattle.trip_applications.specs.Applications.{Sound}
-use Rattle.fleet.specs.Bases.{BaseLists}
+use Rattle.trip_analysis.specs.Applications.{Sound}
+use Rattle.trip_analysis.specs.Bases.{BaseLists}
 use Rattle.trip_analysis.specs.Findings.{IsFinding}
 use Rattle.trip_analysis.proofs.OneFinding.{one_finding}
 use Rattle.office_core.specs.Machine.{IsFound, Machine, state_at, stored_of, version_of}

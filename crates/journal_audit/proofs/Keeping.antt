@@ -4,7 +4,7 @@ use Rattle.std.proofs.lemmas.List.{take-append-drop, take-append-le, take-take, 
 use Rattle.std.proofs.lemmas.Option.{slice_get_within}
 use Rattle.restriction_log.specs.declared.change.Change.{Change}
 use Rattle.snapshot_store.specs.Stores.{Stored}
-use Rattle.fleet.specs.Bases.{BaseLists}
+use Rattle.trip_analysis.specs.Bases.{BaseLists}
 use Rattle.journal_audit.specs.declared.versions.Versions.{Versions}
 use Rattle.journal_audit.specs.Versions.{SnapshotsGoOn, AreVersions, IsKeptAt}
 

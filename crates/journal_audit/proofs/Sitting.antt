@@ -2,7 +2,7 @@
 use Rattle.std.proofs.Common.{◌≡◌, ℕ, Option, Some, None}
 use Rattle.restriction_log.specs.States.{InForce}
 use Rattle.trip_analysis.specs.declared.analyst.Analyst.{Analyst}
-use Rattle.fleet.specs.Bases.{BaseLists}
+use Rattle.trip_analysis.specs.Bases.{BaseLists}
 use Rattle.trip_analysis.specs.Known.{AreKnown}
 use Rattle.journal_audit.specs.declared.versions.Versions.{Versions}
 use Rattle.journal_audit.specs.Seats.{AreKnownAtVersion}

@@ -3,7 +3,7 @@ use Rattle.std.specs.Prelude.{Option, Some, None, ℕ}
 use Rattle.restriction_log.specs.States.{InForce}
 use Rattle.snapshot_store.specs.Stores.{Stored, state_now}
 use Rattle.trip_analysis.specs.declared.analyst.Analyst.{Analyst}
-use Rattle.fleet.specs.Bases.{BaseLists}
+use Rattle.trip_analysis.specs.Bases.{BaseLists}
 use Rattle.trip_analysis.specs.Known.{AreKnown}
 use Rattle.journal_audit.specs.declared.seat.Seat.{Seat}
 use Rattle.journal_audit.specs.declared.versions.Versions.{Versions}

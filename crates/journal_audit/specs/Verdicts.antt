@@ -1,6 +1,6 @@
 -- What is said of a history of which nothing is known.
 use Rattle.std.specs.Prelude.{◌≡◌, ◌<◌, ◌+◌, ℕ, List, length, take}
-use Rattle.fleet.specs.Bases.{BaseLists}
+use Rattle.trip_analysis.specs.Bases.{BaseLists}
 use Rattle.office_words.specs.declared.entry.Entry.{Entry}
 use Rattle.office_core.specs.Machine.{IsLegal}
 use Rattle.journal_audit.specs.declared.verdict.Verdict.{Verdict}

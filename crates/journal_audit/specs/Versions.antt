@@ -1,7 +1,7 @@
 -- Which versions the submits of a history name, and the snapshots of those.
 use Rattle.std.specs.Prelude.{◌≡◌, ◌<◌, ◌≤◌, ◌+◌, ℕ, Bool, true, false, List, length, take, get_or, slice_get, Some}
 use Rattle.snapshot_store.specs.Stores.{IsLater, Stored}
-use Rattle.fleet.specs.Bases.{BaseLists}
+use Rattle.trip_analysis.specs.Bases.{BaseLists}
 use Rattle.office_words.specs.declared.entry.Call.{Call}
 use Rattle.office_words.specs.declared.entry.Call.TheVariants as call
 use Rattle.journal_audit.specs.declared.versions.Versions.{Versions}

@@ -8,7 +8,6 @@ ghost use Rattle.journal_audit.specs.Verdicts.{IsVerdict};
 use crate::auditor::Auditor;
 use crate::verdict::Verdict;
 use clearance_rules::Steps;
-use fleet::Base;
 use names::NoMemory;
 use office_words::Entry;
 use permit_days::Day;
@@ -16,6 +15,7 @@ use std::alloc::Global;
 use std::marker::Brand;
 use std::sync::Arc;
 use std::sync::ledger::{Blank, Ledger};
+use trip_analysis::Base;
 
 /// Whether a history is one of an office about this base that opened on this day, and else which is the first entry with which it
 /// is not. Nothing of the entries is known. `NoMemory` where no memory was left for the audit.

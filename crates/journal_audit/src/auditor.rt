@@ -13,7 +13,6 @@ use crate::sameness::{are_same_findings, are_same_replies};
 use crate::seat::Seat;
 use crate::versions::Versions;
 use clearance_rules::Steps;
-use fleet::Base;
 use names::NoMemory;
 use office_core::Replay;
 use office_words::{Call, Entry, Reply};
@@ -21,8 +20,7 @@ use permit_days::Day;
 use std::alloc::Global;
 use std::sync::Arc;
 use std::sync::ledger::Ledger;
-use trip_analysis::Proposal;
-use trip_applications::Application;
+use trip_analysis::{Application, Base, Proposal};
 
 /// How many callers have a seat of their own: as many as a day file has actors. Further ones share these, which changes no verdict.
 const SEATS: usize = 16;

@@ -2,7 +2,7 @@
 
 ghost use Rattle.std.specs.Prelude.{IfOk};
 ghost use Rattle.snapshot_store.specs.Stores.{Stored, state_now};
-ghost use Rattle.trip_applications.specs.Applications.{Sound};
+ghost use Rattle.trip_analysis.specs.Applications.{Sound};
 ghost use Rattle.trip_analysis.specs.Findings.{IsFinding};
 ghost use Rattle.journal_audit.specs.declared.versions.Versions.{Versions};
 ghost use Rattle.journal_audit.specs.Seats.{IsSeat};
@@ -10,12 +10,10 @@ ghost use Rattle.journal_audit.specs.Versions.{SnapshotsGoOn, HasKept, IsKeptAt}
 
 use crate::versions::Versions;
 use clearance_rules::Steps;
-use fleet::Base;
 use names::NoMemory;
 use std::alloc::Global;
 use std::sync::ledger::Ledger;
-use trip_analysis::{Analyst, What, find};
-use trip_applications::Application;
+use trip_analysis::{Analyst, Application, Base, What, find};
 
 /// What was known of the trucks when a submit of a caller was last judged, and at which version that was. A caller looks at the
 /// office again and again, so mostly what is known needs to go on by a few postings alone.

@@ -21,7 +21,7 @@ use Rattle.road_graph.specs.declared.values.What.{What as Limited}
 use Rattle.road_graph.specs.declared.values.What.TheVariants as road_what
 use Rattle.clearance_rules.specs.declared.limit.Limit.{Limit}
 use Rattle.clearance_rules.specs.declared.limit.Limit.TheVariants as limit
-use Rattle.trip_applications.specs.declared.application.Application.{Application}
+use Rattle.trip_analysis.specs.declared.application.Application.{Application}
 use Rattle.trip_analysis.specs.declared.finding.What.{What}
 use Rattle.trip_analysis.specs.declared.finding.What.TheVariants as what
 use Rattle.permit_book.specs.declared.permit.Status.{Status}

@@ -11,7 +11,7 @@ use Rattle.restriction_log.specs.Changes.{replaced_by}
 use Rattle.clearance_rules.specs.declared.limit.Limit.{Limit}
 use Rattle.clearance_rules.specs.declared.limit.Limit.TheVariants as limit
 use Rattle.trip_routes.specs.Routes.{AreRoutes}
-use Rattle.trip_applications.specs.declared.application.Application.{Application}
+use Rattle.trip_analysis.specs.declared.application.Application.{Application}
 use Rattle.trip_analysis.specs.declared.finding.What.{What}
 use Rattle.trip_analysis.specs.declared.finding.What.TheVariants as what
 use Rattle.permit_book.specs.declared.permit.Status.{Status}

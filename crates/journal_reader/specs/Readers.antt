@@ -12,7 +12,7 @@ use Rattle.road_graph.specs.declared.values.What.{What}
 use Rattle.road_graph.specs.declared.values.What.TheVariants.{Closed}
 use Rattle.clearance_rules.specs.declared.limit.Limit.{Limit}
 use Rattle.clearance_rules.specs.declared.limit.Limit.TheVariants as limit
-use Rattle.trip_applications.specs.declared.application.Application.{Application}
+use Rattle.trip_analysis.specs.declared.application.Application.{Application}
 use Rattle.trip_analysis.specs.declared.finding.What.{What as Found}
 use Rattle.trip_analysis.specs.declared.finding.What.TheVariants as what
 use Rattle.permit_book.specs.declared.permit.Status.{Status}

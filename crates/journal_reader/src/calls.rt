@@ -16,8 +16,7 @@ use office_words::Call;
 use permit_days::Day;
 use road_graph::SharedNumbers;
 use std::alloc::{AllocError, Global};
-use trip_analysis::{Proposal, What};
-use trip_applications::Application;
+use trip_analysis::{Application, Proposal, What};
 use trip_routes::SharedRoutes;
 
 /// A call.

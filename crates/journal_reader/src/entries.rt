@@ -16,7 +16,7 @@ use crate::parts::is_done;
 use crate::replies::reply;
 use crate::words::after;
 use journal_text::Format;
-use numerals::spells;
+use office_io::spells;
 use office_words::{Entry, Reply};
 use std::alloc::{AllocError, Global};
 

@@ -11,7 +11,7 @@ ghost use Rattle.journal_reader.specs.Fits.{FitsDay, FitsIndex, FitsIndices, Fit
 
 use crate::parts::{first_part, is_done, part};
 use influence_line::Frac;
-use numerals::spells;
+use office_io::spells;
 use permit_days::Day;
 use road_graph::Numbers;
 use std::alloc::{AllocError, Global};

@@ -11,8 +11,7 @@ use crate::words::{day, named, named_place, named_routes, word};
 use office_words::Call;
 use permit_days::Day;
 use std::alloc::AllocError;
-use trip_analysis::What;
-use trip_applications::Application;
+use trip_analysis::{Application, What};
 
 /// A call. The text of a list is that of the last one, where it has the same places.
 pub fn call<'a>(

@@ -7,8 +7,7 @@ ghost use Rattle.journal_text.specs.Journals.{first_line};
 use clearance_rules::Limit;
 use office_words::{Call, Cause, Entry, Reply};
 use restriction_log::Change;
-use trip_analysis::What;
-use trip_applications::Application;
+use trip_analysis::{Application, What};
 use trip_routes::SharedRoutes;
 
 /// A format of journals, by its number. A line has one text in all of them, and they differ in what may stand in them.

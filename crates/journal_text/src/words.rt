@@ -7,7 +7,7 @@ ghost use Rattle.journal_text.specs.Words.{Adds, group, index, list_text, number
 
 use crate::lists::LastList;
 use influence_line::Frac;
-use numerals::write_number;
+use office_io::write_number;
 use permit_days::Day;
 use std::alloc::AllocError;
 use trip_routes::SharedRoutes;

@@ -7,8 +7,8 @@ use Rattle.std.proofs.lemmas.List.Elements.{All-head, All-tail}
 use Rattle.restriction_log.specs.States.{InForce}
 use Rattle.permit_book.specs.declared.permit.Permit.{Permit}
 use Rattle.permit_book.specs.Permits.{AreNumbered, in_force, is_live, permit_of}
-use Rattle.fleet.specs.Bases.{BaseLists}
-use Rattle.fleet.specs.Passing.{is_passable}
+use Rattle.trip_analysis.specs.Bases.{BaseLists}
+use Rattle.trip_analysis.specs.Passing.{is_passable}
 use Rattle.trip_analysis.specs.Findings.{is_number_among}
 use Rattle.office_core.specs.Recalls.{InForceMeetElsewhere, MeetsElsewhereIfInForce, fails, is_recalled, recalled_by}
 use Rattle.office_core.specs.Users.{users_of, uses}

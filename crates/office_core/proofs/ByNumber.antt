@@ -8,7 +8,7 @@ use Rattle.restriction_log.specs.States.{InForce}
 use Rattle.permit_book.specs.declared.permit.Permit.{Permit}
 use Rattle.permit_book.specs.declared.permit.Mark.{Mark}
 use Rattle.permit_book.specs.Permits.{permit_of, no_permit, is_issued, marked, in_force, is_live, AreNumbered}
-use Rattle.fleet.specs.Bases.{BaseLists}
+use Rattle.trip_analysis.specs.Bases.{BaseLists}
 use Rattle.office_core.specs.Recalls.{fails, is_recalled, recalled_by, recalled_now, marked_all, AreLive}
 use Rattle.permit_book.specs.declared.permit.Mark.TheVariants as mark
 use Rattle.office_core.proofs.Forces.{live_in_force}

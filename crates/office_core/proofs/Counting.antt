@@ -1,6 +1,6 @@
 -- Counters that rise with a history.
 use Rattle.std.proofs.Common.{◌∷◌, ◌++◌, [], List, ℕ, refl, subst}
-use Rattle.fleet.specs.Bases.{BaseLists}
+use Rattle.trip_analysis.specs.Bases.{BaseLists}
 use Rattle.office_words.specs.declared.entry.Entry.{Entry}
 use Rattle.office_core.specs.Costs.{Counts, CountsFrom, IsCost}
 use Rattle.office_core.specs.Machine.{Machine, after_all, after_entry, machine_of, opened}

@@ -15,8 +15,8 @@ use Rattle.permit_book.specs.declared.permit.Permit.{Permit}
 use Rattle.permit_book.specs.Permits.{marked, new_permit, trip_of}
 use Rattle.permit_book.specs.declared.permit.Mark.TheVariants as mark
 use Rattle.permit_book.specs.declared.permit.Status.TheVariants as status
-use Rattle.trip_applications.specs.declared.application.Application.{Application}
-use Rattle.fleet.specs.Bases.{BaseLists}
+use Rattle.trip_analysis.specs.declared.application.Application.{Application}
+use Rattle.trip_analysis.specs.Bases.{BaseLists}
 use Rattle.trip_analysis.specs.Findings.{is_number_among}
 use Rattle.office_words.specs.declared.entry.Call.TheVariants as call
 use Rattle.office_words.specs.declared.entry.Reply.{Reply}

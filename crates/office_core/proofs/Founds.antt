@@ -6,15 +6,14 @@ use Rattle.restriction_log.specs.declared.change.Change.{Change}
 use Rattle.restriction_log.specs.States.{InForce, state_of, is_named, AreOf}
 use Rattle.restriction_log.specs.Changes.{takes, AreTaken}
 use Rattle.snapshot_store.specs.Stores.{Stored, state_now}
-use Rattle.trip_applications.specs.declared.application.Application.{Application}
+use Rattle.trip_analysis.specs.declared.application.Application.{Application}
 use Rattle.trip_analysis.specs.declared.finding.What.{What}
 use Rattle.trip_analysis.specs.declared.finding.Proposal.{Proposal}
-use Rattle.fleet.specs.Bases.{BaseLists}
-use Rattle.trip_applications.specs.Applications.{Sound}
+use Rattle.trip_analysis.specs.Bases.{BaseLists}
+use Rattle.trip_analysis.specs.Applications.{Sound}
 use Rattle.trip_analysis.specs.Findings.{IsFinding, IsFoundAt, HoldsIn}
 use Rattle.office_core.specs.Machine.{Machine, version_of, state_at, state_in, stored_of, IsFound}
-use Rattle.restriction_log.proofs.Standing.{named_by_count}
-use Rattle.restriction_log.proofs.Standing.{state_is_of}
+use Rattle.restriction_log.proofs.Standing.{named_by_count, state_is_of}
 use Rattle.trip_analysis.proofs.Found as found
 pub use Rattle.trip_analysis.proofs.Found.{found_in_range, found_holds}
 

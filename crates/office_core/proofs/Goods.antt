@@ -12,10 +12,10 @@ use Rattle.permit_days.specs.Days.{is_before}
 use Rattle.permit_book.specs.declared.permit.Permit.{Permit}
 use Rattle.permit_book.specs.declared.permit.Mark.{Mark}
 use Rattle.permit_book.specs.Permits.{no_permit, AreNumbered}
-use Rattle.trip_applications.specs.declared.application.Application.{Application}
+use Rattle.trip_analysis.specs.declared.application.Application.{Application}
 use Rattle.trip_analysis.specs.declared.finding.What.{What}
-use Rattle.fleet.specs.Bases.{BaseLists}
-use Rattle.fleet.specs.Passing.{first_on}
+use Rattle.trip_analysis.specs.Bases.{BaseLists}
+use Rattle.trip_analysis.specs.Passing.{first_on}
 use Rattle.trip_analysis.specs.Findings.{InRange}
 use Rattle.office_words.specs.declared.entry.Call.{Call}
 use Rattle.office_words.specs.declared.entry.Reply.{Reply}

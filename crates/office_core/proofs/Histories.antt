@@ -1,6 +1,6 @@
 -- A history that grows by one entry.
 use Rattle.std.proofs.Common.{◌≡◌, ◌∷◌, ◌++◌, [], List, ℕ, false, refl, ap, sym, subst, ◌∙◌}
-use Rattle.fleet.specs.Bases.{BaseLists}
+use Rattle.trip_analysis.specs.Bases.{BaseLists}
 use Rattle.office_words.specs.declared.entry.Reply.{Reply}
 use Rattle.office_words.specs.declared.entry.Entry.{Entry}
 use Rattle.office_core.specs.Machine.{Machine, opened, MayAsk, IsAnswer, after, Step, after_entry, IsLegal, machine_of}

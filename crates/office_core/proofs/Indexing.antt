@@ -8,8 +8,7 @@ use Rattle.std.proofs.lemmas.Option.{slice_get-get_or}
 use Rattle.permit_book.specs.declared.permit.Permit.{Permit}
 use Rattle.permit_book.specs.declared.permit.Mark.{Mark}
 use Rattle.permit_book.specs.Permits.{AreNumbered, is_issued, is_live, marked, no_permit, permit_of}
-use Rattle.recall_index.specs.Uses.{AreBelow, AreRemoved, IsAdded, IsRemoved, IsThere, Lists, using_in, without, without_each}
-use Rattle.recall_index.specs.Uses.{is_in as index_is_in}
+use Rattle.recall_index.specs.Uses.{AreBelow, AreRemoved, IsAdded, IsRemoved, IsThere, Lists, using_in, without, without_each, is_in as index_is_in}
 use Rattle.recall_index.proofs.Lists.{end_gone}
 use Rattle.recall_index.proofs.Rising.{without_next, without_none}
 use Rattle.trip_analysis.specs.Findings.{is_number_among}

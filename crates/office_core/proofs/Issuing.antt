@@ -1,6 +1,6 @@
 -- Each permit that a posting recalls was issued once, for a truck that is there.
 use Rattle.std.proofs.Common.{◌∷◌}
-use Rattle.fleet.specs.Bases.{BaseLists}
+use Rattle.trip_analysis.specs.Bases.{BaseLists}
 use Rattle.office_words.specs.declared.entry.Reply.TheVariants as reply
 use Rattle.office_core.specs.Offices.{entry}
 use Rattle.office_core.specs.Happened.{Day, History}

@@ -16,11 +16,11 @@ use Rattle.permit_book.specs.declared.permit.Permit.{Permit}
 use Rattle.permit_book.specs.declared.permit.Mark.TheVariants as mark
 use Rattle.permit_book.specs.Permits.{AreNumbered, in_force, is_live, no_permit, permit_of}
 use Rattle.recall_index.specs.Uses.{IsAdded, IsRemoved, Lists, using_in}
-use Rattle.trip_applications.specs.declared.application.Application.{Application}
+use Rattle.trip_analysis.specs.declared.application.Application.{Application}
 use Rattle.trip_analysis.specs.declared.finding.What.{What}
-use Rattle.fleet.specs.Bases.{BaseLists}
-use Rattle.trip_applications.specs.Applications.{Sound}
-use Rattle.fleet.specs.Passing.{first_on, is_passable}
+use Rattle.trip_analysis.specs.Bases.{BaseLists}
+use Rattle.trip_analysis.specs.Applications.{Sound}
+use Rattle.trip_analysis.specs.Passing.{first_on, is_passable}
 use Rattle.trip_analysis.specs.Findings.{InRange, IsFinding, IsFoundAt}
 use Rattle.trip_analysis.specs.declared.finding.Proposal.{Proposal}
 use Rattle.trip_analysis.specs.Followers.{GoesOn}

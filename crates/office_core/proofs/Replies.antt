@@ -3,11 +3,11 @@ use Rattle.std.proofs.Common.{◌≡◌, ◌+◌, ◌∷◌, [], List, ℕ, Bool
 use Rattle.std.specs.List.{concat, list_any}
 use Rattle.restriction_log.specs.States.{InForce}
 use Rattle.clearance_rules.specs.declared.limit.Limit.{Limit}
-use Rattle.trip_applications.specs.declared.application.Application.{Application}
-use Rattle.fleet.specs.declared.failing.Failing.{Failing}
+use Rattle.trip_analysis.specs.declared.application.Application.{Application}
+use Rattle.trip_analysis.specs.declared.failing.Failing.{Failing}
 use Rattle.trip_analysis.specs.declared.finding.What.{What}
-use Rattle.fleet.specs.Bases.{BaseLists}
-use Rattle.fleet.specs.Passing.{limit_for, is_passable, first_on, first_or}
+use Rattle.trip_analysis.specs.Bases.{BaseLists}
+use Rattle.trip_analysis.specs.Passing.{limit_for, is_passable, first_on, first_or}
 use Rattle.office_words.specs.declared.entry.Reply.{Reply}
 use Rattle.office_core.specs.Machine.{Machine, version_of, state_in, reply_in}
 use Rattle.office_words.specs.declared.entry.Reply.TheVariants as reply

@@ -11,11 +11,11 @@ use Rattle.restriction_log.specs.States.{state_of}
 use Rattle.restriction_log.proofs.Elsewhere.{agree-since}
 use Rattle.clearance_rules.specs.declared.limit.Limit.{Limit}
 use Rattle.clearance_rules.proofs.Agreeing.{limits_agree}
-use Rattle.fleet.specs.declared.failing.Failing.{Failing}
+use Rattle.trip_analysis.specs.declared.failing.Failing.{Failing}
 use Rattle.trip_analysis.specs.declared.finding.What.{What}
 use Rattle.trip_analysis.specs.declared.finding.What.TheVariants as what
-use Rattle.fleet.specs.Bases.{BaseLists, truck_of}
-use Rattle.fleet.specs.Passing.{first_on, first_or, is_passable, limit_for}
+use Rattle.trip_analysis.specs.Bases.{BaseLists, truck_of}
+use Rattle.trip_analysis.specs.Passing.{first_on, first_or, is_passable, limit_for}
 use Rattle.trip_analysis.specs.Findings.{first_meeting, leaves, leaving, leaving_from}
 use Rattle.trip_analysis.proofs.Crossing.{leaving_no, leaving_none, leaving_yes}
 use Rattle.office_words.specs.declared.entry.Call.{Call}

@@ -1,9 +1,9 @@
 -- An answer other than want of memory is determined.
 use Rattle.std.proofs.Common.{◌≡◌, ◌≢◌, List, ℕ, ◌⊎◌, inl, inr, ap, sym, refl, ◌∙◌, Option, Some, None, unwrap_or}
 use Rattle.restriction_log.specs.States.{InForce}
-use Rattle.trip_applications.specs.declared.application.Application.{Application}
+use Rattle.trip_analysis.specs.declared.application.Application.{Application}
 use Rattle.trip_analysis.specs.declared.finding.What.{What}
-use Rattle.fleet.specs.Bases.{BaseLists}
+use Rattle.trip_analysis.specs.Bases.{BaseLists}
 use Rattle.office_words.specs.declared.entry.Call.{Call}
 use Rattle.office_words.specs.declared.entry.Reply.{Reply}
 use Rattle.office_core.specs.Replies.{what_reply, early_reply, apply_reply, day_reply, surrender_reply, show_reply}

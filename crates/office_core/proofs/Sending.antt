@@ -27,9 +27,9 @@ use Rattle.permit_book.specs.contracts.book.Book as Book
 use Rattle.recall_index.proofs.index.Index.TheSendSync as index
 use Rattle.recall_index.specs.contracts.index.Index as Index
 use Rattle.trip_analysis.proofs.analyst.Analyst.TheSendSync as analyst
-use Rattle.fleet.proofs.base.Base.TheSendSync as base
+use Rattle.trip_analysis.proofs.base.Base.TheSendSync as base
 use Rattle.trip_analysis.specs.contracts.analyst.Analyst as Analyst
-use Rattle.fleet.specs.contracts.base.Base as Base
+use Rattle.trip_analysis.specs.contracts.base.Base as Base
 use Rattle.trip_analysis.specs.contracts.follower.Follower as Follower
 use Rattle.office_words.specs.contracts.entry.Entry as Entry
 use Rattle.office_core.specs.contracts.counted.CountedOffice as CountedOffice

@@ -10,8 +10,8 @@ use Rattle.restriction_log.proofs.Elsewhere.{agree-after, state-posted}
 use Rattle.clearance_rules.proofs.Agreeing.{limits_agree}
 use Rattle.permit_book.specs.declared.permit.Permit.{Permit}
 use Rattle.permit_book.specs.Permits.{in_force}
-use Rattle.fleet.specs.Bases.{BaseLists, truck_of}
-use Rattle.fleet.specs.Passing.{is_passable}
+use Rattle.trip_analysis.specs.Bases.{BaseLists, truck_of}
+use Rattle.trip_analysis.specs.Passing.{is_passable}
 use Rattle.trip_analysis.specs.Findings.{is_number_among}
 use Rattle.office_core.specs.Recalls.{InForceMeet, InForceMeetElsewhere, MeetsElsewhere, fails}
 

@@ -9,12 +9,12 @@ use Rattle.road_graph.specs.Roads.{Roads, no_segment}
 use Rattle.restriction_log.specs.States.{InForce}
 use Rattle.clearance_rules.specs.declared.limit.Limit.{Limit}
 use Rattle.road_graph.specs.declared.segment.Segment.{Segment}
-use Rattle.trip_applications.specs.declared.application.Application.{Application}
-use Rattle.fleet.specs.declared.failing.Failing.{Failing}
+use Rattle.trip_analysis.specs.declared.application.Application.{Application}
+use Rattle.trip_analysis.specs.declared.failing.Failing.{Failing}
 use Rattle.trip_analysis.specs.declared.finding.What.{What}
-use Rattle.fleet.specs.Bases.{BaseLists}
-use Rattle.trip_applications.specs.Applications.{Sound, IsAskedWalk}
-use Rattle.fleet.specs.Passing.{limit_for, is_passable, first_on, first_or, flags_of, needs_none}
+use Rattle.trip_analysis.specs.Bases.{BaseLists}
+use Rattle.trip_analysis.specs.Applications.{Sound, IsAskedWalk}
+use Rattle.trip_analysis.specs.Passing.{limit_for, is_passable, first_on, first_or, flags_of, needs_none}
 use Rattle.trip_analysis.specs.Findings.{first_meeting, leaving, leaves, IsFinding, IsFoundBy, asked_finding, is_number_among, proposed_of}
 use Rattle.trip_analysis.specs.declared.finding.What.TheVariants as what
 use Rattle.route_search.specs.Walks.{IsWalk, every, flagged, CanReach, AreReached}

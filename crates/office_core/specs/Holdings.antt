@@ -5,14 +5,13 @@ use Rattle.permit_book.specs.declared.permit.Mark.{Mark}
 use Rattle.permit_book.specs.declared.permit.Mark.TheVariants as mark
 use Rattle.permit_book.specs.declared.permit.Permit.{Permit}
 use Rattle.permit_book.specs.Permits.{in_force, permit_of}
-use Rattle.fleet.specs.Bases.{AreTrains, BaseLists}
-use Rattle.trip_applications.specs.declared.application.Application.{Application}
+use Rattle.trip_analysis.specs.Bases.{AreTrains, BaseLists}
+use Rattle.trip_analysis.specs.declared.application.Application.{Application}
 use Rattle.office_words.specs.declared.entry.Call.{Call}
 use Rattle.office_words.specs.declared.entry.Reply.TheVariants as reply
 use Rattle.office_core.specs.Offices.{entry}
 use Rattle.office_core.specs.Machine.{IsLegal, machine_of, state_in, trip_for, version_of}
-use Rattle.office_core.specs.Happened.{Day, History, Routes, Stands, WasIssued}
-use Rattle.office_core.specs.Happened.{application_in, day_after, issued_in, seen_by, state_left_by, version_after}
+use Rattle.office_core.specs.Happened.{Day, History, Routes, Stands, WasIssued, application_in, day_after, issued_in, seen_by, state_left_by, version_after}
 use Rattle.office_core.specs.Became.{IsInForce, IsNotEnded, RecallsAs, SurrendersAt}
 
 -- the mark of a permit says what became of it: nothing yet, or that the posting of a version recalled it, or

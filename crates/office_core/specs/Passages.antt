@@ -3,7 +3,7 @@ use Rattle.std.specs.Prelude.{◌≡◌, ℕ, ◌<◌, ◌≤◌, [], ◌∷◌,
 use Rattle.road_graph.specs.Roads.{segment_at}
 use Rattle.restriction_log.specs.States.{InForce}
 use Rattle.route_search.specs.Walks.{IsNotAfter, IsWalk, every, feet_of}
-use Rattle.fleet.specs.Bases.{BaseLists}
+use Rattle.trip_analysis.specs.Bases.{BaseLists}
 use Rattle.office_core.specs.Clearances.{MeetsTruck}
 use Rattle.office_core.specs.Happened.{Route, Routes}
 

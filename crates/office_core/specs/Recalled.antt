@@ -1,7 +1,7 @@
 -- Which entries issued the permits that postings recall.
 use Rattle.std.specs.Prelude.{◌≡◌, ℕ, ◌<◌, length, Some}
-use Rattle.trip_applications.specs.declared.application.Application.{Application}
-use Rattle.fleet.specs.Bases.{BaseLists}
+use Rattle.trip_analysis.specs.declared.application.Application.{Application}
+use Rattle.trip_analysis.specs.Bases.{BaseLists}
 use Rattle.office_words.specs.declared.entry.Call.{Call}
 use Rattle.office_words.specs.declared.entry.Reply.TheVariants as reply
 use Rattle.office_core.specs.Offices.{entry}

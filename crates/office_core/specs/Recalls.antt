@@ -6,8 +6,8 @@ use Rattle.permit_book.specs.declared.permit.Permit.{Permit}
 use Rattle.permit_book.specs.declared.permit.Mark.{Mark}
 use Rattle.permit_book.specs.declared.permit.Mark.TheVariants as mark
 use Rattle.permit_book.specs.Permits.{in_force, is_issued, is_live, marked, permit_of}
-use Rattle.fleet.specs.Bases.{BaseLists}
-use Rattle.fleet.specs.Passing.{is_passable}
+use Rattle.trip_analysis.specs.Bases.{BaseLists}
+use Rattle.trip_analysis.specs.Passing.{is_passable}
 
 -- whether one of the segments of the permit's routes fails its truck
 abbrev pub fails : BaseLists → InForce → Permit → Bool

@@ -7,9 +7,9 @@ use Rattle.restriction_log.specs.States.{InForce}
 use Rattle.snapshot_store.specs.Stores.{IsNextOf, NextState, Stored}
 use Rattle.permit_book.specs.declared.trip.Trip.{Trip}
 use Rattle.permit_book.specs.Permits.{permit_of}
-use Rattle.trip_applications.specs.declared.application.Application.{Application}
+use Rattle.trip_analysis.specs.declared.application.Application.{Application}
 use Rattle.trip_analysis.specs.declared.finding.What.{What}
-use Rattle.fleet.specs.Bases.{BaseLists}
+use Rattle.trip_analysis.specs.Bases.{BaseLists}
 use Rattle.trip_analysis.specs.Findings.{HoldsIn, IsFinding, first_meeting, leaving}
 use Rattle.trip_analysis.specs.Followers.{GoesOn}
 use Rattle.office_words.specs.declared.entry.Call.{Call}

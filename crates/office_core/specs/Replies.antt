@@ -6,12 +6,12 @@ use Rattle.clearance_rules.specs.declared.limit.Limit.{Limit}
 use Rattle.permit_days.specs.Days.{is_before}
 use Rattle.permit_book.specs.declared.permit.Permit.{Permit}
 use Rattle.permit_book.specs.Permits.{in_force, is_issued, permit_of, status_of}
-use Rattle.trip_applications.specs.declared.application.Application.{Application}
-use Rattle.fleet.specs.declared.failing.Failing.{Failing}
+use Rattle.trip_analysis.specs.declared.application.Application.{Application}
+use Rattle.trip_analysis.specs.declared.failing.Failing.{Failing}
 use Rattle.trip_analysis.specs.declared.finding.What.{What}
 use Rattle.trip_analysis.specs.declared.finding.What.TheVariants as what
-use Rattle.fleet.specs.Bases.{BaseLists}
-use Rattle.fleet.specs.Passing.{first_on, limit_for, needs_none}
+use Rattle.trip_analysis.specs.Bases.{BaseLists}
+use Rattle.trip_analysis.specs.Passing.{first_on, limit_for, needs_none}
 use Rattle.trip_analysis.specs.Findings.{first_meeting, leaving}
 use Rattle.office_words.specs.declared.entry.Cause.TheVariants as cause
 use Rattle.office_words.specs.declared.entry.Reply.{Reply}

@@ -5,7 +5,7 @@ use Rattle.restriction_log.specs.declared.change.Change.{Change}
 use Rattle.restriction_log.specs.Changes.{is_touched}
 use Rattle.trip_analysis.specs.declared.finding.What.{What}
 use Rattle.trip_analysis.specs.declared.finding.What.TheVariants as what
-use Rattle.fleet.specs.Bases.{BaseLists}
+use Rattle.trip_analysis.specs.Bases.{BaseLists}
 use Rattle.trip_analysis.specs.Findings.{leaving}
 
 -- whether a posting above a version names the segment or one of its spans

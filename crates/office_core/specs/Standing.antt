@@ -3,16 +3,15 @@ use Rattle.std.specs.Prelude.{◌≡◌, ◌↔◌, ℕ, ◌+◌, true, Some}
 use Rattle.std.specs.List.{concat}
 use Rattle.restriction_log.specs.States.{InForce}
 use Rattle.permit_book.specs.declared.permit.Status.{Status}
-use Rattle.fleet.specs.Bases.{BaseLists}
-use Rattle.trip_applications.specs.declared.application.Application.{Application}
+use Rattle.trip_analysis.specs.Bases.{BaseLists}
+use Rattle.trip_analysis.specs.declared.application.Application.{Application}
 use Rattle.trip_analysis.specs.Findings.{AreRising, is_number_among}
 use Rattle.office_words.specs.declared.entry.Call.{Call}
 use Rattle.office_words.specs.declared.entry.Call.TheVariants as call
 use Rattle.office_words.specs.declared.entry.Reply.TheVariants as reply
 use Rattle.office_core.specs.Offices.{entry}
 use Rattle.office_core.specs.Clearances.{MeetsTruck}
-use Rattle.office_core.specs.Happened.{Day, History, Numbers, Routes, Stands}
-use Rattle.office_core.specs.Happened.{application_in, day_after, seen_by, state_left_by, version_after}
+use Rattle.office_core.specs.Happened.{Day, History, Numbers, Routes, Stands, application_in, day_after, seen_by, state_left_by, version_after}
 use Rattle.office_core.specs.Became.{IsInForce, IsStatusOf, IssuesAt, RecallsAt, WasIssuedFor, WasIssuedTo}
 
 -- some segment of one of the routes fails the truck

@@ -1,6 +1,5 @@
 -- What is so where an application is answered, in words of the entries before the answer.
-use Rattle.std.specs.Prelude.{◌≡◌, ◌↔◌, ◌⊎◌, ℕ, ◌+◌, ◌<◌, ◌≤◌, true, false, ◌∷◌, ◌++◌, length, All}
-use Rattle.std.specs.Prelude.{Option, Some, None}
+use Rattle.std.specs.Prelude.{◌≡◌, ◌↔◌, ◌⊎◌, ℕ, ◌+◌, ◌<◌, ◌≤◌, true, false, ◌∷◌, ◌++◌, length, All, Option, Some, None}
 use Rattle.std.specs.List.{concat}
 use Rattle.restriction_log.specs.States.{InForce}
 use Rattle.clearance_rules.specs.Loads.{IsLegalLoad}
@@ -8,9 +7,9 @@ use Rattle.clearance_rules.specs.declared.limit.Limit.{Limit}
 use Rattle.clearance_rules.specs.Failing.{segment_of}
 use Rattle.clearance_rules.specs.Order.{FailsFirst}
 use Rattle.permit_days.specs.Days.{is_before}
-use Rattle.trip_applications.specs.Applications.{Sound}
-use Rattle.fleet.specs.Bases.{BaseLists, truck_of}
-use Rattle.trip_applications.specs.declared.application.Application.{Application}
+use Rattle.trip_analysis.specs.Applications.{Sound}
+use Rattle.trip_analysis.specs.Bases.{BaseLists, truck_of}
+use Rattle.trip_analysis.specs.declared.application.Application.{Application}
 use Rattle.trip_analysis.specs.declared.finding.Proposal.{Proposal}
 use Rattle.trip_analysis.specs.declared.finding.What.{What}
 use Rattle.trip_analysis.specs.declared.finding.What.TheVariants as what
@@ -21,8 +20,7 @@ use Rattle.office_words.specs.declared.entry.Cause.{Cause}
 use Rattle.office_words.specs.declared.entry.Cause.TheVariants as cause
 use Rattle.office_core.specs.Clearances.{MeetsTruck}
 use Rattle.office_core.specs.Passages.{ArePassableWalks, IsPassableWalk, IsRoadWalk, IsShortestAlone, LeadsOut, Reaches}
-use Rattle.office_core.specs.Happened.{Day, History, Numbers, Route, Routes, application_in, day_after, issued_in}
-use Rattle.office_core.specs.Happened.{seen_by, state_left_by, state_at_version, state_seen, version_after}
+use Rattle.office_core.specs.Happened.{Day, History, Numbers, Route, Routes, application_in, day_after, issued_in, seen_by, state_left_by, state_at_version, state_seen, version_after}
 
 -- a call asks for a trip that can be asked for: its truck and its nodes are there, each asked route is a walk
 -- of it, its days are in order, and with two asked routes or more they are within a year

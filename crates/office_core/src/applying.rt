@@ -4,8 +4,8 @@ ghost use Rattle.std.specs.Prelude.{◌≡◌, ◌+◌, ◌<◌, ◌≤◌, ◌&
 ghost use Rattle.std.specs.List.{concat};
 ghost use Rattle.road_graph.specs.Roads.{IsRoads};
 ghost use Rattle.trip_analysis.specs.declared.finding.What.TheVariants as what;
-ghost use Rattle.trip_applications.specs.Applications.{Sound};
-ghost use Rattle.fleet.specs.Passing.{first_on as first_in, is_passable, limit_for};
+ghost use Rattle.trip_analysis.specs.Applications.{Sound};
+ghost use Rattle.trip_analysis.specs.Passing.{first_on as first_in, is_passable, limit_for};
 ghost use Rattle.trip_analysis.specs.Findings.{InRange, leaves};
 ghost use Rattle.office_words.specs.declared.entry.Call.TheVariants.{Held, Submit};
 ghost use Rattle.office_words.specs.declared.entry.Reply.TheVariants as reply;
@@ -17,14 +17,12 @@ ghost use Rattle.office_core.specs.Registers.{Gives, HeldAt, IsReplyTo, IsRetest
 use crate::answer::Answer;
 use crate::register::Register;
 use clearance_rules::{Limit, Steps};
-use fleet::{Failing, TruckOn};
 use names::NoMemory;
 use office_words::{Cause, Reply};
 use permit_book::Trip;
 use road_graph::SharedNumbers;
 use std::sync::ledger::Ledger;
-use trip_analysis::{NodeSet, Proposal, What};
-use trip_applications::Application;
+use trip_analysis::{Application, Failing, NodeSet, Proposal, TruckOn, What};
 use trip_routes::SharedRoutes;
 
 impl Register {

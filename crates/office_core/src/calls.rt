@@ -4,8 +4,7 @@ use office_words::{Call, Reply};
 use permit_days::Day;
 use restriction_log::Change;
 use snapshot_store::Snapshot;
-use trip_analysis::Proposal;
-use trip_applications::Application;
+use trip_analysis::{Application, Proposal};
 
 /// What a look at the office gives.
 #[derive(Drop)]

@@ -14,7 +14,6 @@ ghost use Rattle.office_core.specs.Recalled.{RecalledWereIssued};
 
 use crate::register::Register;
 use clearance_rules::Steps;
-use fleet::Base;
 use names::NoMemory;
 use office_words::{Call, Entry, Reply};
 use permit_book::Permit;
@@ -25,6 +24,7 @@ use std::alloc::Global;
 use std::marker::Model;
 use std::sync::Arc;
 use std::sync::ledger::Ledger;
+use trip_analysis::Base;
 
 /// A permit office that one thread calls.
 ///

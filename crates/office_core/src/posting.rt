@@ -3,7 +3,7 @@
 ghost use Rattle.std.specs.Prelude.{◌≡◌, ◌+◌, ◌<◌, ◌≤◌, length, IfOk, OnErr, true};
 ghost use Rattle.restriction_log.specs.Changes.{takes};
 ghost use Rattle.restriction_log.specs.States.{AreOf};
-ghost use Rattle.fleet.specs.Passing.{is_passable};
+ghost use Rattle.trip_analysis.specs.Passing.{is_passable};
 ghost use Rattle.office_words.specs.declared.entry.Call.TheVariants as call;
 ghost use Rattle.office_core.specs.Recalls.{AreVerdicts};
 ghost use Rattle.office_core.specs.Users.{IsUser, users_of};
@@ -13,13 +13,13 @@ ghost use Rattle.office_core.specs.Registers.{Costs, MeetElsewhere, Posts, is_re
 use crate::answer::Answer;
 use crate::register::Register;
 use clearance_rules::Steps;
-use fleet::TruckOn;
 use names::NoMemory;
 use office_words::Reply;
 use restriction_log::{Change, PostRefusal, State, touched};
 use road_graph::Numbers;
 use std::alloc::AllocError;
 use std::sync::ledger::Ledger;
+use trip_analysis::TruckOn;
 
 impl Register {
     /// Posts a change that the network takes, and recalls the permits in force that then fail. What can fail comes first.

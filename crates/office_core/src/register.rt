@@ -8,8 +8,8 @@ ghost use Rattle.restriction_log.specs.Changes.{touched};
 ghost use Rattle.restriction_log.specs.Logs.{IsPostCause, post_refusal};
 ghost use Rattle.restriction_log.specs.States.{AreOf};
 ghost use Rattle.permit_days.specs.Days.{is_before};
-ghost use Rattle.trip_applications.specs.Applications.{Sound};
-ghost use Rattle.fleet.specs.Passing.{first_on as first_in, limit_for};
+ghost use Rattle.trip_analysis.specs.Applications.{Sound};
+ghost use Rattle.trip_analysis.specs.Passing.{first_on as first_in, limit_for};
 ghost use Rattle.trip_analysis.specs.Findings.{InRange};
 ghost use Rattle.permit_book.specs.Permits.{AreNumbered, in_force, is_issued, permit_of};
 ghost use Rattle.office_words.specs.declared.entry.Reply.TheVariants as reply;
@@ -21,7 +21,6 @@ ghost use Rattle.office_core.specs.Registers.{AreUnchanged, Enters, HeldAt, IsFo
 
 use crate::recall_marks::recall_each;
 use clearance_rules::{Limit, Steps};
-use fleet::{Base, TruckOn};
 use names::NoMemory;
 use permit_book::{Book, BookRefusal, Permit, Trip};
 use permit_days::Day;
@@ -32,8 +31,7 @@ use std::alloc::Global;
 use std::marker::Model;
 use std::sync::Arc;
 use std::sync::ledger::Ledger;
-use trip_analysis::{Follower, Proposal};
-use trip_applications::Application;
+use trip_analysis::{Application, Base, Follower, Proposal, TruckOn};
 
 /// What a permit office keeps: what it is about, what is posted and in force on the roads, the permits, the day, and what is
 /// known of each truck.

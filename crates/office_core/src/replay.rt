@@ -8,7 +8,6 @@ ghost use Rattle.office_core.specs.Registers.{LeavesParts, stored_now};
 
 use crate::register::Register;
 use clearance_rules::Steps;
-use fleet::{Base, TruckOn};
 use names::NoMemory;
 use office_words::{Call, Reply};
 use permit_days::Day;
@@ -18,8 +17,7 @@ use std::alloc::Global;
 use std::marker::Model;
 use std::sync::Arc;
 use std::sync::ledger::Ledger;
-use trip_analysis::{Proposal, What};
-use trip_applications::Application;
+use trip_analysis::{Application, Base, Proposal, TruckOn, What};
 
 /// What an office keeps, without its history: whoever reads a history asks its calls again, and compares.
 ///

@@ -10,7 +10,7 @@ use denote.Struct.Field.{row_field, shr_ref_field}
 use denote.Struct.Tuple.{Tuple}
 use Rattle.std.specs.declared.sync.ledger.Ledger.{Ghosts}
 use Rattle.permit_days.specs.contracts.day.Day as Day
-use Rattle.fleet.specs.contracts.base.Base as Base
+use Rattle.trip_analysis.specs.contracts.base.Base as Base
 use Rattle.office_words.specs.contracts.entry.Entry as Entry
 use Rattle.office_core.proofs.Sending.{counted_send}
 use Rattle.office_turn.proofs.pass.Pass.TheSendSync as pass

@@ -1,7 +1,7 @@
 -- What contracts see of a desk, and of the calls that are made of it with a pass.
 use Rattle.std.specs.Prelude.{◌≡◌, ℕ, List, [], Option, Some, None, if◌then◌else◌, unwrap_or}
 use Rattle.road_graph.specs.Roads.{no_roads}
-use Rattle.fleet.specs.Bases.{BaseLists}
+use Rattle.trip_analysis.specs.Bases.{BaseLists}
 use Rattle.office_words.specs.declared.entry.Call.{Call}
 use Rattle.office_words.specs.declared.entry.Entry.{Entry}
 use Rattle.office_core.specs.declared.calls.Looked.{Looked}

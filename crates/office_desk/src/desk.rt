@@ -11,7 +11,6 @@ ghost use Rattle.office_desk.specs.Desks.{MayAskWith, calls_with_pass, terms_of}
 
 use crate::shared_office::SharedOffice;
 use clearance_rules::Steps;
-use fleet::Base;
 use names::NoMemory;
 use office_core::{CountedOffice, Looked, Office};
 use office_turn::{Turn, Worn};
@@ -21,6 +20,7 @@ use std::alloc::Global;
 use std::marker::Model;
 use std::sync::ledger::{Blank, Ledger};
 use std::sync::{Arc, Wait};
+use trip_analysis::Base;
 
 /// The right to call a desk, as one caller. It must be spent, in [`Desk::leave`].
 pub type Pass<L> = office_turn::Pass<SharedOffice<L>>;

@@ -9,13 +9,13 @@ ghost use Rattle.office_core.specs.Machine.{IsLegal, MayAsk, version_of};
 ghost use Rattle.office_core.specs.Offices.{HasPlace, entry, grown, machine_in};
 ghost use Rattle.office_desk.specs.Desks.{HandsOut};
 
-use fleet::Base;
 use names::NoMemory;
 use office_core::{CountedOffice, Looked};
 use office_turn::Storied;
 use office_words::{Call, Entry, Reply};
 use permit_days::Day;
 use std::sync::ledger::Ledger;
+use trip_analysis::Base;
 
 /// An office under a lock, with the counter of what is tested in its turns. Its story is its history, and its terms are what it
 /// is about, the day on which it opened and the most entries that its history may hold.

@@ -2,14 +2,14 @@ ghost use Rattle.std.specs.Prelude.{◌≡◌, ◌<◌, ◌≤◌, [], All, IfOk
 ghost use Rattle.std.specs.Arc.{arc_value};
 ghost use Rattle.office_core.specs.Replies.{is_full};
 ghost use Rattle.office_core.specs.Seats.{calls_of};
-ghost use Rattle.command_calls.specs.Interrupted.{Interrupts};
+ghost use Rattle.analyst_pool.specs.Interrupted.{Interrupts};
 ghost use Rattle.office_words.specs.Commands.{MayCarryOut};
 ghost use Rattle.analyst_pool.specs.Ran.{HasNotBegun};
 
 use crate::fixtures::{ALONE, AROUND, application, base, day, full_at, journal_ends, office};
-use analyst_pool::{Outcome, Worker, run_actors};
-use command_calls::{Errand, Finder, Gate, OpenGate, carry_out, decide, most_entries};
-use fleet::Base;
+use analyst_pool::{
+    Errand, Finder, Gate, OpenGate, Outcome, Worker, carry_out, decide, most_entries, run_actors,
+};
 use office_core::{CountedOffice, Looked, Office, OfficeCalls, OneSeat};
 use office_words::{Call, Command, Reply};
 use restriction_log::Change;
@@ -20,6 +20,7 @@ use std::process::Abort;
 use std::sync::Arc;
 use std::sync::ledger::{Blank, Ledger};
 use std::thread::Threads;
+use trip_analysis::Base;
 
 // Writes down what it is told as the digits of a number: 1 first, then 0 ahead of the command, the number
 // of each attempt, and 9 behind the reply. It forgets all where it is told of another actor or command.
@@ -92,7 +93,7 @@ fn unless_full(rt: &impl Abort, reply: Reply) -> Reply
 }
 
 impl<R: Abort, L: Ledger> OfficeCalls for Interrupted<'_, R, L> {
-    ghost use Rattle.command_calls.specs.Interrupted.{shared};
+    ghost use Rattle.analyst_pool.specs.Interrupted.{shared};
 
     type Place = ();
 

@@ -1,6 +1,6 @@
 ghost use Rattle.std.specs.Prelude.{◌≡◌, ◌<◌, ◌++◌, [], List, IfOk, IfSome};
 ghost use Rattle.snapshot_store.specs.Stores.{store_version_of as postings_of};
-ghost use Rattle.trip_applications.specs.Applications.{Sound};
+ghost use Rattle.trip_analysis.specs.Applications.{Sound};
 ghost use Rattle.trip_analysis.specs.Findings.{IsFoundAt};
 ghost use Rattle.office_words.specs.declared.entry.Call.{Call};
 ghost use Rattle.office_words.specs.declared.entry.Entry.{Entry};
@@ -10,21 +10,19 @@ ghost use Rattle.office_core.specs.Calls.{machine_seen};
 
 use crate::fixtures::{ALONE, AROUND, application, base, day, full_at, office_about, recall};
 use clearance_rules::Steps;
-use fleet::Base;
 use journal_text::print;
 use names::NoMemory;
 use notice_desk::Recall;
 use office_core::{CountedOffice, Looked, Office, OfficeCalls, OneSeat};
 use office_words::{Call, Reply};
-use recall_list::recalls;
+use reroute_desk::recalls;
 use restriction_log::Change;
 use snapshot_store::Snapshot;
 use std::alloc::Global;
 use std::marker::Brand;
 use std::process::Abort;
 use std::sync::ledger::{Blank, Ledger};
-use trip_analysis::{Proposal, analyse};
-use trip_applications::Application;
+use trip_analysis::{Application, Base, Proposal, analyse};
 
 // Each day is the lines of a journal: the calls that they have are made, and the journal is then these lines. What a submit
 // has is found behind the look before it. Each day is gone through twice, once by calls of the office and once by seats.

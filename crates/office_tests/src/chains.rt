@@ -5,12 +5,12 @@ use crate::calls::{answer, submission};
 use crate::fixtures::{application, base_of, office_about};
 use crate::many::{LONG_TRAIN, submit_copies};
 use clearance_rules::Limit;
-use fleet::Base;
 use office_core::Office;
 use office_words::{Call, Cause, Reply};
 use restriction_log::Change;
 use std::alloc::Global;
 use std::process::Abort;
+use trip_analysis::Base;
 
 // Roads in one line: a segment from each node to the next, with some spans on each, for a truck of these axles.
 #[derive(Clone, Copy)]

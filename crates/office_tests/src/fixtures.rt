@@ -2,10 +2,9 @@
 
 ghost use Rattle.std.specs.Prelude.{◌≡◌, []};
 ghost use Rattle.std.specs.Arc.{arc_value};
-ghost use Rattle.trip_applications.specs.Applications.{Sound};
+ghost use Rattle.trip_analysis.specs.Applications.{Sound};
 
 use day_text::read_day;
-use fleet::Base;
 use journal_text::print;
 use names::Name;
 use notice_desk::Recall;
@@ -15,7 +14,7 @@ use permit_days::Day;
 use std::alloc::Global;
 use std::process::Abort;
 use std::sync::Arc;
-use trip_applications::Application;
+use trip_analysis::{Application, Base};
 
 // A name of these bytes, which are one.
 pub fn named(rt: &impl Abort, bytes: &[u8]) -> Name {

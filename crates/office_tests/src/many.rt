@@ -1,19 +1,17 @@
 ghost use Rattle.std.specs.Prelude.{◌≡◌};
-ghost use Rattle.trip_applications.specs.Applications.{Sound};
+ghost use Rattle.trip_analysis.specs.Applications.{Sound};
 ghost use Rattle.office_core.specs.Machine.{MayAsk};
 ghost use Rattle.office_core.specs.Offices.{machine_in};
 
 use crate::calls::{answer, submission};
 use crate::fixtures::{TWO_WAYS, base, base_of, day, office_about};
-use fleet::Base;
 use office_core::Office;
 use office_words::{Call, Reply};
 use restriction_log::Change;
 use road_graph::Numbers;
 use std::alloc::Global;
 use std::process::Abort;
-use trip_analysis::{Proposal, What};
-use trip_applications::Application;
+use trip_analysis::{Application, Base, Proposal, What};
 use trip_routes::SharedRoutes;
 
 // Days of many permits on two segments that lead from node 0 to node 1.

@@ -10,7 +10,7 @@ use Rattle.office_turn.specs.declared.view.Receipt.{Receipt}
 use Rattle.office_turn.specs.Rule.{Turned}
 use Rattle.office_turn.specs.Story.{StartsWith, entries_of}
 use Rattle.office_turn.proofs.Cases.{bool_cases, some_not_none}
-use Rattle.office_turn.proofs.Places.{one_at, some_at, within}
+use Rattle.office_turn.proofs.Places.{one_at, some_at, within, read_at}
 use Rattle.office_turn.proofs.Seats.{two_live}
 use Rattle.office_turn.proofs.Entries.{heard_of}
 use Rattle.std.specs.Prelude.{All, Any}
@@ -18,7 +18,6 @@ use Rattle.std.proofs.lemmas.List.{get_or_default}
 use Rattle.atomic_table.specs.declared.shared.Seat.{Seat}
 use Rattle.atomic_table.proofs.Lists.{at_index}
 use Rattle.office_turn.specs.Told.{HasReceipt, Rooted, rooted}
-use Rattle.office_turn.proofs.Places.{read_at}
 
 -- the item at a place within the list
 item_at : {A : Type 0} (l : List A) (k : ℕ) (d : A) → k < length l → get_elem? l k ≡ some (get_or l k d)

@@ -6,7 +6,7 @@ ghost use Rattle.std.specs.Prelude.{◌≡◌, ◌<◌};
 ghost use Rattle.notice_desk.specs.Standings.{AreNew};
 ghost use Rattle.permit_program.specs.Runs.{desk_at};
 
-use command_calls::OpenGate;
+use analyst_pool::OpenGate;
 use notice_desk::{Notice, Subscribers};
 use office_io::{Sink, Source, StdSink, StdSource};
 use permit_program::{Ended, LineNotice, add_listener, refuse_words, run};

@@ -2,9 +2,9 @@
 use Rattle.std.proofs.Common.{◌≡◌, ℕ, List, length, Option, Some, None, refl, ap, subst, sym, ◌∙◌, inl, inr}
 use Rattle.std.specs.Prelude.{Result, Ok, Err}
 use Rattle.std.specs.String.{string_bytes}
-use Rattle.record_text.specs.declared.refusal.Cause.{Cause}
-use Rattle.record_text.specs.declared.refusal.FileRefusal.{FileRefusal}
-use Rattle.record_text.specs.declared.refusal.FileRefusal.TheVariants as file
+use Rattle.day_text.specs.declared.refusal.Cause.{Cause}
+use Rattle.day_text.specs.declared.refusal.FileRefusal.{FileRefusal}
+use Rattle.day_text.specs.declared.refusal.FileRefusal.TheVariants as file
 use Rattle.day_text.specs.Refusals.{IsRefusedAs}
 use Rattle.journal_reader.specs.Cuts.{IsCutBehindEnd}
 use Rattle.journal_audit.specs.declared.verdict.Verdict.{Verdict}

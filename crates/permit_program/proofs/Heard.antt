@@ -5,9 +5,8 @@ use Rattle.notice_desk.specs.Notices.{recalls_for}
 use Rattle.notice_desk.specs.Standings.{Standing, new_standing}
 use Rattle.notice_desk.specs.declared.notice.Recall.{Recall}
 use Rattle.notice_desk.specs.declared.notice.Whom.TheVariants as whom
-use Rattle.recall_list.specs.RecallLists.{recalls_in}
-use Rattle.permit_program.specs.Laws.{ListenersHearAll}
-use Rattle.permit_program.specs.Laws.{HasListener, HeardAll}
+use Rattle.reroute_desk.specs.RecallLists.{recalls_in}
+use Rattle.permit_program.specs.Laws.{ListenersHearAll, HasListener, HeardAll}
 use Rattle.permit_program.specs.Runs.{Outside, WroteAll}
 use Rattle.command_line.specs.declared.asked.Task.{Task}
 use Rattle.permit_program.specs.Commands.{command_by}

@@ -1,7 +1,7 @@
 -- What every command keeps, whatever it is.
 use Rattle.std.proofs.Common.{◌≡◌, ◌⊎◌, ℕ, List, Option, Some, None, sym, subst, inl, inr, ◌∙◌, refl}
 use Rattle.std.specs.Prelude.{Result, Ok, Err, option_map}
-use Rattle.check_report.specs.Reports.{IsReport}
+use Rattle.report_text.specs.Checks.{IsReport}
 use Rattle.command_line.specs.declared.asked.Options.{Options}
 use Rattle.command_line.specs.declared.asked.Task.{Task}
 use Rattle.command_line.specs.declared.asked.Task.TheVariants as task
@@ -14,11 +14,11 @@ use Rattle.day_text.specs.Checks.{check_of}
 use Rattle.day_text.specs.Days.{DayParts, day_of}
 use Rattle.journal_audit.specs.declared.verdict.Verdict.{Verdict}
 use Rattle.journal_audit.specs.declared.verdict.Verdict.TheVariants.{Bad, Legal}
-use Rattle.loading_report.specs.Designs.{IsDesignReport}
+use Rattle.report_text.specs.Designs.{IsDesignReport}
 use Rattle.office_words.specs.declared.entry.Entry.{Entry}
-use Rattle.record_text.specs.declared.refusal.Cause.{Cause}
-use Rattle.record_text.specs.declared.refusal.Cause.TheVariants as why
-use Rattle.refusal_text.specs.Lines.{refusal_status_of}
+use Rattle.day_text.specs.declared.refusal.Cause.{Cause}
+use Rattle.day_text.specs.declared.refusal.Cause.TheVariants as why
+use Rattle.report_text.specs.RefusalLines.{refusal_status_of}
 use Rattle.permit_program.specs.Audit.{JudgesHistory, JudgesParts, answer_to_entry, answer_to_line, answer_to_verdict}
 use Rattle.permit_program.specs.Command.{Answer, Command, answer_to, judged_by, refusal_in}
 use Rattle.permit_program.specs.Commands.{command_by}

@@ -4,8 +4,8 @@ use Rattle.std.specs.Prelude.{option_map}
 use Rattle.std.specs.Global.{Global}
 use Rattle.names.specs.declared.refusal.NoMemory.{NoMemory}
 use Rattle.day_text.specs.Refusals.{IsRefusedAs}
-use Rattle.record_text.specs.declared.refusal.FileRefusal.{FileRefusal}
-use Rattle.record_text.specs.declared.refusal.FileRefusal.TheVariants as file
+use Rattle.day_text.specs.declared.refusal.FileRefusal.{FileRefusal}
+use Rattle.day_text.specs.declared.refusal.FileRefusal.TheVariants as file
 use Rattle.road_graph.specs.Roads.{IsRoads}
 use Rattle.day_text.specs.declared.check_file.CheckFile.{CheckFile}
 use Rattle.day_text.specs.Checks.{check_of}
@@ -13,15 +13,15 @@ use Rattle.day_text.specs.Days.{DayParts, day_of}
 use Rattle.convoy_moves.specs.Convoys.{EqualTrucks, convoy_of}
 use Rattle.convoy_moves.specs.Refusals.{first_refusal}
 use Rattle.convoy_moves.specs.declared.refusal.ConvoyRefusal.{ConvoyRefusal}
-use Rattle.loading_report.specs.Convoys.{IsConvoyReport, IsOnlyConvoyReport}
+use Rattle.report_text.specs.Convoys.{IsConvoyReport, IsOnlyConvoyReport}
 use Rattle.journal_text.specs.Journals.{journal_of}
 use Rattle.office_words.specs.declared.entry.Entry.{Entry}
 use Rattle.day_run.specs.Served.{IsServed, LoneActorsAreOne}
 use Rattle.notice_desk.specs.declared.notice.Recall.{Recall}
-use Rattle.recall_list.specs.RecallLists.{recalls_in}
+use Rattle.reroute_desk.specs.RecallLists.{recalls_in}
 use Rattle.day_maker.specs.Made.{made_day}
 use Rattle.day_trial.specs.Serial.{IsSerial, SerialHistoriesAreOne}
-use Rattle.trial_report.specs.Summaries.{summary_of}
+use Rattle.report_text.specs.Summaries.{summary_of}
 use Rattle.permit_program.specs.Headline.{Headline}
 use Rattle.permit_program.specs.Command.{IsCommandAnswer, IsAnswerTo, IsRefusalOf, Makes, MakesAndTells, refusal_in}
 use Rattle.permit_program.specs.Convoy.{answer_to_convoy, convoy, convoy_refusal}

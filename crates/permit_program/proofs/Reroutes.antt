@@ -3,14 +3,14 @@ use Rattle.std.proofs.Common.{◌≡◌, ◌≤◌, ℕ, List, length, Option, S
 use Rattle.std.specs.Prelude.{Result, Ok, Err}
 use Rattle.std.specs.String.{string_bytes}
 use Rattle.road_graph.specs.Roads.{IsRoads}
-use Rattle.record_text.specs.declared.refusal.Cause.{Cause}
-use Rattle.record_text.specs.declared.refusal.FileRefusal.{FileRefusal}
-use Rattle.record_text.specs.declared.refusal.FileRefusal.TheVariants as file
+use Rattle.day_text.specs.declared.refusal.Cause.{Cause}
+use Rattle.day_text.specs.declared.refusal.FileRefusal.{FileRefusal}
+use Rattle.day_text.specs.declared.refusal.FileRefusal.TheVariants as file
 use Rattle.day_text.specs.Days.{DayParts, day_of}
 use Rattle.day_text.specs.Refusals.{IsRefusedAs}
 use Rattle.office_words.specs.declared.entry.Entry.{Entry}
-use Rattle.day_reroute.specs.Rerouted.{IsRerouted, IsTooLong, ReroutedHistoriesAreOne}
-use Rattle.reroute_report.specs.Lines.{reroute_text}
+use Rattle.day_trial.specs.Rerouted.{IsRerouted, IsTooLong, ReroutedHistoriesAreOne}
+use Rattle.report_text.specs.RecallLines.{reroute_text}
 use Rattle.permit_program.specs.Command.{Answer, IsCommandAnswer, IsAnswerTo, IsRefusalOf, Makes}
 use Rattle.permit_program.specs.Reroute.{HasRoomFor, IsReroute, JudgesDay, JudgesFile, answer_to_entries, reroute}
 use Rattle.permit_program.specs.declared.refusal.Refusal.{Refusal}

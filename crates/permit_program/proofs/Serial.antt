@@ -8,7 +8,7 @@ use Rattle.day_text.specs.Scripts.{script_of}
 use Rattle.day_text.proofs.EveryDay.{day_keeps}
 use Rattle.office_words.specs.declared.entry.Command.{Command}
 use Rattle.office_words.specs.declared.entry.Entry.{Entry}
-use Rattle.command_calls.specs.Unfolds.{AreFinished, IsFinished}
+use Rattle.analyst_pool.specs.Unfolds.{AreFinished, IsFinished}
 use Rattle.day_run.proofs.Callers.{lone_by, none_by}
 use Rattle.day_trial.specs.Serial.{CarriesOut}
 use Rattle.permit_program.specs.Laws.{LoneDaysAreSerial}

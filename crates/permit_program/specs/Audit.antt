@@ -1,7 +1,7 @@
 -- `audit`: a journal is judged against the day file that stands behind it.
 use Rattle.std.specs.Prelude.{◌≡◌, ◌⊎◌, ◌+◌, ◌++◌, ◌∷◌, [], ℕ, true, List, length, codes, Option, Some, None, Result, Ok, Err}
 use Rattle.std.specs.Fmt.{decimal}
-use Rattle.record_text.specs.declared.refusal.Cause.{Cause}
+use Rattle.day_text.specs.declared.refusal.Cause.{Cause}
 use Rattle.day_text.specs.Days.{DayParts, day_of}
 use Rattle.office_words.specs.declared.entry.Entry.{Entry}
 use Rattle.office_core.specs.Machine.{IsLegal}

@@ -2,10 +2,10 @@
 use Rattle.std.specs.Prelude.{◌≡◌, ℕ, Bool, List, Option, Some, None, Result, Ok, Err}
 use Rattle.std.specs.String.{string_bytes}
 use Rattle.notice_desk.specs.declared.notice.Recall.{Recall}
-use Rattle.record_text.specs.declared.refusal.Cause.{Cause}
-use Rattle.record_text.specs.declared.refusal.FileRefusal.{FileRefusal}
-use Rattle.record_text.specs.declared.refusal.FileRefusal.TheVariants as file
-use Rattle.refusal_text.specs.Lines.{refusal_line_of, refusal_status_of}
+use Rattle.day_text.specs.declared.refusal.Cause.{Cause}
+use Rattle.day_text.specs.declared.refusal.FileRefusal.{FileRefusal}
+use Rattle.day_text.specs.declared.refusal.FileRefusal.TheVariants as file
+use Rattle.report_text.specs.RefusalLines.{refusal_line_of, refusal_status_of}
 use Rattle.permit_program.specs.declared.refusal.Refusal.{Refusal}
 use Rattle.permit_program.specs.declared.refusal.Refusal.TheVariants.{NoMemory, Refused}
 

@@ -3,10 +3,10 @@ use Rattle.std.specs.Prelude.{◌≡◌, ℕ, true, List, Option, Some, None, op
 use Rattle.convoy_moves.specs.Convoys.{convoy_of}
 use Rattle.convoy_moves.specs.Refusals.{first_refusal}
 use Rattle.convoy_moves.specs.declared.refusal.ConvoyRefusal.{ConvoyRefusal}
-use Rattle.record_text.specs.declared.refusal.Cause.{Cause}
+use Rattle.day_text.specs.declared.refusal.Cause.{Cause}
 use Rattle.day_text.specs.declared.check_file.CheckFile.{CheckFile}
 use Rattle.day_text.specs.Checks.{check_of}
-use Rattle.loading_report.specs.Convoys.{IsConvoyReport, convoy_refusal_line}
+use Rattle.report_text.specs.Convoys.{IsConvoyReport, convoy_refusal_line}
 use Rattle.permit_program.specs.Command.{Answer, Command, answer_to, judged_by}
 
 -- how trucks that are no convoy are answered

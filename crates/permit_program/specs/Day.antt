@@ -1,7 +1,7 @@
 -- `day`: the journal of an office's day, and the recalls of its history.
 use Rattle.std.specs.Prelude.{◌≡◌, ◌≤◌, ℕ, true, List, length, Some, Ok}
 use Rattle.day_text.specs.Days.{DayParts, day_of}
-use Rattle.recall_list.specs.RecallLists.{recalls_in}
+use Rattle.reroute_desk.specs.RecallLists.{recalls_in}
 use Rattle.permit_program.specs.Headline.{Headline}
 use Rattle.permit_program.specs.Command.{Command, judged_by, refusal_in}
 

@@ -12,7 +12,7 @@ use Rattle.office_words.specs.declared.entry.Reply.TheVariants as reply
 use Rattle.office_core.specs.Costs.{Counts}
 use Rattle.office_core.specs.Machine.{IsLegal, entries_by}
 use Rattle.office_core.specs.Promises.{KeepsPromises}
-use Rattle.command_calls.specs.Unfolds.{AreFinished}
+use Rattle.analyst_pool.specs.Unfolds.{AreFinished}
 
 -- The headline: the bytes are a day file, and the text is the journal of a history that keeps all of these.
 pub record Headline (bytes text : List ℕ) : Type 0 where

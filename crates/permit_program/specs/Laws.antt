@@ -6,7 +6,7 @@ use Rattle.notice_desk.specs.Lines.{recall_lines}
 use Rattle.notice_desk.specs.Standings.{new_standing}
 use Rattle.notice_desk.specs.declared.notice.Recall.{Recall}
 use Rattle.notice_desk.specs.declared.notice.Whom.TheVariants as whom
-use Rattle.recall_list.specs.RecallLists.{recalls_in}
+use Rattle.reroute_desk.specs.RecallLists.{recalls_in}
 use Rattle.day_trial.specs.Serial.{IsSerial}
 use Rattle.permit_program.specs.Headline.{Headline}
 use Rattle.permit_program.specs.Command.{Answer}

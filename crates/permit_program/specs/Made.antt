@@ -3,7 +3,7 @@ use Rattle.std.specs.Prelude.{◌≡◌, ℕ, false, List, None, Ok}
 use Rattle.day_text.specs.Days.{DayParts, day_of}
 use Rattle.day_maker.specs.Made.{made_day}
 use Rattle.day_trial.specs.Serial.{IsSerial}
-use Rattle.trial_report.specs.Summaries.{summary_of}
+use Rattle.report_text.specs.Summaries.{summary_of}
 use Rattle.office_words.specs.declared.entry.Entry.{Entry}
 use Rattle.permit_program.specs.Command.{Command, judged_by}
 

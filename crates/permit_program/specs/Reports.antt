@@ -2,8 +2,8 @@
 use Rattle.std.specs.Prelude.{◌≡◌, ℕ, true, List, None, Ok}
 use Rattle.day_text.specs.declared.check_file.CheckFile.{CheckFile}
 use Rattle.day_text.specs.Checks.{check_of}
-use Rattle.check_report.specs.Reports.{IsReport}
-use Rattle.loading_report.specs.Designs.{IsDesignReport}
+use Rattle.report_text.specs.Checks.{IsReport}
+use Rattle.report_text.specs.Designs.{IsDesignReport}
 use Rattle.permit_program.specs.Command.{Command, judged_by, refusal_in}
 
 -- the promise: the bytes are a check file, and the text is the report on that file

@@ -1,10 +1,10 @@
 -- `reroute`: a day on one thread, in which each permit that is recalled is applied for again.
 use Rattle.std.specs.Prelude.{◌≡◌, ◌⊎◌, ◌≤◌, ◌++◌, ◌∷◌, [], ℕ, true, List, codes, length, Option, Some, None, Result, Ok, Err}
-use Rattle.record_text.specs.declared.refusal.Cause.{Cause}
+use Rattle.day_text.specs.declared.refusal.Cause.{Cause}
 use Rattle.day_text.specs.Days.{DayParts, day_of}
 use Rattle.office_words.specs.declared.entry.Entry.{Entry}
-use Rattle.day_reroute.specs.Rerouted.{IsRerouted, IsTooLong}
-use Rattle.reroute_report.specs.Lines.{reroute_text}
+use Rattle.day_trial.specs.Rerouted.{IsRerouted, IsTooLong}
+use Rattle.report_text.specs.RecallLines.{reroute_text}
 use Rattle.permit_program.specs.Command.{Answer, Command, answer_to}
 
 -- the line of a day with more entries than a history may hold

@@ -8,8 +8,7 @@ ghost use Rattle.permit_program.specs.Command.{IsRefusalOf, Makes};
 ghost use Rattle.permit_program.specs.Runs.{most_bytes};
 
 use crate::refusal::Refusal;
-use day_start::prepare;
-use day_text::{DayFile, read_day};
+use day_text::{DayFile, prepare, read_day};
 use journal_audit::{Verdict, audit};
 use journal_reader::{cut_behind_end, journals_are_long, read};
 use names::NoMemory;

@@ -9,7 +9,7 @@ use crate::refusal::Refusal;
 use command_line::Options;
 use convoy_moves::Convoy;
 use day_text::read_check;
-use loading_report::convoy_report;
+use report_text::convoy_report;
 use std::alloc::Global;
 
 /// The report of `convoy` on the check file that the bytes are, with as many trucks and as small a gap as the options say.

@@ -2,21 +2,21 @@
 
 ghost use Rattle.std.specs.Prelude.{◌≡◌, ◌<◌, IfErr, IfOk};
 ghost use Rattle.journal_text.specs.Journals.{journal_of};
-ghost use Rattle.recall_list.specs.RecallLists.{recalls_in};
+ghost use Rattle.reroute_desk.specs.RecallLists.{recalls_in};
 ghost use Rattle.permit_program.specs.Command.{IsRefusalOf, MakesAndTells};
 ghost use Rattle.permit_program.specs.Day.{day};
 ghost use Rattle.permit_program.specs.Headline.{CountedHeadline};
 
 use crate::refusal::Refusal;
+use analyst_pool::Gate;
 use clearance_rules::Steps;
-use command_calls::Gate;
 use day_run::{lone_actors_are_one, serve};
 use day_text::{DayFile, read_day};
 use journal_text::print;
 use names::NoMemory;
 use notice_desk::Recall;
 use office_core::Office;
-use recall_list::recalls;
+use reroute_desk::recalls;
 use std::alloc::Global;
 use std::sync::Wait;
 use std::sync::ledger::{Blank, Ledger};

@@ -11,8 +11,8 @@ use day_maker::{made_days_are_accepted, make_day};
 use day_text::{DayFile, FileRefusal, read_day};
 use day_trial::{serial_histories_are_one, serve_in_order};
 use names::NoMemory;
+use report_text::summary;
 use std::alloc::Global;
-use trial_report::summary;
 
 /// The day file that is made from a number, of this size. There is no other.
 pub(crate) fn make_day_file(alloc: Global, seed: u32, size: u32) -> Result<Vec<u8>, NoMemory>

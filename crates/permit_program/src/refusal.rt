@@ -12,9 +12,8 @@ ghost use Rattle.permit_program.specs.declared.refusal.Refusal.TheVariants as re
 use convoy_moves::ConvoyRefusal;
 use day_text::FileRefusal;
 use journal_reader::JournalRefusal;
-use loading_report::convoy_refusal_line;
 use names::NoMemory;
-use refusal_text::{refusal_line, refusal_status};
+use report_text::{convoy_refusal_line, refusal_line, refusal_status};
 use std::alloc::Global;
 use thiserror::Error;
 

@@ -6,9 +6,8 @@ ghost use Rattle.permit_program.specs.Command.{IsRefusalBy, IsRefusalOf, Makes, 
 ghost use Rattle.permit_program.specs.Reports.{check, design};
 
 use crate::refusal::Refusal;
-use check_report::report;
 use day_text::{CheckFile, read_check};
-use loading_report::design_report;
+use report_text::{design_report, report};
 use std::alloc::Global;
 
 /// The report of `check` on the check file that the bytes are. There is no other. `Refused` has the status and the line

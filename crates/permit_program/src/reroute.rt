@@ -5,9 +5,9 @@ ghost use Rattle.permit_program.specs.Command.{IsRefusalOf, Makes};
 ghost use Rattle.permit_program.specs.Reroute.{reroute};
 
 use crate::refusal::Refusal;
-use day_reroute::{ServingRefusal, rerouted_histories_are_one, serve_rerouted};
 use day_text::read_day;
-use reroute_report::reroute_report;
+use day_trial::{ServingRefusal, rerouted_histories_are_one, serve_rerouted};
+use report_text::reroute_report;
 use std::alloc::Global;
 
 /// A line for each permit that is recalled where the commands of the day file that the bytes are, are carried out one after another

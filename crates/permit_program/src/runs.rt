@@ -7,15 +7,14 @@ ghost use Rattle.notice_desk.specs.Standings.{AreNew};
 ghost use Rattle.command_line.specs.Asking.{NumbersAreInRange, asked_of};
 ghost use Rattle.command_line.specs.declared.asked.Asked.{Asked};
 ghost use Rattle.command_line.specs.declared.asked.Task.TheVariants as task;
-ghost use Rattle.permit_program.specs.Runs.{CountedDay, CountsItsDay, DeskAt, IsAlone, IsRun, Took, WroteLine, desk_at, most_bytes};
-ghost use Rattle.permit_program.specs.Runs.{outside_of, sink_at, source_at, usage_line};
+ghost use Rattle.permit_program.specs.Runs.{CountedDay, CountsItsDay, DeskAt, IsAlone, IsRun, Took, WroteLine, desk_at, most_bytes, outside_of, sink_at, source_at, usage_line};
 ghost use Rattle.permit_program.specs.Endings.{AnswersRefusal, AnswersText, AnswersUnread, WasUnread};
 
 use crate::commands::{make_text, reads};
 use crate::day::make_journal;
 use crate::refusal::Refusal;
+use analyst_pool::Gate;
 use clearance_rules::Steps;
-use command_calls::Gate;
 use command_line::{Asked, Task, WordsRefusal, read_words};
 use notice_desk::{Notice, NoticeFault, Subscribers};
 use office_io::{ReadRefusal, Sink, Source, read_all, write_all};

@@ -2,7 +2,7 @@
 
 use crate::days::{BOTH, BOTH_ISSUED, MEETING, MET, OVERTAKEN, OVERTAKING};
 use crate::runs::run_at;
-use command_calls::Gate;
+use analyst_pool::Gate;
 use std::process::Abort;
 use std::sync::Wait;
 use std::sync::atomic::{AtomicU64, Ordering};

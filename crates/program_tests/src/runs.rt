@@ -4,7 +4,7 @@ ghost use Rattle.std.specs.Prelude.{◌≡◌, ◌<◌};
 ghost use Rattle.notice_desk.specs.Standings.{AreNew, standings};
 
 use crate::days::{DAYS, ISSUED, MEETING, NO_LEAP_DAY, RECALLING};
-use command_calls::{Gate, OpenGate};
+use analyst_pool::{Gate, OpenGate};
 use names::Name;
 use notice_desk::{MemoryNotice, Notice, Recall, Subscribers};
 use office_io::{MemorySink, MemorySource};

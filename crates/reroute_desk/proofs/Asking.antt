@@ -4,10 +4,10 @@ use Rattle.std.proofs.lemmas.List.{append-nil}
 use Rattle.std.proofs.lemmas.Bool.{cases_lt}
 use Rattle.road_graph.specs.Roads.{IsRoads}
 use Rattle.permit_days.specs.Days.{is_before}
-use Rattle.trip_applications.specs.Applications.{Sound}
-use Rattle.fleet.specs.Bases.{AreTrains}
+use Rattle.trip_analysis.specs.Applications.{Sound}
+use Rattle.trip_analysis.specs.Bases.{AreTrains}
 use Rattle.trip_analysis.specs.Findings.{is_number_among}
-use Rattle.trip_applications.specs.declared.application.Application.{Application}
+use Rattle.trip_analysis.specs.declared.application.Application.{Application}
 use Rattle.office_words.specs.declared.entry.Call.TheVariants as call
 use Rattle.office_words.specs.declared.entry.Reply.{Reply}
 use Rattle.office_words.specs.declared.entry.Reply.TheVariants as reply
@@ -15,7 +15,7 @@ use Rattle.office_core.specs.Machine.{IsLegal}
 use Rattle.office_core.specs.Offices.{HasPlace, IsFull, Opened, entry, grown}
 use Rattle.office_core.specs.Promises.{KeepsPromises}
 use Rattle.office_core.specs.Replies.{is_full}
-use Rattle.recall_list.specs.Issues.{recalled_in}
+use Rattle.reroute_desk.specs.Issues.{recalled_in}
 use Rattle.reroute_desk.specs.declared.handled.HandledAs.{HandledAs}
 use Rattle.reroute_desk.specs.declared.handled.HandledAs.TheVariants.{Ended, Refused, Replaced}
 use Rattle.reroute_desk.specs.declared.refusal.RerouteRefusal.{RerouteRefusal}

@@ -2,14 +2,14 @@
 use Rattle.std.proofs.Common.{◌≡◌, ◌∙◌, ap, sym, ℕ, List, [], ◌∷◌, ◌++◌, Bool, true, take, drop, Option, None, Some}
 use Rattle.std.proofs.lemmas.List.{take-append-drop}
 use Rattle.permit_days.specs.Days.{is_before}
-use Rattle.trip_applications.specs.declared.application.Application.{Application}
+use Rattle.trip_analysis.specs.declared.application.Application.{Application}
 use Rattle.trip_analysis.specs.Findings.{is_number_among}
 use Rattle.office_core.specs.Happened.{Day, History, day_after}
 use Rattle.office_core.specs.Machine.{IsLegal}
 use Rattle.office_core.specs.Offices.{Opened, machine_in}
 use Rattle.office_core.specs.Promises.{KeepsPromises}
 use Rattle.office_core.proofs.DayAfter.{day_is}
-use Rattle.recall_list.specs.Issues.{recalled_in}
+use Rattle.reroute_desk.specs.Issues.{recalled_in}
 use Rattle.reroute_desk.specs.declared.handled.Handled.{Handled}
 use Rattle.reroute_desk.specs.declared.rerouter.Rerouter.TheInside.{Inside}
 use Rattle.reroute_desk.specs.Desks.{Desk, IsNext, KeepsUp, desk_of, olds_of}

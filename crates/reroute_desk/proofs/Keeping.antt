@@ -1,13 +1,12 @@
 -- A desk keeps up with its office.
-use Rattle.std.proofs.Common.{◌≡◌, ◌≢◌, ◌∙◌, ap, sym, refl, subst, ℕ, List, [], ◌∷◌, ◌++◌, Bool, true, false, cond, filter, take, append_assoc, ◌==◌, ◌&&◌, not, arith}
+use Rattle.std.proofs.Common.{◌≡◌, ◌≢◌, ◌∙◌, ap, sym, refl, subst, ℕ, List, [], ◌∷◌, ◌++◌, Bool, true, false, cond, filter, take, append_assoc, ◌==◌, ◌&&◌, not, arith, ◌⊎◌, inl, inr}
 use Rattle.std.proofs.lemmas.Bool.{cases_Bool, eqb-true}
 use Rattle.std.proofs.lemmas.Grind.{flat_map-append}
 use Rattle.std.proofs.lemmas.List.{append-nil, length-append, take-append-le}
-use Rattle.std.proofs.Common.{◌⊎◌, inl, inr}
 use Rattle.office_words.specs.declared.entry.Entry.{Entry}
 use Rattle.office_core.specs.Happened.{History, Numbers}
 use Rattle.office_core.specs.Machine.{entries_by}
-use Rattle.recall_list.specs.Issues.{told_of_issued, recalled_in, recalled_numbers}
+use Rattle.reroute_desk.specs.Issues.{told_of_issued, recalled_in, recalled_numbers}
 use Rattle.reroute_desk.specs.declared.handled.Handled.{Handled}
 use Rattle.reroute_desk.specs.Desks.{AreFirst, AskAgain, Placed, is_answered, is_lack, olds_of, placed_behind, renewals}
 use Rattle.reroute_desk.specs.Laws.{CallsOfOthersKeepUp, NewDesksKeepUp}

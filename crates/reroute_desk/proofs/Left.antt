@@ -4,7 +4,7 @@ use Rattle.std.proofs.lemmas.List.{append-nil, length-append}
 use Rattle.std.proofs.Math.Seq.{get_or-append_seam, take-length}
 use Rattle.office_core.specs.Happened.{History, Numbers}
 use Rattle.office_core.specs.Offices.{Opened}
-use Rattle.recall_list.specs.Issues.{recalled_in}
+use Rattle.reroute_desk.specs.Issues.{recalled_in}
 use Rattle.reroute_desk.specs.declared.handled.Handled.{Handled}
 use Rattle.reroute_desk.specs.Desks.{AreFirst, Desk, HasHandledAll, IsNext, olds_of}
 use Rattle.reroute_desk.specs.Notes.{AreNotes, Noted}

@@ -8,3 +8,4 @@ pub mod Asking
 pub mod Handling
 pub mod Left
 pub mod Once
+pub mod Trucks

@@ -12,8 +12,8 @@ use Rattle.office_core.specs.Became.{RecallsAt}
 use Rattle.office_core.specs.Offices.{entry}
 use Rattle.office_core.specs.Promises.{KeepsPromises}
 use Rattle.office_core.proofs.Counts.{issued-append, issued-cons, one_if}
-use Rattle.recall_list.specs.Issues.{recalled_in, recalled_numbers}
-use Rattle.fleet.specs.Bases.{BaseLists}
+use Rattle.reroute_desk.specs.Issues.{recalled_in, recalled_numbers}
+use Rattle.trip_analysis.specs.Bases.{BaseLists}
 use Rattle.reroute_desk.specs.declared.handled.Handled.{Handled}
 use Rattle.reroute_desk.specs.declared.handled.HandledAs.{HandledAs}
 use Rattle.reroute_desk.specs.declared.handled.HandledAs.TheVariants.{Ended, Refused, Replaced}

@@ -3,8 +3,8 @@ use Rattle.std.proofs.Common.{◌≡◌, ◌∙◌, ◌⊎◌, inl, inr, ap, sym
 use Rattle.std.specs.List.{concat}
 use Rattle.std.proofs.lemmas.List.{append_cancel_left}
 use Rattle.permit_days.specs.Days.{is_before}
-use Rattle.fleet.specs.Bases.{BaseLists}
-use Rattle.trip_applications.specs.declared.application.Application.{Application}
+use Rattle.trip_analysis.specs.Bases.{BaseLists}
+use Rattle.trip_analysis.specs.declared.application.Application.{Application}
 use Rattle.trip_analysis.specs.Findings.{is_number_among}
 use Rattle.office_words.specs.declared.entry.Call.{Call}
 use Rattle.office_words.specs.declared.entry.Entry.{Entry}
@@ -18,8 +18,8 @@ use Rattle.office_core.specs.Recalled.{WasIssuedOnce}
 use Rattle.office_core.specs.Standing.{FailsOn}
 use Rattle.office_core.proofs.Issuing.{recalled_issued}
 use Rattle.office_core.proofs.Once.{stands_in}
-use Rattle.recall_list.specs.Issues.{told_of_issued, recalled_in, recalled_numbers}
-use Rattle.recall_list.proofs.Trucks.{found_told}
+use Rattle.reroute_desk.specs.Issues.{told_of_issued, recalled_in, recalled_numbers}
+use Rattle.reroute_desk.proofs.Trucks.{found_told}
 
 either : (a b : Bool) → (a || b) ≡ true → (a ≡ true) ⊎ (b ≡ true)
 either true b e = inl refl

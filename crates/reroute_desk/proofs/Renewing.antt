@@ -8,10 +8,10 @@ use Rattle.std.specs.List.{concat}
 use Rattle.road_graph.specs.Roads.{IsRoads}
 use Rattle.permit_days.specs.Days.{is_before}
 use Rattle.clearance_rules.specs.Loads as loads
-use Rattle.fleet.specs.Bases.{AreTrains, BaseLists, truck_of}
-use Rattle.trip_applications.specs.Applications.{Sound}
+use Rattle.trip_analysis.specs.Bases.{AreTrains, BaseLists, truck_of}
+use Rattle.trip_analysis.specs.Applications.{Sound}
 use Rattle.trip_analysis.specs.Findings.{is_number_among}
-use Rattle.trip_applications.specs.declared.application.Application.{Application}
+use Rattle.trip_analysis.specs.declared.application.Application.{Application}
 use Rattle.office_words.specs.declared.entry.Call.TheVariants as call
 use Rattle.office_words.specs.declared.entry.Reply.{Reply}
 use Rattle.office_words.specs.declared.entry.Reply.TheVariants as reply

@@ -1,7 +1,7 @@
 -- A desk that applies again for recalled permits, beside the office that it calls.
 use Rattle.std.specs.Prelude.{◌≡◌, ◌≢◌, ◌<◌, ◌++◌, ◌∷◌, [], ◌==◌, ◌&&◌, not, ℕ, Bool, true, false, List, map, filter, All, Option, Some, None, Result, Err, is_some}
 use Rattle.permit_days.specs.Days.{is_before}
-use Rattle.trip_applications.specs.declared.application.Application.{Application}
+use Rattle.trip_analysis.specs.declared.application.Application.{Application}
 use Rattle.office_words.specs.declared.entry.Call.TheVariants as call
 use Rattle.office_words.specs.declared.entry.Entry.{Entry}
 use Rattle.office_words.specs.declared.entry.Reply.{Reply}
@@ -9,7 +9,7 @@ use Rattle.office_words.specs.declared.entry.Reply.TheVariants as reply
 use Rattle.office_core.specs.Became.{WasIssuedFor}
 use Rattle.office_core.specs.Happened.{Day, History, Numbers, Routes, day_after}
 use Rattle.office_core.specs.Offices.{IsFull, Opened}
-use Rattle.recall_list.specs.Issues.{recalled_in}
+use Rattle.reroute_desk.specs.Issues.{recalled_in}
 use Rattle.reroute_desk.specs.declared.handled.Handled.{Handled}
 use Rattle.reroute_desk.specs.declared.handled.HandledAs.{HandledAs}
 use Rattle.reroute_desk.specs.declared.handled.HandledAs.TheVariants.{Ended, Refused, Replaced}

@@ -2,6 +2,9 @@ pub mod Replacements
 pub mod Notes
 pub mod Desks
 pub mod Laws
+pub mod Issues
+pub mod RecallLists
 pub use Rattle.office_core.specs.Machine
 pub use Rattle.office_core.specs.Offices
-pub use Rattle.recall_list.specs.Issues
+pub use Rattle.office_core.specs.Happened
+pub use Rattle.office_core.specs.Recalled

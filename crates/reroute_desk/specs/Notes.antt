@@ -3,9 +3,9 @@ use Rattle.std.specs.Prelude.{◌≡◌, ◌≤◌, ℕ, List, [], length, take,
 use Rattle.std.specs.BTreeMap.{is_at}
 use Rattle.std.specs.Map.{lookup}
 use Rattle.std.specs.Ordering.{nat_cmp}
-use Rattle.trip_applications.specs.declared.application.Application.{Application}
+use Rattle.trip_analysis.specs.declared.application.Application.{Application}
 use Rattle.office_core.specs.Happened.{History, Numbers}
-use Rattle.recall_list.specs.Issues.{told_of_issued, recalled_in}
+use Rattle.reroute_desk.specs.Issues.{told_of_issued, recalled_in}
 use Rattle.reroute_desk.specs.declared.notes.Notes.TheInside.{Inside}
 use Rattle.reroute_desk.specs.Replacements.{unasked}
 

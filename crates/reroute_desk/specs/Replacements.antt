@@ -1,9 +1,9 @@
 -- The application for a recalled permit once more.
 use Rattle.std.specs.Prelude.{ℕ, Option, None, if◌then◌else◌}
 use Rattle.permit_days.specs.Days.{is_before}
-use Rattle.trip_applications.specs.declared.application.Application.{Application}
+use Rattle.trip_analysis.specs.declared.application.Application.{Application}
 use Rattle.office_core.specs.Happened.{Day, History, day_after}
-use Rattle.recall_list.specs.Issues.{told_of_issued}
+use Rattle.reroute_desk.specs.Issues.{told_of_issued}
 
 -- an application that asks for no route
 abbrev pub unasked : Application → Application

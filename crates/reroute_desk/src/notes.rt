@@ -3,7 +3,7 @@
 ghost use Rattle.std.specs.Prelude.{◌≡◌, ◌++◌, length, ℕ, OnOk, option_map};
 ghost use Rattle.std.specs.Option.{option_or};
 ghost use Rattle.office_core.specs.Happened.{application_in};
-ghost use Rattle.recall_list.specs.Issues.{issued_by, recalled_numbers};
+ghost use Rattle.reroute_desk.specs.Issues.{issued_by, recalled_numbers};
 ghost use Rattle.reroute_desk.specs.Replacements.{unasked};
 ghost use Rattle.reroute_desk.specs.Notes.{AreNotes, no_notes, noted_trip_of};
 
@@ -12,7 +12,7 @@ use office_words::{Call, Entry, Reply};
 use std::alloc::Global;
 use std::collections::BTreeMap;
 use std::marker::Model;
-use trip_applications::Application;
+use trip_analysis::Application;
 
 /// What a desk has noted of a history: how many entries it has read, the trips of the permits that these issued, and the numbers
 /// that they recalled, in order.

@@ -2,7 +2,7 @@
 
 ghost use Rattle.std.specs.Prelude.{◌≡◌, ◌<◌, ◌+◌, ◌∷◌, [], false, ℕ, Some, length, get_or, IfErr, IfOk, OnOk};
 ghost use Rattle.permit_days.specs.Days.{is_before};
-ghost use Rattle.recall_list.specs.Issues.{recalled_in};
+ghost use Rattle.reroute_desk.specs.Issues.{recalled_in};
 ghost use Rattle.reroute_desk.specs.Replacements.{again_behind, renewed};
 ghost use Rattle.reroute_desk.specs.Desks.{AnswersRenewal, HasGoneOn, HasHandledAll, IsNext, IsRerouteCause, KeepsUp, office_day, is_ended, kept_reply, new_desk, refusal_reply};
 
@@ -15,7 +15,7 @@ use permit_days::Day;
 use std::alloc::Global;
 use std::marker::Model;
 use std::sync::ledger::Ledger;
-use trip_applications::Application;
+use trip_analysis::Application;
 
 /// A desk that applies again for each permit that was recalled, once.
 ///

@@ -1,12 +1,11 @@
 ghost use Rattle.std.specs.Prelude.{◌≡◌, ◌<◌, ◌↔◌, length, All, IfOk, IsTrue};
 ghost use Rattle.restriction_log.specs.States.{AreOf};
-ghost use Rattle.trip_applications.specs.Applications.{AreAskedThere, Sound};
+ghost use Rattle.trip_analysis.specs.Applications.{AreAskedThere, Sound};
 ghost use Rattle.snapshot_store.specs.Stores.{IsLater};
 ghost use Rattle.trip_analysis.specs.Followers.{GoesOn, followed};
 
 use crate::fixtures::{after, base_state, day, holds, named, network, number, part, same, train};
 use clearance_rules::{Limit, Load, Steps};
-use fleet::{Base, Failing, Truck, TruckOn};
 use restriction_log::{Change, State};
 use road_graph::{Network, Numbers, SharedNumbers};
 use snapshot_store::Store;
@@ -16,10 +15,10 @@ use std::marker::Brand;
 use std::process::Abort;
 use std::sync::ledger::{Blank, Ledger};
 use trip_analysis::{
-    Follower, NodeSet, Proposal, What, asked_findings_are_of_the_routes, find, findings_hold,
-    first_meeting_out, free_findings_are_of_walks,
+    Application, ApplicationRefusal, Base, Failing, Follower, NodeSet, Proposal, Truck, TruckOn,
+    What, asked_findings_are_of_the_routes, find, findings_hold, first_meeting_out,
+    free_findings_are_of_walks, routes_break_off_where_walks_do,
 };
-use trip_applications::{Application, ApplicationRefusal, routes_break_off_where_walks_do};
 use trip_routes::{Routes, SharedRoutes};
 
 // What was built is let go by a call of `drop`: where a scope lets it go, the proof of the whole function goes through

@@ -1,10 +1,11 @@
 use crate::fixtures::{holds, same};
-use day_start::prepare;
-use day_text::{Cause, DayFile, FileRefusal, Kind, Order, RecordCause, read_check, read_day};
-use fleet::Base;
+use day_text::{
+    Cause, DayFile, FileRefusal, Kind, Order, RecordCause, prepare, read_check, read_day,
+};
 use office_words::Command;
 use std::alloc::Global;
 use std::process::Abort;
+use trip_analysis::Base;
 use trip_routes::SharedRoutes;
 
 // Nine records: three nodes, two segments one behind the other, a span, a truck and an actor.

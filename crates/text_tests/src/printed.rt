@@ -12,8 +12,7 @@ use restriction_log::Change;
 use road_graph::{Numbers, SharedNumbers};
 use std::alloc::Global;
 use std::process::Abort;
-use trip_analysis::{Proposal, What};
-use trip_applications::Application;
+use trip_analysis::{Application, Proposal, What};
 use trip_routes::{Routes, SharedRoutes};
 
 // The day of a text, which writes one.

@@ -1,11 +1,11 @@
 ghost use Rattle.std.specs.Prelude.{Ok};
-ghost use Rattle.record_text.specs.Causes.{◌>>=◌};
-ghost use Rattle.record_text.specs.Records.{has_only, number_in};
+ghost use Rattle.day_text.specs.Causes.{◌>>=◌};
+ghost use Rattle.day_text.specs.Records.{has_only, number_in};
 
 use crate::fixtures::holds;
 use axle_train::Axle;
 use csv::StringRecord;
-use record_text::{
+use day_text::{
     Cause, FileRefusal, Posted, Progress, RecordCause, RecordRefusal, has_only, number_in,
     parse_axles, parse_day, parse_name, parse_number, parse_posted, parse_routes, read_records,
 };

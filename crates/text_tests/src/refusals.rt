@@ -1,5 +1,5 @@
 use crate::fixtures::holds;
-use refusal_text::{Cause, Kind, RecordCause, refusal_line, refusal_lines_differ, refusal_status};
+use report_text::{Cause, Kind, RecordCause, refusal_line, refusal_lines_differ, refusal_status};
 use std::alloc::Global;
 use std::process::Abort;
 

@@ -1,7 +1,7 @@
 // The lines of permits that were recalled, from the journals of histories.
 
 use journal_reader::read;
-use reroute_report::reroute_report;
+use report_text::reroute_report;
 use std::alloc::Global;
 use std::process::Abort;
 

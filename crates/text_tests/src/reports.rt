@@ -1,8 +1,8 @@
 use crate::fixtures::{holds, same};
-use check_report::{report, report_is_one};
 use day_text::read_check;
 use hs20_truck::effects;
 use influence_line::Frac;
+use report_text::{report, report_is_one};
 use std::process::Abort;
 
 // The example truck of the Federal Highway Administration and two like it, of which one meets the two-tandem exception and

@@ -1,5 +1,5 @@
-use day_reroute::serve_rerouted;
 use day_text::read_day;
+use day_trial::serve_rerouted;
 use journal_text::print;
 use std::alloc::Global;
 use std::process::Abort;

@@ -1,6 +1,6 @@
 use day_text::read_day;
 use day_trial::serve_in_order;
-use trial_report::summary;
+use report_text::summary;
 
 // Two analysts and a posting between them: the truck is 168 in high, so the permit is recalled, and then refused.
 const DAY: &[u8] = b"day,2026-03-02,,,,,,

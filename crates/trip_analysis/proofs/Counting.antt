@@ -1,7 +1,7 @@
 -- Counts of tests that add up.
 use Rattle.std.proofs.Common.{ℕ, ◌+◌, ◌*◌, ◌≤◌, arith}
 use Rattle.std.proofs.Math.Nat.{mul-le-mul_left}
-use Rattle.fleet.specs.Passing.{TestsAtMost}
+use Rattle.trip_analysis.specs.Passing.{TestsAtMost}
 
 -- what was tested at most k times for each of some is tested so for each of more
 pub tests_of_more : (k from n before now : ℕ) → from ≤ n → TestsAtMost (k * from) before now → TestsAtMost (k * n) before now

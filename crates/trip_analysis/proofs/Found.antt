@@ -13,15 +13,15 @@ use Rattle.route_search.specs.declared.shortest.Shortest.TheVariants as shortest
 use Rattle.route_search.specs.Walks.{AreReached, IsAmong, IsWalk, every, flagged}
 use Rattle.route_search.specs.Founds.{IsShortest}
 use Rattle.route_search.proofs.Cuts.{reached_closed, shortest_in_range}
-use Rattle.trip_applications.specs.declared.application.Application.{Application}
+use Rattle.trip_analysis.specs.declared.application.Application.{Application}
 use Rattle.trip_analysis.specs.declared.finding.What.{What}
-use Rattle.fleet.specs.declared.failing.Failing.{Failing}
-use Rattle.fleet.specs.Bases.{BaseLists}
-use Rattle.trip_applications.specs.Applications.{IsAskedWalk, Sound}
-use Rattle.fleet.specs.Passing.{Limit, first_on, first_or, flags_of, is_passable, limit_for, needs_none}
+use Rattle.trip_analysis.specs.declared.failing.Failing.{Failing}
+use Rattle.trip_analysis.specs.Bases.{BaseLists}
+use Rattle.trip_analysis.specs.Applications.{IsAskedWalk, Sound}
+use Rattle.trip_analysis.specs.Passing.{Limit, first_on, first_or, flags_of, is_passable, limit_for, needs_none}
 use Rattle.trip_analysis.specs.Findings.{HoldsIn, InRange, IsFinding, IsFoundBy, asked_finding, first_meeting, is_number_among, leaves, leaving, proposed_of}
-use Rattle.trip_applications.proofs.Joined.{one_joined, walks_there}
-use Rattle.fleet.proofs.Flagged.{flag_is}
+use Rattle.trip_analysis.proofs.Joined.{one_joined, walks_there}
+use Rattle.trip_analysis.proofs.Flagged.{flag_is}
 
 pub pick : {A : Type 0} (P : A → Type 0) (b : Bool) (x y : A) → (b ≡ true → P x) → (b ≡ false → P y) → P (cond b x y)
 pick P true x y p q = p refl

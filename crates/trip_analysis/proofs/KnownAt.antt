@@ -12,8 +12,8 @@ use Rattle.snapshot_store.proofs.Changed.{agree_kept}
 use Rattle.route_search.specs.Heights.{AreHeights}
 use Rattle.trip_analysis.specs.declared.analyst.Analyst.{Analyst}
 use Rattle.trip_analysis.specs.declared.known.Known.{Known}
-use Rattle.fleet.specs.Bases.{BaseLists}
-use Rattle.fleet.proofs.Turning.{AreTurnedBelow, turned_all, turned_judged, turned_kept, turned_none}
+use Rattle.trip_analysis.specs.Bases.{BaseLists}
+use Rattle.trip_analysis.proofs.Turning.{AreTurnedBelow, turned_all, turned_judged, turned_kept, turned_none}
 use Rattle.trip_analysis.specs.Known.{AreJudged, AreKnown, AreOfFleet, IsJudged, IsOfRoads}
 
 -- limits that a test finds equal are the same

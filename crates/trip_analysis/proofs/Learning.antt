@@ -8,7 +8,7 @@ use Rattle.route_search.specs.Heights.{AreHeights}
 use Rattle.trip_analysis.specs.declared.analyst.Analyst.{Analyst}
 use Rattle.trip_analysis.specs.declared.kept.Kept.{Kept}
 use Rattle.trip_analysis.specs.declared.known.Known.{Known}
-use Rattle.fleet.specs.Bases.{BaseLists}
+use Rattle.trip_analysis.specs.Bases.{BaseLists}
 use Rattle.trip_analysis.specs.Known.{AreKnown, IsKeptOver, IsKnown}
 
 -- what is known of a truck stays known while it may pass the same segments, and what is kept beside them is over these

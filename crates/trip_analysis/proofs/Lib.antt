@@ -8,3 +8,10 @@ pub mod KnownAt
 pub mod Following
 pub mod Counting
 pub mod Learning
+pub mod Flagged
+pub mod Learnt
+pub mod Turning
+pub mod Joined
+pub mod Unbroken
+pub mod Breaks
+pub mod AskedRoutes

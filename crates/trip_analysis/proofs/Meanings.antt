@@ -11,15 +11,15 @@ use Rattle.route_search.specs.declared.shortest.Shortest.{Shortest}
 use Rattle.route_search.specs.declared.shortest.Shortest.TheVariants as shortest
 use Rattle.route_search.specs.Walks.{AreReached, CanReach, IsRoute, IsWalk, every, flagged}
 use Rattle.route_search.specs.Founds.{IsShortest}
-use Rattle.trip_applications.specs.declared.application.Application.{Application}
-use Rattle.fleet.specs.declared.failing.Failing.{Failing}
+use Rattle.trip_analysis.specs.declared.application.Application.{Application}
+use Rattle.trip_analysis.specs.declared.failing.Failing.{Failing}
 use Rattle.trip_analysis.specs.declared.finding.What.{What}
 use Rattle.trip_analysis.specs.declared.finding.What.TheVariants as what
-use Rattle.fleet.specs.Bases.{BaseLists}
-use Rattle.fleet.specs.Passing.{Limit, first_on, first_or, flags_of, is_passable, limit_for, needs_none}
+use Rattle.trip_analysis.specs.Bases.{BaseLists}
+use Rattle.trip_analysis.specs.Passing.{Limit, first_on, first_or, flags_of, is_passable, limit_for, needs_none}
 use Rattle.trip_analysis.specs.Findings.{IsFinding, IsFoundBy, asked_finding, proposed_of}
 use Rattle.trip_analysis.specs.Laws.{AskedRoutesFailFirst, AskedRoutesMeet, CutsLetNoneThrough, IsCut, IsFirstFailing, RoutesAreFirstOfShortest}
-use Rattle.fleet.proofs.Flagged.{flag_is}
+use Rattle.trip_analysis.proofs.Flagged.{flag_is}
 
 -- a segment that is there and passes the first test passes the second
 abbrev Allows : List Segment → (ℕ → Bool) → (ℕ → Bool) → Type 0

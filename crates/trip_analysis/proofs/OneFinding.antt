@@ -3,10 +3,10 @@ use Rattle.std.proofs.Common.{◌≡◌, ℕ, List, Option, Some, None, ap, sym,
 use Rattle.std.proofs.lemmas.Bool.{cases_Bool}
 use Rattle.restriction_log.specs.States.{InForce}
 use Rattle.route_search.proofs.Uniqueness.{shortest_unique}
-use Rattle.trip_applications.specs.declared.application.Application.{Application}
+use Rattle.trip_analysis.specs.declared.application.Application.{Application}
 use Rattle.trip_analysis.specs.declared.finding.What.{What}
-use Rattle.fleet.specs.Bases.{BaseLists}
-use Rattle.fleet.specs.Passing.{flags_of, needs_none}
+use Rattle.trip_analysis.specs.Bases.{BaseLists}
+use Rattle.trip_analysis.specs.Passing.{flags_of, needs_none}
 use Rattle.trip_analysis.specs.Findings.{IsFinding, IsFoundBy, proposed_of}
 
 by_one : (base : BaseLists) (state : InForce) (a : Application) (v w : What) (asked : Option (List (List ℕ))) → IsFoundBy base state a asked v → IsFoundBy base state a asked w → v ≡ w

@@ -7,12 +7,12 @@ use Rattle.snapshot_store.specs.Stores.{Stored, state_now}
 use Rattle.route_search.specs.declared.shortest.Shortest.{Shortest}
 use Rattle.route_search.specs.declared.shortest.Shortest.TheVariants as shortest
 use Rattle.route_search.specs.Founds.{IsShortest}
-use Rattle.trip_applications.specs.declared.application.Application.{Application}
-use Rattle.fleet.specs.declared.failing.Failing.{Failing}
+use Rattle.trip_analysis.specs.declared.application.Application.{Application}
+use Rattle.trip_analysis.specs.declared.failing.Failing.{Failing}
 use Rattle.trip_analysis.specs.declared.finding.What.{What}
 use Rattle.trip_analysis.specs.declared.finding.What.TheVariants as what
-use Rattle.fleet.specs.Bases.{BaseLists}
-use Rattle.fleet.specs.Passing.{first_on, flags_of, is_passable, needs_none}
+use Rattle.trip_analysis.specs.Bases.{BaseLists}
+use Rattle.trip_analysis.specs.Passing.{first_on, flags_of, is_passable, needs_none}
 
 -- the first of these segments that may be passed
 abbrev pub first_meeting : BaseLists → InForce → ℕ → List ℕ → Option ℕ

@@ -4,7 +4,7 @@ use Rattle.restriction_log.specs.States.{InForce}
 use Rattle.snapshot_store.specs.Stores.{IsLater, Stored, state_now}
 use Rattle.trip_analysis.specs.declared.analyst.Analyst.{Analyst}
 use Rattle.trip_analysis.specs.declared.follower.Follower.TheInside.{Inside}
-use Rattle.fleet.specs.Bases.{BaseLists}
+use Rattle.trip_analysis.specs.Bases.{BaseLists}
 use Rattle.trip_analysis.specs.Known.{AreKnown}
 
 -- the base that a follower is of, and the last snapshot that it was given, if there was one

@@ -10,8 +10,8 @@ use Rattle.trip_analysis.specs.declared.kept.Kept.{Kept}
 use Rattle.trip_analysis.specs.declared.known.Known.{Known}
 use Rattle.trip_analysis.specs.declared.kept.Settled.{Settled}
 use Rattle.trip_analysis.specs.declared.analyst.Analyst.{Analyst}
-use Rattle.fleet.specs.Bases.{BaseLists}
-use Rattle.fleet.specs.Passing.{flags_of, is_passable}
+use Rattle.trip_analysis.specs.Bases.{BaseLists}
+use Rattle.trip_analysis.specs.Passing.{flags_of, is_passable}
 
 -- for each node how far it is from there to a goal, which is there, over the segments that may be passed
 pub record IsSettled (roads : Roads) (passable : List Bool) (settled : Settled) : Type 0 where

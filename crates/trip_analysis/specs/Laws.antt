@@ -4,12 +4,12 @@ use Rattle.std.specs.List.{concat}
 use Rattle.restriction_log.specs.States.{InForce}
 use Rattle.road_graph.specs.Roads.{IsRoads}
 use Rattle.route_search.specs.Walks.{AreReached, CanReach, IsRoute, every}
-use Rattle.trip_applications.specs.declared.application.Application.{Application}
+use Rattle.trip_analysis.specs.declared.application.Application.{Application}
 use Rattle.trip_analysis.specs.declared.finding.What.{What}
 use Rattle.trip_analysis.specs.declared.finding.What.TheVariants as what
-use Rattle.fleet.specs.Bases.{BaseLists}
-use Rattle.trip_applications.specs.Applications.{Sound}
-use Rattle.fleet.specs.Passing.{is_passable}
+use Rattle.trip_analysis.specs.Bases.{BaseLists}
+use Rattle.trip_analysis.specs.Applications.{Sound}
+use Rattle.trip_analysis.specs.Passing.{is_passable}
 use Rattle.trip_analysis.specs.Findings.{HoldsIn, InRange, IsFinding}
 
 -- one thing is found for an application in a state

@@ -1,7 +1,7 @@
 -- How many segments are tested at the most while something is found.
 use Rattle.std.specs.Prelude.{ℕ, ◌*◌, List, length, Option, Some, None}
 use Rattle.std.specs.List.{concat}
-use Rattle.fleet.specs.Bases.{BaseLists}
+use Rattle.trip_analysis.specs.Bases.{BaseLists}
 
 -- what is asked for is found by testing each segment of each asked route once, or else each segment of the roads once
 abbrev pub tests_for : BaseLists → Option (List (List ℕ)) → ℕ

@@ -3,21 +3,23 @@
 ghost use Rattle.std.specs.Prelude.{◌≡◌, true, IfOk, MatchOption};
 ghost use Rattle.restriction_log.specs.States.{AreOf};
 ghost use Rattle.snapshot_store.specs.Stores.{store_version_of};
-ghost use Rattle.trip_applications.specs.Applications.{Sound};
-ghost use Rattle.fleet.specs.Passing.{TestsAtMost, needs_none};
+ghost use Rattle.trip_analysis.specs.Applications.{Sound};
+ghost use Rattle.trip_analysis.specs.Passing.{TestsAtMost, needs_none};
 ghost use Rattle.trip_analysis.specs.Findings.{IsFinding, IsFoundAt, IsToSearch};
 ghost use Rattle.trip_analysis.specs.Tests.{tests_for};
 
+use crate::application::Application;
+use crate::base::Base;
 use crate::finding::{Proposal, What};
 use crate::last_route::LastRoute;
-use fleet::{Base, Steps, TruckOn};
+use crate::truck_on::TruckOn;
+use clearance_rules::Steps;
 use names::NoMemory;
 use restriction_log::State;
 use route_search::{Heights, Passable, TripEnds, shortest_walk};
 use snapshot_store::Snapshot;
 use std::alloc::Global;
 use std::sync::ledger::Ledger;
-use trip_applications::Application;
 
 /// What is found for the application in a state of the base's roads. `NoMemory` where no memory was left.
 ///

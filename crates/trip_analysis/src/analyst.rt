@@ -4,18 +4,22 @@ ghost use Rattle.std.specs.Prelude.{◌≡◌, ◌<◌, length, true, false, IfO
 ghost use Rattle.road_graph.specs.Roads.{IsRoads};
 ghost use Rattle.restriction_log.specs.States.{AgreeOn, AreOf, InForce};
 ghost use Rattle.snapshot_store.specs.Stores.{IsLater, state_now};
-ghost use Rattle.trip_applications.specs.Applications.{Sound};
-ghost use Rattle.fleet.specs.Passing.{TestsAtMost, needs_none};
+ghost use Rattle.trip_analysis.specs.Applications.{Sound};
+ghost use Rattle.trip_analysis.specs.Passing.{TestsAtMost, needs_none};
 ghost use Rattle.trip_analysis.specs.Findings.{IsFinding};
 ghost use Rattle.trip_analysis.specs.Tests.{tests_for, tests_to_go_on};
 ghost use Rattle.trip_analysis.specs.Known.{AreJudged, AreKnown, AreOfFleet};
 
 use crate::analysis::find_at_once;
+use crate::application::Application;
+use crate::base::Base;
 use crate::finding::What;
 use crate::kept::Tables;
 use crate::known::Known;
 use crate::last_route::LastRoute;
-use fleet::{Base, Steps, TruckAt, TruckOn};
+use crate::truck_at::TruckAt;
+use crate::truck_on::TruckOn;
+use clearance_rules::Steps;
 use names::NoMemory;
 use restriction_log::State;
 use road_graph::Network;
@@ -23,7 +27,6 @@ use route_search::{Passable, Table, TripEnds};
 use snapshot_store::Snapshot;
 use std::alloc::Global;
 use std::sync::ledger::Ledger;
-use trip_applications::Application;
 
 /// What is known of the trucks of a base, in order, in a state of its roads: something once a truck was needed. Beside it heights
 /// of its nodes, which stay whatever is posted, the table that searches write, and the route that was found last.

@@ -4,19 +4,20 @@ ghost use Rattle.std.specs.Prelude.{◌≡◌};
 ghost use Rattle.snapshot_store.specs.Stores.{state_now};
 ghost use Rattle.trip_analysis.specs.Followers.{AreKnownAt, GoesOn};
 ghost use Rattle.trip_analysis.specs.Known.{AreKnown};
-ghost use Rattle.fleet.specs.Passing.{TestsAtMost};
+ghost use Rattle.trip_analysis.specs.Passing.{TestsAtMost};
 ghost use Rattle.trip_analysis.specs.Tests.{tests_to_go_on};
 
 use crate::analyst::Analyst;
+use crate::application::Application;
+use crate::base::Base;
 use crate::finding::Proposal;
-use fleet::{Base, Steps};
+use clearance_rules::Steps;
 use names::NoMemory;
 use snapshot_store::Snapshot;
 use std::alloc::Global;
 use std::marker::Model;
 use std::snapshot::Snapshot as Told;
 use std::sync::ledger::Ledger;
-use trip_applications::Application;
 
 /// An analyst who follows the versions of a store: what is known of the trucks is kept from one snapshot to the next, and
 /// only segments at which the two differ are judged anew.
@@ -44,10 +45,10 @@ impl Model for Follower {
 impl Follower {
     ghost use Rattle.std.specs.Prelude.{◌≡◌, ◌+◌, IfOk};
     ghost use Rattle.snapshot_store.specs.Stores.{store_version_of};
-    ghost use Rattle.trip_applications.specs.Applications.{Sound};
+    ghost use Rattle.trip_analysis.specs.Applications.{Sound};
     ghost use Rattle.trip_analysis.specs.Findings.{IsFoundAt};
     ghost use Rattle.trip_analysis.specs.Followers.{GoesOn, followed, newly_followed};
-    ghost use Rattle.fleet.specs.Passing.{TestsAtMost};
+    ghost use Rattle.trip_analysis.specs.Passing.{TestsAtMost};
     ghost use Rattle.trip_analysis.specs.Tests.{tests_for, tests_to_go_on};
 
     /// A follower of this base, who was given no snapshot yet and knows nothing of its trucks.

@@ -3,11 +3,12 @@
 ghost use Rattle.std.specs.Prelude.{◌≡◌, ◌<◌, length, slice_set, IfOk, IfSome};
 ghost use Rattle.road_graph.specs.Roads.{IsRoads};
 ghost use Rattle.snapshot_store.specs.Stores.{state_now};
-ghost use Rattle.fleet.specs.Passing.{TestsAtMost};
+ghost use Rattle.trip_analysis.specs.Passing.{TestsAtMost};
 ghost use Rattle.trip_analysis.specs.Known.{IsKnown, IsOfRoads};
 
 use crate::kept::Kept;
-use fleet::{Steps, TruckAt};
+use crate::truck_at::TruckAt;
+use clearance_rules::Steps;
 use names::NoMemory;
 use road_graph::Network;
 use std::alloc::Global;

@@ -5,7 +5,9 @@ ghost use Rattle.restriction_log.specs.States.{AreOf};
 ghost use Rattle.trip_analysis.specs.NodeSets.{AreMarks, IsLeastInto};
 ghost use Rattle.trip_analysis.specs.Findings.{IsNextLeaving, first_meeting, is_number_among, leaves, leaving, leaving_from};
 
-use fleet::{Base, Steps, TruckOn};
+use crate::base::Base;
+use crate::truck_on::TruckOn;
+use clearance_rules::Steps;
 use restriction_log::State;
 use road_graph::{Network, SharedNumbers};
 use std::marker::Model;

@@ -1,5 +1,5 @@
 use Rattle.std.specs.Prelude.{◌≡◌}
-use Rattle.command_calls.specs.Following.{MayFollow}
+use Rattle.analyst_pool.specs.Following.{MayFollow}
 use Rattle.analyst_pool.proofs.Scripts.{Through}
 use Rattle.analyst_pool.proofs.worker.carry_out_all.Given as goal
 

@@ -1,5 +1,4 @@
-use Rattle.std.proofs.Common.{rules, arith, ap, sym, ◌∙◌, ◌≡◌, ◌+◌, ◌-◌, ◌<◌, ℕ, length, get_or, take, vec_len, ◌∷◌, [], length-append, subst}
-use Rattle.std.proofs.Common.{⊎_elim}
+use Rattle.std.proofs.Common.{rules, arith, ap, sym, ◌∙◌, ◌≡◌, ◌+◌, ◌-◌, ◌<◌, ℕ, length, get_or, take, vec_len, ◌∷◌, [], length-append, subst, ⊎_elim}
 use Rattle.day_run.specs.Workers.{IsFullOutcome}
 use Rattle.std.proofs.lemmas.List.{get_or-take}
 use Rattle.office_turn.specs.Told.{receipt_for}

@@ -1,7 +1,7 @@
 use Rattle.std.proofs.Common.{◌∙◌, None, Ok, Some, ap, sym}
 use Rattle.road_graph.specs.Roads.{segment_names}
-use Rattle.record_text.specs.Causes.{or_bad}
-use Rattle.record_text.specs.declared.refusal.RecordCause.TheVariants as bad
+use Rattle.day_text.specs.Causes.{or_bad}
+use Rattle.day_text.specs.declared.refusal.RecordCause.TheVariants as bad
 use Rattle.day_text.proofs.Asking.{asked_found}
 use Rattle.day_text.proofs.Commanded.{asked_there}
 use Rattle.day_text.proofs.asked.find_asked.Goals as goal

@@ -4,7 +4,7 @@ use Rattle.std.proofs.lemmas.Iterator.Consumers.{YieldsList-end, YieldsList-turn
 use Rattle.std.proofs.lemmas.Iterator.Splits.{YieldsList-from_str_split}
 use Rattle.std.proofs.lemmas.List.{length_push}
 use Rattle.road_graph.specs.Roads.{segment_names}
-use Rattle.record_text.proofs.Each.{far_all, far_missing, far_more}
+use Rattle.day_text.proofs.Each.{far_all, far_missing, far_more}
 use Rattle.day_text.proofs.Asking.{named_by_parts, named_segment}
 use Rattle.day_text.proofs.asked.find_route.Goals as goal
 

@@ -1,7 +1,7 @@
 use Rattle.std.proofs.Common.{◌==◌, length}
 use Rattle.std.specs.List.{slice_split}
 use Rattle.road_graph.specs.Roads.{segment_names}
-use Rattle.record_text.proofs.Each.{IsSoFar}
+use Rattle.day_text.proofs.Each.{IsSoFar}
 use Rattle.day_text.proofs.Asking.{named_segment}
 use Rattle.day_text.proofs.asked.find_route.Given as goal
 

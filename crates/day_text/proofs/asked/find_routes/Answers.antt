@@ -6,8 +6,8 @@ use Rattle.std.proofs.lemmas.Iterator.Splits.{YieldsList-from_str_split}
 use Rattle.std.proofs.lemmas.List.{length_push}
 use Rattle.std.proofs.lemmas.List.Splits.{length-slice_split}
 use Rattle.road_graph.specs.Roads.{segment_names}
-use Rattle.record_text.specs.Fields.{of_each}
-use Rattle.record_text.proofs.Each.{IsSoFar, far_all, far_missing, far_more}
+use Rattle.day_text.specs.Fields.{of_each}
+use Rattle.day_text.proofs.Each.{IsSoFar, far_all, far_missing, far_more}
 use Rattle.day_text.proofs.Asking.{found_all, named}
 use Rattle.day_text.proofs.asked.find_routes.Goals as goal
 

@@ -2,7 +2,7 @@ use Rattle.std.proofs.Common.{◌≡◌, ◌==◌, [], length}
 use Rattle.std.specs.Prelude.{unwrap_or}
 use Rattle.std.specs.List.{slice_split}
 use Rattle.road_graph.specs.Roads.{segment_names}
-use Rattle.record_text.proofs.Each.{IsSoFar}
+use Rattle.day_text.proofs.Each.{IsSoFar}
 use Rattle.day_text.proofs.Asking.{named}
 use Rattle.day_text.proofs.asked.find_routes.Given as goal
 

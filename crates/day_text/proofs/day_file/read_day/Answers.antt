@@ -1,5 +1,5 @@
 use Rattle.std.proofs.Common.{ap, subst, sym}
-use Rattle.record_text.specs.Causes.{◌>>=◌, Tells}
+use Rattle.day_text.specs.Causes.{◌>>=◌, Tells}
 use Rattle.day_text.specs.Days.{ended_day}
 use Rattle.day_text.proofs.EveryDay.{told_keeps}
 use Rattle.day_text.proofs.day_file.read_day.Goals as goal

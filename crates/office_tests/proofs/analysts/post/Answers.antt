@@ -1,7 +1,7 @@
 use Rattle.std.proofs.Common.{Some, ap, sym, subst}
 use Rattle.office_core.specs.Counted.{Counted}
-use Rattle.command_calls.specs.Interrupted.{Interrupts}
-use Rattle.command_calls.proofs.Interrupting.{from_seat, touched}
+use Rattle.analyst_pool.specs.Interrupted.{Interrupts}
+use Rattle.analyst_pool.proofs.Interrupting.{from_seat, touched}
 use Rattle.office_tests.proofs.analysts.post.Goals as goal
 
 -- the seat that is gone was the office's, so the office is what the seat left

@@ -3,7 +3,7 @@ use Rattle.std.specs.Global.{Global}
 use Rattle.std.specs.String.{string_bytes}
 use Rattle.convoy_moves.specs.Convoys.{EqualTrucks, convoy_of}
 use Rattle.convoy_moves.specs.Refusals.{first_refusal}
-use Rattle.loading_report.specs.Convoys.{IsConvoyReport, IsOnlyConvoyReport}
+use Rattle.report_text.specs.Convoys.{IsConvoyReport, IsOnlyConvoyReport}
 use Rattle.permit_program.specs.Convoy.{convoy}
 use Rattle.permit_program.specs.Command.{Makes}
 use Rattle.permit_program.proofs.Only.{convoy_made}

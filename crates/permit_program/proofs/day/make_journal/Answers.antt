@@ -1,6 +1,6 @@
 use Rattle.std.proofs.Common.{◌∙◌, ap}
-use Rattle.fleet.specs.Bases.{BaseLists}
-use Rattle.recall_list.specs.RecallLists.{recalls_in}
+use Rattle.trip_analysis.specs.Bases.{BaseLists}
+use Rattle.reroute_desk.specs.RecallLists.{recalls_in}
 use Rattle.permit_program.proofs.Only.{headline_made, journal_made}
 use Rattle.permit_program.proofs.day.make_journal.Goals as goal
 

@@ -1,7 +1,7 @@
 use Rattle.std.proofs.Common.{List, ℕ, Vec, ap, sym, subst}
 use Rattle.std.specs.Global.{Global}
 use Rattle.std.specs.String.{string_bytes}
-use Rattle.loading_report.specs.Designs.{IsDesignReport}
+use Rattle.report_text.specs.Designs.{IsDesignReport}
 use Rattle.permit_program.specs.Reports.{design}
 use Rattle.permit_program.specs.Command.{Makes}
 use Rattle.permit_program.proofs.Only.{report_made}

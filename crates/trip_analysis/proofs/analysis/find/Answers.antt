@@ -1,4 +1,4 @@
-use Rattle.fleet.proofs.Flagged.{flags_many}
+use Rattle.trip_analysis.proofs.Flagged.{flags_many}
 use Rattle.trip_analysis.proofs.analysis.find.Goals as goal
 
 pub invariant_of-roads-clause-flags_are_as_many : goal.invariant_of-roads-clause-flags_are_as_many

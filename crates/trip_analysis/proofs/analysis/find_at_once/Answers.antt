@@ -1,7 +1,7 @@
 use Rattle.std.proofs.Common.{◌∙◌, ap, rules, sym, arith}
 use Rattle.std.proofs.lemmas.Grind.{common_steps}
 use Rattle.std.specs.Prelude.{option_map}
-use Rattle.trip_applications.proofs.Routes.{asked_there}
+use Rattle.trip_analysis.proofs.AskedRoutes.{asked_there}
 use Rattle.trip_analysis.proofs.Found.{asked_found}
 use Rattle.trip_analysis.proofs.analysis.find_at_once.Goals as goal
 

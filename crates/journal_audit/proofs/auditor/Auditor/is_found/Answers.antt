@@ -1,6 +1,6 @@
 use Rattle.std.proofs.Common.{rules, ◌≡◌, ◌≤◌, ap, arith}
-use Rattle.trip_applications.specs.Applications.{Sound}
-use Rattle.fleet.specs.Bases.{BaseLists}
+use Rattle.trip_analysis.specs.Applications.{Sound}
+use Rattle.trip_analysis.specs.Bases.{BaseLists}
 use Rattle.office_core.specs.Machine.{version_of}
 use Rattle.office_core.specs.Registers.{stored_now}
 use Rattle.journal_audit.specs.Versions.{HasKept}

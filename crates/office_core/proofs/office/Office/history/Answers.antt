@@ -1,6 +1,6 @@
 use Rattle.std.proofs.Common.{subst}
 use Rattle.road_graph.specs.Roads.{IsRoads}
-use Rattle.fleet.specs.Bases.{AreTrains, BaseLists}
+use Rattle.trip_analysis.specs.Bases.{AreTrains, BaseLists}
 use Rattle.office_core.specs.Machine.{IsLegal}
 use Rattle.office_core.specs.Offices.{Opened}
 use Rattle.office_core.proofs.Issuing.{recalled_issued}

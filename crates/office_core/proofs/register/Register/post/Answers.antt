@@ -1,6 +1,6 @@
 use Rattle.std.proofs.Common.{◌≡◌, ◌+◌, ap, ◌∙◌}
 use Rattle.restriction_log.specs.Changes.{touched}
-use Rattle.fleet.specs.Bases.{BaseLists}
+use Rattle.trip_analysis.specs.Bases.{BaseLists}
 use Rattle.office_core.specs.Registers.{RegisterParts, recalls_of}
 use Rattle.office_core.proofs.Registers.{posted_as}
 use Rattle.office_core.proofs.register.Register.post.Goals as goal

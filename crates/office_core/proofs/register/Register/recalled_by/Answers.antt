@@ -1,5 +1,5 @@
 use Rattle.std.proofs.Common.{arith, rules, ap, ◌≡◌, ◌∙◌, ◌++◌, filter, length, replicate, None}
-use Rattle.fleet.specs.Bases.{BaseLists}
+use Rattle.trip_analysis.specs.Bases.{BaseLists}
 use Rattle.office_core.specs.Registers.{is_recalled_in}
 use Rattle.office_core.proofs.Registers.{none_judged, recalled_whole}
 use Rattle.office_core.proofs.register.Register.recalled_by.Goals as goal

@@ -1,5 +1,5 @@
 use Rattle.std.proofs.Common.{ap}
-use Rattle.command_calls.proofs.Interrupting.{answered_as, asked_at, from_seat}
+use Rattle.analyst_pool.proofs.Interrupting.{answered_as, asked_at, from_seat}
 use Rattle.office_tests.proofs.analysts.InterruptedOfficeCalls.ask.Goals as goal
 
 pub ask-reply-requires : goal.ask-reply-requires

@@ -2,10 +2,10 @@ use Rattle.std.proofs.Common.{◌≡◌, ◌∙◌, ap, cond, Some, sym, subst}
 use Rattle.std.specs.BTreeMap.{get}
 use Rattle.std.specs.Option.{option_or}
 use Rattle.std.specs.Ordering.{is_eq, nat_cmp}
-use Rattle.trip_applications.specs.declared.application.Application.{Application}
+use Rattle.trip_analysis.specs.declared.application.Application.{Application}
 use Rattle.office_words.specs.declared.entry.Reply.{Reply}
 use Rattle.office_core.specs.Happened.{application_in}
-use Rattle.recall_list.specs.Issues.{issued_by}
+use Rattle.reroute_desk.specs.Issues.{issued_by}
 use Rattle.reroute_desk.specs.Notes.{Noted, noted_trip_of}
 use Rattle.reroute_desk.specs.Replacements.{unasked}
 use Rattle.reroute_desk.proofs.Noting.{noted_by}

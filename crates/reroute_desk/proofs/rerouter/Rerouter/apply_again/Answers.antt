@@ -1,6 +1,6 @@
 use Rattle.std.proofs.Common.{◌∙◌, List, [], ◌∷◌, ◌++◌, Err, Ok, ap, subst, sym}
 use Rattle.road_graph.specs.Roads.{IsRoads}
-use Rattle.fleet.specs.Bases.{AreTrains, BaseLists}
+use Rattle.trip_analysis.specs.Bases.{AreTrains, BaseLists}
 use Rattle.office_core.specs.Offices.{Opened}
 use Rattle.office_core.specs.Promises.{KeepsPromises}
 use Rattle.reroute_desk.specs.declared.handled.Handled.{Handled}

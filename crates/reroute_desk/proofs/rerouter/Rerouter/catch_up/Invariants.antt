@@ -1,5 +1,5 @@
 use Rattle.std.proofs.Common.{◌≡◌, length, Ok}
-use Rattle.recall_list.specs.Issues.{recalled_in}
+use Rattle.reroute_desk.specs.Issues.{recalled_in}
 use Rattle.reroute_desk.specs.Desks.{HasGoneOn}
 use Rattle.reroute_desk.proofs.rerouter.Rerouter.catch_up.Given as goal
 

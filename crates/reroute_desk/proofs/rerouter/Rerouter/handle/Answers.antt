@@ -2,7 +2,7 @@ use Rattle.std.proofs.Common.{◌≡◌, ◌∙◌, List, [], ◌∷◌, ◌++�
 use Rattle.std.specs.Borrow.{Bor}
 use Rattle.std.specs.Option.{option_map}
 use Rattle.permit_days.specs.Days.{is_before}
-use Rattle.trip_applications.specs.declared.application.Application.{Application}
+use Rattle.trip_analysis.specs.declared.application.Application.{Application}
 use Rattle.office_core.specs.Happened.{Day}
 use Rattle.office_core.specs.Machine.{IsLegal}
 use Rattle.office_core.specs.Offices.{Opened, machine_in}

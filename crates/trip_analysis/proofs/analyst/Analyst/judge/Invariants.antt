@@ -1,7 +1,7 @@
 use Rattle.std.proofs.Common.{◌≡◌, ◌<◌, ◌≤◌, ℕ, length, get_or, Option}
 use Rattle.trip_analysis.specs.declared.known.Known.{Known}
 use Rattle.trip_analysis.specs.Known.{IsJudged}
-use Rattle.fleet.specs.Passing.{TestsAtMost}
+use Rattle.trip_analysis.specs.Passing.{TestsAtMost}
 use Rattle.trip_analysis.proofs.analyst.Analyst.judge.Given as goal
 
 abbrev pub invariant-trucks : goal.invariant-trucks

@@ -1,7 +1,7 @@
 use Rattle.std.proofs.Common.{◌<◌, ◌≤◌, ◌+◌, ◌*◌, length, ap, sym, subst, arith}
 use Rattle.road_graph.specs.Roads.{Roads}
 use Rattle.snapshot_store.specs.Stores.{state_now}
-use Rattle.fleet.specs.Passing.{TestsAtMost}
+use Rattle.trip_analysis.specs.Passing.{TestsAtMost}
 use Rattle.trip_analysis.proofs.Counting.{tests_of_more, tests_of_next}
 use Rattle.trip_analysis.proofs.KnownAt.{AreKnownBelow, are_below_all, are_below_judged, are_below_none, are_below_same, are_below_unchanged}
 use Rattle.trip_analysis.proofs.analyst.Analyst.turn_to.Goals as goal

@@ -1,7 +1,7 @@
 use Rattle.std.proofs.Common.{◌≤◌, ◌-◌, ◌*◌, length}
 use Rattle.snapshot_store.specs.Stores.{state_now}
 use Rattle.trip_analysis.proofs.KnownAt.{AreKnownBelow}
-use Rattle.fleet.specs.Passing.{TestsAtMost}
+use Rattle.trip_analysis.specs.Passing.{TestsAtMost}
 use Rattle.trip_analysis.proofs.analyst.Analyst.turn_to.Given as goal
 
 abbrev pub invariant-changed : goal.invariant-changed

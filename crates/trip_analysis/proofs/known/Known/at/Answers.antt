@@ -1,5 +1,5 @@
 use Rattle.snapshot_store.specs.Stores.{state_now}
-use Rattle.fleet.proofs.Flagged.{flags_many}
+use Rattle.trip_analysis.proofs.Flagged.{flags_many}
 use Rattle.trip_analysis.proofs.known.Known.at.Goals as goal
 
 pub returns-clause-known : goal.returns-clause-known

@@ -1,8 +1,0 @@
-use Rattle.std.proofs.Common.{◌≡◌, ◌++◌, take}
-use Rattle.std.specs.List.{flat_map}
-use Rattle.std.specs.String.{string_bytes}
-use Rattle.check_report.specs.Reports.{over_line}
-use Rattle.check_report.proofs.writing.add_findings.Given as goal
-
-abbrev pub invariant-loop-finding : goal.invariant-loop-finding
-invariant-loop-finding l = string_bytes l.text ≡ string_bytes l.fn.text ++ flat_map over_line (take l.finding-index l.found)

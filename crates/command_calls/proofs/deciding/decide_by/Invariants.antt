@@ -1,6 +1,0 @@
-use Rattle.command_calls.specs.Following.{MayFollow}
-use Rattle.command_calls.proofs.Attempting.{SoFar}
-use Rattle.command_calls.proofs.deciding.decide_by.Given as goal
-
-abbrev pub invariant-loop-tries : goal.invariant-loop-tries
-invariant-loop-tries g l = SoFar l.tries (g.C.OfficeCalls.view l.fn.calls) l.fn.application (g.C.OfficeCalls.view l.calls) × MayFollow l.finder.follower (g.C.OfficeCalls.view l.calls)

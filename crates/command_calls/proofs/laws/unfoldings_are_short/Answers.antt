@@ -1,8 +1,0 @@
-use Rattle.command_calls.proofs.Lengths.{short, shorter}
-use Rattle.command_calls.proofs.laws.unfoldings_are_short.Goals as goal
-
-pub returns-clause-all : goal.returns-clause-all
-returns-clause-all c = short
-
-pub returns-clause-stopped : goal.returns-clause-stopped
-returns-clause-stopped c = shorter

@@ -1,9 +1,0 @@
-pub mod Unfolds
-pub mod Leaves
-pub mod Following
-pub mod Attempts
-pub mod Laws
-pub use Rattle.office_core.specs.Calls
-pub use Rattle.office_words.specs.Commands
-pub use Rattle.office_core.specs.Machine
-pub mod Interrupted

@@ -1,5 +1,0 @@
-use Rattle.day_reroute.proofs.One.{history_one}
-use Rattle.day_reroute.proofs.laws.rerouted_histories_are_one.Goals as goal
-
-pub returns : goal.returns
-returns c = history_one c.runs_are_one.ensures.command c.answers_are_one.ensures

@@ -1,9 +1,0 @@
-pub mod Rerouted
-pub mod Serving
-pub use Rattle.office_core.specs.Machine
-pub use Rattle.office_core.specs.Promises
-pub use Rattle.reroute_desk.specs.Issues
-pub use Rattle.command_calls.specs.Unfolds
-pub use Rattle.reroute_desk.specs.Replacements
-pub use Rattle.day_text.specs.Days
-pub use Rattle.day_text.specs.Laws

@@ -1,3 +1,0 @@
-pub mod Flagged
-pub mod Learnt
-pub mod Turning

@@ -1,5 +1,0 @@
-use Rattle.std.proofs.Common.{◌≡◌}
-use Rattle.fleet.proofs.base.keep_lengths.Given as goal
-
-abbrev pub invariant-spans : goal.invariant-spans
-invariant-spans l = l.load ≡ l.fn.load

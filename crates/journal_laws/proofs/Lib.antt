@@ -1,6 +1,0 @@
-mod Limiting
-mod Fitting
-mod Asking
-mod Keys
-pub mod ReadingBack
-pub mod Headlines

@@ -1,5 +1,0 @@
-use Rattle.journal_laws.proofs.ReadingBack.{journals_read_back}
-use Rattle.journal_laws.proofs.laws.day_journals_read_back.Goals as goal
-
-pub returns : goal.returns
-returns c = journals_read_back

@@ -1,5 +1,0 @@
-use Rattle.journal_laws.proofs.Headlines.{headline_fits}
-use Rattle.journal_laws.proofs.laws.headlines_fit.Goals as goal
-
-pub returns : goal.returns
-returns c = headline_fits

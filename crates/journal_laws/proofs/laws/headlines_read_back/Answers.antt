@@ -1,5 +1,0 @@
-use Rattle.journal_laws.proofs.Headlines.{headline_reads_back}
-use Rattle.journal_laws.proofs.laws.headlines_read_back.Goals as goal
-
-pub returns : goal.returns
-returns c = headline_reads_back

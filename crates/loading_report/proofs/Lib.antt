@@ -1,2 +1,0 @@
-pub mod OneDesign
-pub mod OneConvoy

@@ -1,0 +1,10 @@
+pub mod Histories
+pub mod Laws
+pub mod EachLine
+pub use Rattle.day_text.specs.Days
+pub use Rattle.day_text.specs.Scripts
+pub use Rattle.office_core.specs.Machine
+pub use Rattle.analyst_pool.specs.Unfolds
+pub use Rattle.journal_reader.specs.Fits
+pub use Rattle.day_trial.specs.Rerouted
+pub use Rattle.report_text.specs.RecallLines

@@ -1,0 +1,13 @@
+pub mod Probes
+pub mod Checks
+pub mod Designs
+pub mod Convoys
+pub mod Summaries
+pub mod RecallLines
+pub mod RefusalLines
+pub mod RefusalLaws
+pub use Rattle.office_core.specs.Machine
+pub use Rattle.reroute_desk.specs.Issues
+pub use Rattle.journal_text.specs.Parts
+pub use Rattle.journal_text.specs.Words
+pub use Rattle.day_text.specs.Causes

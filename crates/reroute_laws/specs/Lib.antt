@@ -1,3 +1,0 @@
-pub mod EachLine
-pub use Rattle.day_reroute.specs.Rerouted
-pub use Rattle.reroute_report.specs.Lines

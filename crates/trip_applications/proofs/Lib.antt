@@ -1,4 +1,0 @@
-pub mod Joined
-pub mod Unbroken
-pub mod Breaks
-pub mod Routes
