@@ -19,6 +19,7 @@ USE = re.compile(r"(?:pub )?use (?:Rattle\.)?([\w.]+?)(?:\.\{(.*)\})?(?: as (\w+
 GHOST_USE = re.compile(r"^ *ghost (use [^;]*);", re.M)
 PUB = r"^(?:pub(?:\(crate\))? )?"
 TYPE = re.compile(PUB + r"(?:struct|enum) (\w+)[^;{]*?(?:\{(.*?)^\}|\((.*?)\);|;)", re.M | re.S)
+VARIANT = re.compile(r"^ *[A-Z]\w*(?= ?[,({])", re.M)
 CONSTANT = re.compile(PUB + r"const (\w+):", re.M)
 DECLARED = re.compile(PUB + r"(?:struct|enum|const) (\w+)", re.M)
 MODEL = re.compile(r"^impl(?:<.*>)? Model for (\w+)[^\n]* \{(.*?)^\}", re.M | re.S)
@@ -229,7 +230,9 @@ class Source:
         if name in self.values:
             yield from self.values[name]
             return
-        for word in set(re.findall(r"\b[A-Z]\w+", self.types.get(name, ""))) - {name}:
+        # a variant may have the name of a type
+        fields = VARIANT.sub("", self.types.get(name, ""))
+        for word in set(re.findall(r"\b[A-Z]\w+", fields)) - {name}:
             owner = self.imports.get(word, crate)
             module = declared(crate if owner == "crate" else owner, word)
             if module:

@@ -1,15 +1,15 @@
-//! What is found for an application in a state of the roads: what an office is about, what carriers ask for, and what comes of it.
+//! What an office is about, what carriers ask for, and what is found for it in a state of the roads.
 //!
-//! **The base.** It has the roads as they are before anything is posted, and a fleet of at most 64 trucks, numbered from 0. It
-//! says which segments a truck of the fleet may pass in a state of the roads, and counts each segment that it tests. It keeps
-//! what never changes: which segments trucks may pass before anything is posted, and heights of the nodes.
+//! A base has the roads as they are before anything is posted, and a fleet of at most 64 trucks, numbered from 0. The calls
+//! here say which segments a truck of the fleet may pass in a state of the roads, and count each segment that they test. A base
+//! keeps what never changes: which segments trucks may pass before anything is posted, and heights of the nodes.
 //!
-//! **Applications.** One names a truck, the nodes between which it goes, perhaps up to eight routes that it asks for, and its
-//! first and last day. It is annual where it asks for two or more, and its last day is then at most 365 days after its first.
+//! An application names a truck, the nodes between which it goes, perhaps up to eight routes that it asks for, and its first
+//! and last day. It is annual where it asks for two or more, and its last day is then at most 365 days after its first.
 //!
-//! **Findings.** What is found is that no permit is needed, since the truck is legal (23 CFR 658.17 and 658.15); or routes whose
-//! segments all meet; or the first segment of the asked routes that fails; or a cut, the nodes that passable walks reach. These
-//! words and rules are this project's own.
+//! What is found is that no permit is needed, since the truck is legal (23 CFR 658.17 and 658.15); or routes whose segments all
+//! meet; or the first segment of the asked routes that fails; or a cut, the nodes that passable walks reach. These words and
+//! rules are this project's own.
 //!
 //! To the crate above it promises that a base is the plain lists of its roads and its trucks, whatever it keeps beside them;
 //! that a segment is passable exactly where no limit of it fails the truck; and how many segments are tested at the most. An
