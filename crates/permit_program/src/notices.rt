@@ -15,19 +15,18 @@ use office_io::{Failed, Sink, write_all};
 const LINE: usize = 32;
 
 /// Tells each recall as a line `recall PERMIT VERSION` to a sink, by one write where the sink takes it whole, and tells no list.
-/// Its text is what the sink holds. It counts the calls that fail.
+/// Its text is what the sink holds, and its faults are the sink's.
 #[derive(Drop)]
 pub struct LineNotice<K> {
     sink: K,
-    faults: u64,
 }
 
 impl<K: Sink + Drop> LineNotice<K> {
     /// An object that writes to the sink.
     pub fn new(sink: K) -> LineNotice<K>
-        ensures { result ≡ record { sink = sink; faults = 0 } }
+        ensures { result ≡ record { sink = sink } }
     {
-        LineNotice { sink, faults: 0 }
+        LineNotice { sink }
     }
 
     /// The sink that it writes to.
@@ -43,7 +42,7 @@ impl<K: Sink + Drop> Notice for LineNotice<K> {
 
     ghost list = { λ _. None };
 
-    ghost faults = { λ n. n.faults };
+    ghost faults = { λ n. K.faults n.sink };
 
     ghost text = { λ n. K.held n.sink };
 
@@ -51,10 +50,7 @@ impl<K: Sink + Drop> Notice for LineNotice<K> {
         let line = line_of(recall);
         match write_all(&mut self.sink, line.as_str().as_bytes()) {
             Ok(()) => Ok(()),
-            Err(_) => {
-                self.faults = self.faults.saturating_add(1);
-                Err(Failed)
-            }
+            Err(_) => Err(Failed),
         }
     }
 
