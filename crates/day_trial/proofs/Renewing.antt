@@ -18,7 +18,7 @@ use Rattle.reroute_desk.specs.declared.handled.HandledAs.{HandledAs}
 use Rattle.reroute_desk.specs.declared.handled.HandledAs.TheVariants.{Ended, Refused, Replaced}
 use Rattle.reroute_desk.specs.Desks.{AskAgain, IsTimely, Placed, answered_by, is_answered, is_ended, is_lack, kept_reply, olds_of, placed_behind, renewals}
 use Rattle.reroute_desk.proofs.Placing.{answered_own}
-use Rattle.reroute_desk.proofs.Recalls.{or_right}
+use Rattle.reroute_desk.proofs.Recalling.{or_right}
 use Rattle.day_trial.specs.Rerouted.{AreRenewed}
 
 -- a caller's entries for which memory sufficed, where more of them come behind

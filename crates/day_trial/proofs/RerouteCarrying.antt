@@ -25,7 +25,7 @@ use Rattle.reroute_desk.specs.declared.refusal.RerouteRefusal.TheVariants as ref
 use Rattle.reroute_desk.specs.Desks.{AreFirst, AskAgain, Desk, HasGoneOn, HasHandledAll, IsRerouteCause, IsTimely, KeepsUp, Placed, answered_by, office_day, is_ended, is_wanting, kept_reply, olds_of, placed_behind, renewals}
 use Rattle.reroute_desk.specs.Laws.{CallsOfOthersKeepUp}
 use Rattle.reroute_desk.proofs.Keeping.{recalled_more}
-use Rattle.reroute_desk.proofs.Recalls.{issued_stays, recalls_at}
+use Rattle.reroute_desk.proofs.Recalling.{issued_stays, recalls_at}
 use Rattle.day_trial.specs.Serving.{grown_by}
 use Rattle.day_trial.specs.Rerouted.{AreRenewed}
 use Rattle.day_trial.specs.declared.refusal.ServingRefusal.{ServingRefusal}

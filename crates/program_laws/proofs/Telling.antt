@@ -26,7 +26,7 @@ use Rattle.analyst_pool.specs.Unfolds.{IsFinished}
 use Rattle.reroute_desk.specs.Desks.{AnswersRenewal}
 use Rattle.reroute_desk.specs.Replacements.{renewed}
 use Rattle.reroute_desk.proofs.Keeping.{recalled_more}
-use Rattle.reroute_desk.proofs.Recalls.{IsKnown, known, or_right, told_first, was_issued}
+use Rattle.reroute_desk.proofs.Recalling.{IsKnown, known, or_right, told_first, was_issued}
 use Rattle.reroute_desk.proofs.Renewing.{answers_renewal, wanted}
 use Rattle.day_trial.specs.Rerouted.{AreRenewed, CarriesOutAgain, IsRenewed}
 use Rattle.day_trial.specs.Rerouting.{IsAtOnce, attempted, called}

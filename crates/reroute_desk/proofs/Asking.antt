@@ -23,7 +23,7 @@ use Rattle.reroute_desk.specs.declared.refusal.RerouteRefusal.TheVariants as ref
 use Rattle.reroute_desk.specs.Desks.{AnswersRenewal, Desk, HasGoneOn, IsFirstLeft, IsNext, IsRerouteCause, KeepsUp, office_day, is_ended, kept_reply, olds_of, refusal_reply}
 use Rattle.reroute_desk.specs.Replacements.{again_behind, renewed}
 use Rattle.reroute_desk.proofs.Going.{gone_answered, gone_lacked, gone_nowhere, kept_plain, with_entries, with_item}
-use Rattle.reroute_desk.proofs.Recalls.{IsKnown, in_seam, known, told_whole, was_issued}
+use Rattle.reroute_desk.proofs.Recalling.{IsKnown, in_seam, known, told_whole, was_issued}
 use Rattle.reroute_desk.proofs.Renewing.{IsWanted, answers_renewal, sound_again, wanted}
 
 module _ (d : Desk) (o : Opened) (promises : KeepsPromises o.base o.opening o.history) (old : ℕ) (next : IsNext d o old) (trip : Application) (is : again_behind o.opening o.history old ≡ Some trip) (in_time : is_before trip.last (office_day o) ≡ false) where

@@ -24,7 +24,7 @@ use Rattle.reroute_desk.specs.Notes.{AreNotes, Noted}
 use Rattle.reroute_desk.specs.Replacements.{again_behind}
 use Rattle.reroute_desk.proofs.Keeping.{noted_more, recalled_one}
 use Rattle.reroute_desk.proofs.Placing.{answered_other, answered_own, ask_more, renewals_other, renewals_own}
-use Rattle.reroute_desk.proofs.Recalls.{issued_stays}
+use Rattle.reroute_desk.proofs.Recalling.{issued_stays}
 
 -- what holds of one holds of a list of it alone
 one_of : {A : Type 0} (P : A → Type 0) (x : A) → P x → All P (x ∷ [])

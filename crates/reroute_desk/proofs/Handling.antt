@@ -16,7 +16,7 @@ use Rattle.reroute_desk.specs.Desks.{Desk, IsNext, KeepsUp, desk_of, olds_of}
 use Rattle.reroute_desk.specs.Notes.{Noted, noted_trip_of}
 use Rattle.reroute_desk.specs.Replacements.{again_behind, renewed, unasked}
 use Rattle.reroute_desk.proofs.Going.{with_item}
-use Rattle.reroute_desk.proofs.Recalls.{IsKnown, in_seam, known, told_first, told_whole}
+use Rattle.reroute_desk.proofs.Recalling.{IsKnown, in_seam, known, told_first, told_whole}
 
 -- a desk whose items are these
 pub pushed : (i : Inside) (d : Desk) (items : List Handled) (h : Handled) → desk_of i ≡ d → items ≡ i.handled.items ++ h ∷ [] → record { caller = i.caller; handled = items; notes = i.notes } ≡ with_item d h

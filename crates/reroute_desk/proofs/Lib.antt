@@ -1,4 +1,4 @@
-pub mod Recalls
+pub mod Recalling
 pub mod Placing
 pub mod Keeping
 pub mod Renewing

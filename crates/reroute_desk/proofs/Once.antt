@@ -19,7 +19,7 @@ use Rattle.reroute_desk.specs.declared.handled.HandledAs.{HandledAs}
 use Rattle.reroute_desk.specs.declared.handled.HandledAs.TheVariants.{Ended, Refused, Replaced}
 use Rattle.reroute_desk.specs.Desks.{AskAgain, Placed, answered_by, is_answered, kept_reply, olds_of, placed_behind, renewals}
 use Rattle.reroute_desk.specs.Laws.{PermitsAreReplacedOnce, StandOnce, new_of, news_of}
-use Rattle.reroute_desk.proofs.Recalls.{in_either, or_right, recalls_at}
+use Rattle.reroute_desk.proofs.Recalling.{in_either, or_right, recalls_at}
 
 -- a number is not in a list where that contradicts
 not_in : (n : ℕ) (ns : List ℕ) → (is_number_among n ns ≡ true → ⊥) → is_number_among n ns ≡ false

@@ -12,7 +12,7 @@ use Rattle.reroute_desk.specs.declared.handled.HandledAs.TheVariants.{Ended}
 use Rattle.reroute_desk.specs.Desks.{Desk, HasGoneOn, office_day}
 use Rattle.reroute_desk.proofs.Going.{gone_ended, gone_nowhere}
 use Rattle.reroute_desk.proofs.Handling.{again_is, k, last_is, none_left, noted_as, pushed, unpushed}
-use Rattle.reroute_desk.proofs.Recalls.{was_issued}
+use Rattle.reroute_desk.proofs.Recalling.{was_issued}
 use Rattle.reroute_desk.proofs.rerouter.Rerouter.handle.Goals as goal
 
 pub unreachable-requires : goal.unreachable-requires
