@@ -76,7 +76,7 @@ pub fn add_listener(notices: &mut Subscribers, notice: Box<dyn Notice>) -> bool
 }
 
 // The line of a recall.
-#[tactic(auto, using(report_text::proofs::Lines::line_adds), unfolding(notice_desk::specs::Lines::recall_line))]
+#[tactic(auto, using(report_text::proofs::SummaryLines::line_adds), unfolding(notice_desk::specs::Lines::recall_line))]
 fn line_of(recall: &Recall) -> ArrayString<LINE>
     ensures { result.bytes ≡ recall_line recall.now }
 {

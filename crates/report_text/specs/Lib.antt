@@ -6,7 +6,7 @@ pub mod Summaries
 pub mod RecallLines
 pub mod RefusalLines
 pub mod RefusalLaws
-pub use Rattle.office_core.specs.Machine
+pub use Rattle.reroute_desk.specs.Machine
 pub use Rattle.reroute_desk.specs.Issues
 pub use Rattle.journal_text.specs.Parts
 pub use Rattle.journal_text.specs.Words

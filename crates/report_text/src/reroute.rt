@@ -64,7 +64,7 @@ fn add_line(text: &mut Vec<u8>, permit: u32, reply: &Reply) -> Result<(), NoMemo
 }
 
 // The line of a permit that is replaced.
-#[tactic(auto, using(crate::proofs::Lines::replaced_adds))]
+#[tactic(auto, using(crate::proofs::RecallLines::replaced_adds))]
 fn add_replaced(
     text: &mut Vec<u8>,
     permit: u32,
@@ -86,7 +86,7 @@ fn add_replaced(
 }
 
 // The line of a permit whose trip fails a limit now.
-#[tactic(auto, using(crate::proofs::Lines::refused_adds))]
+#[tactic(auto, using(crate::proofs::RecallLines::refused_adds))]
 fn add_refused(text: &mut Vec<u8>, permit: u32, version: u32, limit: &Limit) -> Result<(), NoMemory>
     ensures { OnOk result
         (text.new.items ≡ text.old.items ++ refused_line permit version limit.now) }

@@ -37,7 +37,7 @@ pub fn summary(alloc: Global, history: &[Entry]) -> Result<Vec<u8>, NoMemory>
 }
 
 // A word, a space, a number and a line feed.
-#[tactic(auto, using(crate::proofs::Lines::line_adds))]
+#[tactic(auto, using(crate::proofs::SummaryLines::line_adds))]
 fn line(out: &mut Vec<u8>, word: &str, n: u128) -> Result<(), AllocError>
     ensures { OnOk result (out.new.items ≡ out.old.items ++ told word.now n) }
 {
