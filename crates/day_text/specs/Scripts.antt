@@ -1,5 +1,5 @@
 -- The scripts of the actors: each has its own commands, in the order of their records.
-use Rattle.std.specs.Prelude.{◌≡◌, ◌<◌, ℕ, ◌==◌, List, [], ◌∷◌, ◌++◌, Vec, filter, length, map, slice_index_or, if◌then◌else◌}
+use Rattle.std.specs.Prelude.{◌≡◌, ◌<◌, ℕ, ◌==◌, List, Vec, filter, length, map, slice_index_or}
 use Rattle.std.specs.Global.{Global}
 use Rattle.office_words.specs.declared.entry.Command.{Command}
 use Rattle.day_text.specs.declared.orders.Order.{Order}
@@ -12,13 +12,3 @@ script_of actor orders = map (λ o. o.command) (filter (λ o. o.actor == actor) 
 abbrev pub AreScripts : List (Vec Command Global) → List Order → Type 0
 AreScripts scripts orders =
     (i : ℕ) (d : Vec Command Global) → i < length scripts → (slice_index_or scripts i d).items ≡ script_of i orders
-
--- the command of one actor, where this is its number
-abbrev pub given_to : ℕ → Order → List Command
-given_to actor order = if order.actor == actor then order.command ∷ [] else []
-
--- one actor has a command more, behind its others, and the other actors have what they had
-abbrev pub IsDealt : List (Vec Command Global) → Order → List (Vec Command Global) → Type 0
-IsDealt old order new =
-    (i : ℕ) (d : Vec Command Global) → i < length old
-    → (slice_index_or new i d).items ≡ (slice_index_or old i d).items ++ given_to i order

@@ -3,7 +3,7 @@
 ghost use Rattle.std.specs.Prelude.{◌≡◌};
 ghost use Rattle.csv.specs.Records.{fields_of};
 ghost use Rattle.day_text.specs.Causes.{Judges};
-ghost use Rattle.day_text.specs.Commands.{apply_fields_of, apply_of, cause_of, asked_permit_of, post_of, posting_of, set_day_of};
+ghost use Rattle.day_text.specs.Commands.{apply_fields_of, apply_of, cause_of, asked_permit_of, post_of, posting_of, resolved_of, set_day_of};
 
 use crate::asked::find_asked;
 use crate::day_so_far::DaySoFar;
@@ -36,7 +36,6 @@ pub(crate) struct ApplyFields<'a> {
 }
 
 /// The application of a record, for its actor: the fields in their forms first, and then what they refer to.
-#[tactic(auto, unfolding(crate::specs::Commands::resolved_of))]
 pub(crate) fn parse_apply(
     alloc: Global,
     so_far: &DaySoFar,
@@ -45,6 +44,18 @@ pub(crate) fn parse_apply(
     ensures { Judges result (apply_of so_far.now (fields_of row.now)) }
 {
     let fields = parse_apply_fields(row)?;
+    resolve(alloc, so_far, &fields)
+}
+
+// The application of some fields: what each of them refers to.
+#[tactic(auto, unfolding(crate::specs::Commands::resolved_of))]
+fn resolve(
+    alloc: Global,
+    so_far: &DaySoFar,
+    fields: &ApplyFields<'_>,
+) -> Result<Order, RecordRefusal>
+    ensures { Judges result (resolved_of so_far.now fields.now) }
+{
     let actor = known(so_far.actors.number(&fields.actor), 2)?;
     let truck = known(so_far.fleet.number(&fields.truck), 3)?;
     let from = known(so_far.network.node_named(&fields.from), 4)?;

@@ -3,12 +3,12 @@
 ghost use Rattle.std.specs.Prelude.{◌≡◌};
 ghost use Rattle.csv.specs.Records.{fields_of};
 ghost use Rattle.day_text.specs.Causes.{Grows};
-ghost use Rattle.day_text.specs.Fleets.{actors_of, fleet_of};
+ghost use Rattle.day_text.specs.Fleets.{actors_of, fleet_of, fleet_with};
 
 use crate::demands::{demand, has_only, limit, name_in};
 use crate::name_set::Names;
 use crate::refusal::{Kind, RecordCause, RecordRefusal};
-use crate::truck::{load_of, parse_truck};
+use crate::truck::{TruckFields, load_of, parse_truck};
 use crate::trucks::Fleet;
 use csv::StringRecord;
 use std::alloc::Global;
@@ -29,13 +29,24 @@ pub(crate) fn add_truck(
 ) -> Result<(), RecordRefusal>
     ensures { Grows result fleet.new (fleet_of fleet.old (fields_of row.now)) }
 {
-    let truck = parse_truck(alloc, row)?;
-    demand(!fleet.has(&truck.name), RecordCause::Same)?;
-    let load = load_of(&truck)?;
-    limit(fleet.len() < MOST_TRUCKS, Kind::Trucks)?;
+    let fields = parse_truck(alloc, row)?;
+    add_fields(fleet, &fields)
+}
+
+// Adds the truck of these fields.
+fn add_fields(fleet: &mut Fleet, fields: &TruckFields) -> Result<(), RecordRefusal>
+    ensures { Grows result fleet.new (fleet_with fleet.old fields.now) }
+{
+    if fleet.has(&fields.name) {
+        return Err(RecordRefusal::bad(RecordCause::Same));
+    }
+    let load = load_of(fields)?;
+    if fleet.len() >= MOST_TRUCKS {
+        return Err(RecordRefusal::too_many(Kind::Trucks));
+    }
     fleet.push(Truck {
-        name: truck.name,
-        carrier: truck.carrier,
+        name: fields.name,
+        carrier: fields.carrier,
         load,
     })
 }
