@@ -1,64 +1,31 @@
 // Runs of `audit`: journals that are legal for their day files, and each way in which something is not.
 
-use crate::days::{DAYS, Day, ISSUED, MEETING, MET};
-use crate::runs::ends;
-use std::alloc::Global;
+use crate::days::{Front, ISSUED, ISSUED_JOURNAL};
+use crate::runs::{ends, joined};
+use journal_reader::read;
 use std::process::Abort;
 use std::sync::Wait;
 use std::thread::Threads;
 
-// Some texts, one behind another.
-fn joined(rt: &impl Abort, alloc: Global, texts: &[&str]) -> String {
-    let mut whole = String::new(alloc);
-    for text in texts {
-        whole.push_str(text).expect(rt, "memory");
-    }
-    whole
-}
-
-// Runs an audit of texts that stand one behind another.
-fn audits<R: Abort + Threads + Wait + AllocGlobal + Sync>(
+// An audit of a journal with its day file behind it judges each entry legal.
+pub(crate) fn is_legal<R: Abort + Threads + Wait + AllocGlobal + Sync>(
     rt: &R,
-    texts: &[&str],
-    status: u8,
-    line: &str,
+    journal: &[u8],
+    day: &[u8],
 ) {
-    let input = joined(rt, rt.alloc(), texts);
-    ends(rt, &["audit"], input.as_bytes(), status, line);
+    let history = read(rt.alloc(), journal).expect(rt, "a journal");
+    let entries = history.len();
+    drop(history);
+    let line = format!(in rt.alloc(); "legal {entries}\n").expect(rt, "memory");
+    let mut input = journal.to_vec(rt.alloc()).expect(rt, "memory");
+    input.extend_from_slice(day).expect(rt, "memory");
+    ends(rt, "audit", input.as_slice(), 0, line.as_str());
     drop(input);
-}
-
-// The line of a legal journal has the number of entries that the journal's last line has.
-pub(crate) fn audits_legal<R: Abort + Threads + Wait + AllocGlobal + Sync>(
-    rt: &R,
-    journal: &str,
-    day: &str,
-) {
-    let count = journal
-        .lines()
-        .last()
-        .expect(rt, "a line")
-        .strip_prefix("end ")
-        .expect(rt, "an end");
-    let line = joined(rt, rt.alloc(), &["legal ", count, "\n"]);
-    audits(rt, &[journal, day], 0, line.as_str());
     drop(line);
 }
 
-fn audits_each_legal<R: Abort + Threads + Wait + AllocGlobal + Sync>(rt: &R, days: &[Day]) {
-    for &(input, output) in days {
-        audits_legal(rt, output, input);
-    }
-}
-
-#[test]
-fn calls_journals_of_days_legal(rt: HostRuntime) {
-    audits_each_legal(&rt, &DAYS);
-    audits_legal(&rt, MET, MEETING);
-}
-
-// A journal of another format, one with another reply, and texts that are no journals; what stands behind them; the status and the
-// line. The first line of the formats is told here.
+// A journal of another format, one with another reply, and texts that are no journals; the status and the line. A day file stands
+// behind them. The first line of the formats is told here.
 const JUDGED: [(&str, u8, &str); 7] = [
     (
         "permit-journal 1\n1 snapshot = at 0\nend 1\n",
@@ -91,9 +58,17 @@ const JUDGED: [(&str, u8, &str); 7] = [
 
 #[test]
 fn judges_what_is_no_legal_journal(rt: HostRuntime) {
+    let day = joined(&rt, rt.alloc(), Front::Load.text(), ISSUED);
     for &(journal, status, line) in &JUDGED {
-        audits(&rt, &[journal, ISSUED.0], status, line);
+        let input = joined(&rt, rt.alloc(), journal, day.as_str());
+        ends(&rt, "audit", input.as_bytes(), status, line);
     }
-    audits(&rt, &[ISSUED.1], 5, "refused: record 1 end\n");
-    audits(&rt, &[], 5, "refused: line 1\n");
+    ends(
+        &rt,
+        "audit",
+        ISSUED_JOURNAL.as_bytes(),
+        5,
+        "refused: record 1 end\n",
+    );
+    ends(&rt, "audit", b"", 5, "refused: line 1\n");
 }

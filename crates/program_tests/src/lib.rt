@@ -7,16 +7,16 @@
 #[cfg(test)]
 mod audits;
 #[cfg(test)]
+mod cases;
+#[cfg(test)]
 mod days;
 #[cfg(test)]
-mod inputs;
+mod faults;
 #[cfg(test)]
-mod loadings;
+mod inputs;
 #[cfg(test)]
 mod made_days;
 #[cfg(test)]
 mod meetings;
-#[cfg(test)]
-mod reroutes;
 #[cfg(test)]
 mod runs;

@@ -1,8 +1,13 @@
-// Days of two actors who meet between what the one finds and its submit, for the tests.
+// Days of actors at work at once: two who meet between what the one finds and its submit, and sixteen.
 
-use crate::days::{BOTH, BOTH_ISSUED, MEETING, MET, OVERTAKEN, OVERTAKING};
-use crate::runs::run_at;
+use crate::audits::is_legal;
+use crate::days::{
+    BOTH, BOTH_ISSUED, Front, MEETING, MEETING_JOURNAL, OVERTAKING, OVERTAKING_JOURNAL,
+};
+use crate::runs::{joined, run_at, run_words, same};
 use analyst_pool::Gate;
+use journal_reader::read;
+use office_words::{Call, Entry, Reply};
 use std::process::Abort;
 use std::sync::Wait;
 use std::sync::atomic::{AtomicU64, Ordering};
@@ -65,25 +70,30 @@ impl Gate for Meeting {
     }
 }
 
-// The second actor has so many commands, and its postings come between what the first finds and its submits.
+// The second actor has so many commands, and its postings come between what the first finds and its submits; an audit judges the
+// journal legal.
 fn meets<R: Abort + Threads + Wait + AllocGlobal + Sync>(
     rt: &R,
-    input: &str,
+    rest: &str,
     commands: u64,
-    output: &str,
+    journal: &str,
 ) {
+    let input = joined(rt, rt.alloc(), Front::Load.text(), rest);
     let gate = Meeting::new(commands);
-    let ran = run_at(rt, &["day"], input.as_bytes(), &[], &[], &gate);
-    assert!(rt; ran.status == 0 && gate.failed.load(Ordering::SeqCst) == 0);
-    assert!(rt; ran.text.as_slice() == output.as_bytes());
+    let ran = run_at(rt, "day", input.as_bytes(), &[], &[], &gate);
+    assert!(rt; gate.failed.load(Ordering::SeqCst) == 0);
+    same(rt, &ran, 0, journal, rest);
+    drop(ran);
+    is_legal(rt, journal.as_bytes(), input.as_bytes());
+    drop(input);
 }
 
 // Another posts between what an actor finds and its submit, which only actors at work at once can come to: once, and at each of
 // the eight attempts, after which the office finds a route itself.
 #[test]
 fn posts_while_another_analyses(rt: HostRuntime) {
-    meets(&rt, MEETING, 1, MET);
-    meets(&rt, OVERTAKING, 8, OVERTAKEN);
+    meets(&rt, MEETING, 1, MEETING_JOURNAL);
+    meets(&rt, OVERTAKING, 8, OVERTAKING_JOURNAL);
 }
 
 // Keeps each of two actors ahead of its command, and behind what it found for it, until the other has come as far. A wait that
@@ -129,7 +139,9 @@ fn two_actors_find_what_they_propose_at_once(rt: HostRuntime) {
         came: AtomicU64::new(0),
         failed: AtomicU64::new(0),
     };
-    let ran = run_at(&rt, &["day"], BOTH.as_bytes(), &[], &[], &gate);
+    let input = joined(&rt, rt.alloc(), Front::Load.text(), BOTH);
+    let ran = run_at(&rt, "day", input.as_bytes(), &[], &[], &gate);
+    drop(input);
     let came = gate.came.load(Ordering::SeqCst);
     assert!(rt; ran.status == 0 && came == 6 && gate.failed.load(Ordering::SeqCst) == 0);
     let mut is_issued = false;
@@ -137,4 +149,60 @@ fn two_actors_find_what_they_propose_at_once(rt: HostRuntime) {
         is_issued |= ran.text.as_slice() == journal.as_bytes();
     }
     assert!(rt; is_issued);
+}
+
+// A day of sixteen actors, of whom those of even index ask for a permit that nobody has and the others ask for nothing.
+const SIXTEEN: &str = "\
+day,2026-03-02,,,,,,
+actor,a1,,,,,,
+actor,a2,,,,,,
+actor,a3,,,,,,
+actor,a4,,,,,,
+actor,a5,,,,,,
+actor,a6,,,,,,
+actor,a7,,,,,,
+actor,a8,,,,,,
+actor,a9,,,,,,
+actor,a10,,,,,,
+actor,a11,,,,,,
+actor,a12,,,,,,
+actor,a13,,,,,,
+actor,a14,,,,,,
+actor,a15,,,,,,
+actor,a16,,,,,,
+show,a1,0,,,,,
+show,a3,0,,,,,
+show,a5,0,,,,,
+show,a7,0,,,,,
+show,a9,0,,,,,
+show,a11,0,,,,,
+show,a13,0,,,,,
+show,a15,0,,,,,
+end,,,,,,,
+";
+
+// How many entries say that this actor asked for permit 0, which is unknown.
+fn asked_in_vain(history: &[Entry], actor: u32) -> usize {
+    let mut count = 0_usize;
+    for entry in history {
+        let is_asked = matches!(&entry.call, Call::Show { number: 0 });
+        if entry.caller == actor && is_asked && matches!(&entry.reply, Reply::Unknown) {
+            count = count.wrapping_add(1);
+        }
+    }
+    count
+}
+
+// Their entries come in any order.
+#[test]
+fn runs_sixteen_actors(rt: HostRuntime) {
+    let ran = run_words(&rt, "day", SIXTEEN.as_bytes(), &[], &[]);
+    assert_eq!(rt; ran.status, 0);
+    let history = read(rt.alloc(), ran.text.as_slice()).expect(&rt, "a journal");
+    drop(ran);
+    assert_eq!(rt; history.len(), 8);
+    for actor in [0u32, 2, 4, 6, 8, 10, 12, 14] {
+        assert!(rt; asked_in_vain(&history, actor) == 1, "actor {actor}");
+    }
+    drop(history);
 }

@@ -243,77 +243,71 @@ fn names_the_line_that_was_changed(rt: HostRuntime) {
     }
 }
 
-// Lines that no journal has, in whatever format.
-const FAULTS: [&str; 57] = [
-    // indices and numbers out of range, with a sign, with a zero in front, or none
-    "0 snapshot = at 0",
-    "65537 snapshot = at 0",
-    "01 snapshot = at 0",
-    "1 snapshot = at 4294967296",
-    "1 snapshot = at 18446744073709551616",
-    "1 snapshot = at +0",
-    "1 snapshot = at -0",
-    "1 snapshot = at ",
-    "1 snapshot = at x",
-    // spaces
-    " 1 snapshot = at 0",
-    "1  snapshot = at 0",
-    "1 snapshot = at 0 ",
-    "1 snapshot\t= at 0",
-    "1 snapshot = at 0\r",
-    // words that are missing, too many, or another
-    "1 snapshot at 0",
-    "1 snapshot =",
-    "1 snapshot",
-    "1 = at 0",
-    "1 snapshot = at 0 0",
-    "1 Snapshot = at 0",
-    "1 snapshot = full 1",
-    "1 post segment 1 closed 2 = range",
-    "1 post segment 1 rating 2 = range",
-    "1 post span 1 height 2 = range",
-    "1 held truck 1 from 1 to 2 days 2026-03-02 2026-03-06 asked none = noroad",
-    // lists
-    "1 snapshot = posted 1 recalled ",
-    "1 snapshot = posted 1 recalled 1,",
-    "1 snapshot = posted 1 recalled ,1",
-    "1 snapshot = posted 1 recalled 1,,2",
-    "1 snapshot = posted 1 recalled 1, 2",
-    "1 snapshot = posted 1 recalled -,1",
-    "1 snapshot = issued 1 at 0 route 0",
-    "1 snapshot = issued 1 at 0 route 65537",
-    "1 snapshot = issued 1 at 0 route none",
-    // routes: a part that is none, another separator, nine of them
-    "1 snapshot = issued 1 at 0 route /",
-    "1 snapshot = issued 1 at 0 route 1/",
-    "1 snapshot = issued 1 at 0 route /1",
-    "1 snapshot = issued 1 at 0 route 1//2",
-    "1 snapshot = issued 1 at 0 route 1/0",
-    "1 snapshot = issued 1 at 0 route 1|2",
-    "1 snapshot = issued 1 at 0 route 1,/2",
-    "1 snapshot = issued 1 at 0 route 1/2/3/4/5/6/7/8/9",
-    "1 held truck 1 from 1 to 2 asked 1/none days 2026-03-02 2026-03-06 = noroad",
-    // days
-    "1 day 2026-02-30 = range",
-    "1 day 2026-3-02 = range",
-    // fractions and groups
-    "1 snapshot = refused 0 segment 1 span 2 shear 2/4 hs20 5/3 rating 4",
-    "1 snapshot = refused 0 segment 1 span 2 shear 0/2 hs20 5/3 rating 4",
-    "1 snapshot = refused 0 segment 1 span 2 shear 1/0 hs20 5/3 rating 4",
-    "1 snapshot = refused 0 segment 1 span 2 shear 5 hs20 5/3 rating 4",
-    "1 snapshot = refused 0 segment 1 span 2 shear 5/1/1 hs20 5/3 rating 4",
-    "1 snapshot = refused 0 segment 1 span 2 shear 340282366920938463463374607431768211456/1 hs20 5/3 rating 4",
-    "1 snapshot = refused 0 segment 1 group 1-0 weight 1 limit 2 allowance 3",
-    "1 snapshot = refused 0 segment 1 group 1 weight 1 limit 2 allowance 3",
-    "1 snapshot = refused 0 segment 1 height 2 under 1",
-    "1 snapshot = refused 0 segment 1 tridem 2-4 weight 51000 limit 50999",
-    "1 post segment 1 closed 01 = range",
-    "1 post segment 1 tridems 1 = range",
-];
+// Lines that no journal has, in whatever format: indices and numbers out of range, with a sign, with a zero in front, or none; spaces;
+// words that are missing, too many, or another; lists; routes with a part that is none, with another separator, and nine of them; days;
+// fractions and groups.
+const FAULTS: &str = "\
+0 snapshot = at 0
+65537 snapshot = at 0
+01 snapshot = at 0
+1 snapshot = at 4294967296
+1 snapshot = at 18446744073709551616
+1 snapshot = at +0
+1 snapshot = at -0
+1 snapshot = at\x20
+1 snapshot = at x
+ 1 snapshot = at 0
+1  snapshot = at 0
+1 snapshot = at 0\x20
+1 snapshot\t= at 0
+1 snapshot = at 0\r
+1 snapshot at 0
+1 snapshot =
+1 snapshot
+1 = at 0
+1 snapshot = at 0 0
+1 Snapshot = at 0
+1 snapshot = full 1
+1 post segment 1 closed 2 = range
+1 post segment 1 rating 2 = range
+1 post span 1 height 2 = range
+1 held truck 1 from 1 to 2 days 2026-03-02 2026-03-06 asked none = noroad
+1 snapshot = posted 1 recalled\x20
+1 snapshot = posted 1 recalled 1,
+1 snapshot = posted 1 recalled ,1
+1 snapshot = posted 1 recalled 1,,2
+1 snapshot = posted 1 recalled 1, 2
+1 snapshot = posted 1 recalled -,1
+1 snapshot = issued 1 at 0 route 0
+1 snapshot = issued 1 at 0 route 65537
+1 snapshot = issued 1 at 0 route none
+1 snapshot = issued 1 at 0 route /
+1 snapshot = issued 1 at 0 route 1/
+1 snapshot = issued 1 at 0 route /1
+1 snapshot = issued 1 at 0 route 1//2
+1 snapshot = issued 1 at 0 route 1/0
+1 snapshot = issued 1 at 0 route 1|2
+1 snapshot = issued 1 at 0 route 1,/2
+1 snapshot = issued 1 at 0 route 1/2/3/4/5/6/7/8/9
+1 held truck 1 from 1 to 2 asked 1/none days 2026-03-02 2026-03-06 = noroad
+1 day 2026-02-30 = range
+1 day 2026-3-02 = range
+1 snapshot = refused 0 segment 1 span 2 shear 2/4 hs20 5/3 rating 4
+1 snapshot = refused 0 segment 1 span 2 shear 0/2 hs20 5/3 rating 4
+1 snapshot = refused 0 segment 1 span 2 shear 1/0 hs20 5/3 rating 4
+1 snapshot = refused 0 segment 1 span 2 shear 5 hs20 5/3 rating 4
+1 snapshot = refused 0 segment 1 span 2 shear 5/1/1 hs20 5/3 rating 4
+1 snapshot = refused 0 segment 1 span 2 shear 340282366920938463463374607431768211456/1 hs20 5/3 rating 4
+1 snapshot = refused 0 segment 1 group 1-0 weight 1 limit 2 allowance 3
+1 snapshot = refused 0 segment 1 group 1 weight 1 limit 2 allowance 3
+1 snapshot = refused 0 segment 1 height 2 under 1
+1 snapshot = refused 0 segment 1 tridem 2-4 weight 51000 limit 50999
+1 post segment 1 closed 01 = range
+1 post segment 1 tridems 1 = range";
 
 #[test]
 fn takes_no_line_with_a_fault(rt: HostRuntime) {
-    for &line in &FAULTS {
+    for line in FAULTS.split('\n') {
         let text = format!(in rt.alloc(); "permit-journal 3\n{line}\nend 1\n");
         let text = text.expect(&rt, "memory");
         holds(&rt, bad_row(rt.alloc(), text.as_str()) == Some(2), line);

@@ -5,8 +5,6 @@
 #![tactic(auto)]
 
 #[cfg(test)]
-mod day_files;
-#[cfg(test)]
 mod fixtures;
 #[cfg(test)]
 mod journals;
@@ -24,6 +22,8 @@ mod replacements;
 mod reports;
 #[cfg(test)]
 mod reroutes;
+#[cfg(test)]
+mod scripts;
 #[cfg(test)]
 mod streams;
 #[cfg(test)]
