@@ -5,8 +5,10 @@ later. It is text alone and runs no script.
 """
 import math
 import string
+from collections import Counter
 from collections.abc import Iterable
 from fractions import Fraction
+from typing import NamedTuple
 
 from model.bridges import design
 
@@ -17,9 +19,12 @@ from .journal import Limit, Routes
 from .markup import Source, audited_text, cells, part, plural, policy, safe, sources_text, table
 from .page import ANSWERS, STATES, days
 from .replay import EXPIRED, IN_FORCE, RECALLED, Answer, Permit, Posting, Replay
-from .wording import EFFECT_UNITS, EFFECTS, LIMIT_NAMES, NO_LIMIT, OPEN, STATUS, Words, axles_text, value_text, verdict
+from .wording import EFFECT_UNITS, EFFECTS, LIMIT_NAMES, NO_LIMIT, OPEN, STATUS
+from .wording import Words, axles_text, percent, value_text, verdict
 
 FEET_A_MILE = 5280
+# longer routes have a line for each road, and the verdict in full of one bridge alone; so many later answers are told
+MOST_ROADS, MOST_LATER = 12, 4
 Item = Permit | Answer
 
 
@@ -61,6 +66,16 @@ def sentence(text: str) -> str:
 
 def miles(feet: int) -> str:
     return f"{feet:,} ft, {feet / FEET_A_MILE:,.1f} miles"
+
+
+class Effect(NamedTuple):
+    """What a truck does to a span, and what the span carries."""
+
+    truck: int
+    span: int
+    what: str
+    has: Fraction
+    most: Fraction
 
 
 class Handout:
@@ -179,29 +194,44 @@ class Handout:
         ]
         return "; ".join(texts) or NO_LIMIT
 
-    def bridges_text(self, segment: int, trucks: Iterable[int]) -> str:
+    def bridges_text(self, segment: int, trucks: list[int], short: bool) -> str:
         """The bridges on a segment, and what each truck does to each."""
         found = []
         for span in self.made.reckoning.spans_of[segment]:
-            inches, rating = self.file.spans[span].inches, self.ratings[span]
-            name = safe(self.words.spans[span])
-            texts = [text for truck in trucks for text in self.effects(truck, inches, rating)]
-            judged = "".join(f"<li>{safe(text)}</li>" for text in texts)
-            found.append(f"{name}, {inches:,} in, rating {value_text('rating', rating)}<ul>{judged}</ul>")
+            inches, rating = self.file.spans[span].inches, value_text("rating", self.ratings[span])
+            named = safe(f"{self.words.spans[span]}, {inches:,} in, rating {rating}")
+            effects = [it for truck in trucks for it in self.effects(truck, span)]
+            if short:
+                parts = ", ".join(f"{EFFECTS[it.what]} {percent(it.has, it.most)}" for it in effects if it.most)
+                found.append(f"<div>{named}{safe(f': {parts} of what it carries' if parts else '')}</div>")
+            else:
+                found.append(f"{named}<ul>{''.join(f'<li>{safe(self.effect_text(it))}</li>' for it in effects)}</ul>")
         return "".join(found) or "none"
 
-    def effects(self, truck: int, inches: int, rating: int) -> list[str]:
+    def effects(self, truck: int, span: int) -> list[Effect]:
         """The moment and the end shear of a truck on a span, and what the span carries."""
-        effects, name = self.made.reckoning.effects(truck, inches), self.file.trucks[truck].name
+        inches = self.file.spans[span].inches
+        effects = self.made.reckoning.effects(truck, inches)
         if effects is None:
             return []
-        texts = []
-        for what, has, most in zip(("moment", "shear"), effects, design(inches)):
-            judged = verdict(has, Fraction(most * rating, 1000), EFFECT_UNITS[what], "carried")
-            texts.append(f"{EFFECTS[what]} of {name}: {judged}")
-        return texts
+        both = zip(("moment", "shear"), effects, design(inches))
+        return [Effect(truck, span, what, has, most * self.ratings[span] / 1000) for what, has, most in both]
 
-    def road_row(self, segment: int, at: str, trucks: list[int]) -> str:
+    def effect_text(self, it: Effect) -> str:
+        judged = verdict(it.has, it.most, EFFECT_UNITS[it.what], "carried")
+        return f"{EFFECTS[it.what]} of {self.file.trucks[it.truck].name}: {judged}"
+
+    def closest(self, segments: Iterable[int], truck: int) -> str:
+        """The bridge of a route that is the nearest to what it carries, in full."""
+        spans = [span for segment in segments for span in self.made.reckoning.spans_of[segment]]
+        effects = [it for span in spans for it in self.effects(truck, span)]
+        if not effects:
+            return ""
+        it = max(effects, key=lambda it: it.has / it.most if it.most else it.has * 10**9)
+        text = f"The nearest to its limit is bridge {self.words.spans[it.span]}: {self.effect_text(it)}."
+        return f"<p>{safe(text)}</p>"
+
+    def road_row(self, segment: int, at: str, trucks: list[int], short: bool) -> str:
         start, end, feet = self.file.segments[segment]
         ends = " to ".join(f'<span class="whole">{safe(self.words.nodes[node])}</span>' for node in (start, end))
         row = (
@@ -209,14 +239,12 @@ class Handout:
             ("From and to", ends),
             ("Feet", f'<span class="whole">{feet:,} ft</span>'),
             ("Limits", safe(self.limits_text(segment))),
-            ("Bridges", self.bridges_text(segment, trucks)),
+            ("Bridges", self.bridges_text(segment, trucks, short)),
         )
         return f'<tr role="row">{cells(row)}</tr>\n'
 
-    def roads(self, name: str, caption: str, segments: Iterable[int], trucks: list[int], counted: bool) -> str:
-        heads = ("Road", "From and to", "Feet", "Limits", "Bridges")
-        rows = [self.road_row(it, f"{at}. " if counted else "", trucks) for at, it in enumerate(segments, 1)]
-        return table(name, caption, heads, rows)
+    def roads(self, name: str, caption: str, rows: list[str]) -> str:
+        return table(name, caption, ("Road", "From and to", "Feet", "Limits", "Bridges"), rows)
 
 
 class OfPermit(Handout):
@@ -257,22 +285,28 @@ class OfPermit(Handout):
         feet = sum(self.file.segments[segment].feet for segment in route)
         head = f"Route {number + 1} of {count}" if count > 1 else "Route"
         caption = f"{plural(len(route), 'road')}, {miles(feet)}; limits and ratings as posted at version {self.version}"
-        rows = self.roads(f"route-{number + 1}", caption, route, [self.permit.trip.truck], True)
-        return f"<h2>{head}</h2>{rows}"
+        truck, short = self.permit.trip.truck, sum(map(len, self.permit.routes)) > MOST_ROADS
+        rows = [self.road_row(it, f"{at}. ", [truck], short) for at, it in enumerate(route, 1)]
+        roads = self.roads(f"route-{number + 1}", caption, rows)
+        if not short:
+            return f"<h2>{head}</h2>{roads}"
+        return f'<h2>{head}</h2>{self.closest(route, truck)}<div class="short">{roads}</div>'
 
     def later(self) -> str:
         """What was answered later to the same truck."""
         truck = self.permit.trip.truck
         items = [it for it in in_order(self.made) if it.trip.truck == truck and it.line > self.permit.line]
-        if not items:
-            return "<h2>Later answers to the same truck</h2><p>None.</p>"
-        texts = []
-        for it in items:
-            why = "" if isinstance(it, Permit) and it.status != RECALLED else f" {self.why(it)}"
-            trip = f"{self.words.trip(it.trip)}, {it.trip.first} to {it.trip.last}"
-            said = f"{name_of(it)}, {state_of(it).lower()}: {trip}.{why}".rstrip(".")
-            texts.append(f"<li>{safe(said)}.</li>")
-        return f'<h2>Later answers to the same truck</h2><ul>{"".join(texts)}</ul>'
+        counts = Counter(state_of(it).lower() for it in items)
+        said = ", ".join(f"{count} {state}" for state, count in counts.items()) or "none"
+        some = f"; the last {MOST_LATER} of them are" if len(items) > MOST_LATER else ""
+        told = "".join(f"<li>{safe(self.later_text(it))}</li>" for it in items[-MOST_LATER:])
+        head = "<h2>Later answers to the same truck</h2>"
+        return f"{head}<p>{safe(said + some)}{':' if told else '.'}</p><ul>{told}</ul>"
+
+    def later_text(self, item: Item) -> str:
+        why = "" if isinstance(item, Permit) and item.status != RECALLED else f" {self.why(item)}"
+        trip = f"{self.words.trip(item.trip)}, {item.trip.first} to {item.trip.last}"
+        return f"{name_of(item)}, {state_of(item).lower()}: {trip}.{why}".rstrip(".") + "."
 
 
 class OfCarrier(Handout):
@@ -327,10 +361,11 @@ class OfCarrier(Handout):
                 users.setdefault(segment, set()).add(it.trip.truck)
         if not users:
             return ""
-        rows = "".join(self.road_row(segment, "", sorted(users[segment])) for segment in sorted(users))
+        short = len(users) > MOST_ROADS
+        rows = [self.road_row(segment, "", sorted(users[segment]), short) for segment in sorted(users)]
         caption = f"Roads of these routes; limits and ratings as posted at version {self.version}, the last one"
-        heads = ("Road", "From and to", "Feet", "Limits", "Bridges")
-        return "<h2>Roads</h2>" + table("roads", caption, heads, [rows])
+        kind = "short" if short else "full"
+        return f'<h2>Roads</h2><div class="{kind}">{self.roads("roads", caption, rows)}</div>'
 
 
 def posted_at(made: Replay, version: int) -> tuple[list[dict[str, int]], list[int]]:

@@ -103,8 +103,9 @@
   const stateNow = () => {
     const at = Number(version.value), here = chosen && chosen.version === at;
     const cut = chosen && chosen.cut !== undefined && (here || chosen.always) ? data.cuts[chosen.cut] : [];
-    return { posted: postedAt(at), at, here, route: new Set(chosen ? chosen.routes.flat() : []), reached: new Set(cut),
-      fails: here && chosen.fails ? chosen.fails : null, reason: here && chosen.fails ? chosen.said.slice(chosen.at) : "" };
+    const fails = here && chosen.fails ? chosen.fails : null;
+    return { posted: postedAt(at), at, here, route: new Set(chosen ? chosen.routes.flat() : []), reached: new Set(cut), fails,
+      reason: fails ? byId(chosen.id).querySelector(".why")?.textContent || "closed" : "" };
   };
   const failsAt = (state, segment) => state.fails !== null && state.fails[0] === segment;
   const leadsOut = (state, segment) => state.reached.has(data.segments[segment][1]) && !state.reached.has(data.segments[segment][2]);
@@ -212,8 +213,8 @@
     while (t > 0.5 && Math.hypot(curve.at(t)[0] - x, curve.at(t)[1] - y) < clear) t -= 0.01;
     const tip = curve.at(t), [u, v] = curve.along(t), long = strong ? 13 : 9, half = strong ? 6 : 4;
     const back = [tip[0] - u * long, tip[1] - v * long];
-    scene.below.push(make("path", { class: `head ${classes}`,
-      d: `M${tip}L${back[0] - v * half} ${back[1] + u * half}L${back[0] + v * half} ${back[1] - u * half}Z` }));
+    scene.below.push(make("polygon", { class: `head ${classes}`.trim(),
+      points: `${tip} ${back[0] - v * half},${back[1] + u * half} ${back[0] + v * half},${back[1] - u * half}` }));
     claim(scene, around(back, half));
   };
   /* A mark of what fails, and its reason. */
@@ -385,7 +386,8 @@
     if (!chosen) return "";
     const reach = chosen.reach && (state.here || chosen.always) ? ` ${chosen.reach}.` : "";
     const other = state.here ? "" : ` That is of version ${chosen.version}; the roads are shown at version ${state.at}.`;
-    return `${chosen.title}. ${chosen.said}.${reach}${other}`;
+    const said = byId(chosen.id).cells[1].textContent.trim();
+    return `${chosen.title}. ${said}.${reach}${other}`;
   };
   const draw = () => {
     const state = stateNow(), closed = [...state.posted.keys()].filter((segment) => isClosed(state.posted, segment)).length;

@@ -29,6 +29,11 @@ def days(trip: Trip) -> str:
     return f'<span class="whole">{safe(trip.first)} to</span> <span class="whole">{safe(trip.last)}</span>'
 
 
+def reason(text: str) -> str:
+    """What fails, as the drawing takes it from a row."""
+    return f'<span class="why">{safe(text)}</span>'
+
+
 def choose(name: str, text: str) -> str:
     return (
         f'<button type="button" class="screen" data-choose="{safe(name)}" '
@@ -137,12 +142,9 @@ class Page:
 
     def recalled_by(self, permit: Permit) -> str:
         posting = self.made.postings[permit.posting - 1]
-        return f"by {link('posting', posting.version)}: {safe(self.recall_text(permit, posting))}"
-
-    def recall_text(self, permit: Permit, posting: Posting) -> str:
-        """What was posted, and why the permit's truck then fails."""
         why = self.words.why(permit)
-        return self.words.posting(posting) + (f"; {why}" if why else "")
+        said = safe(self.words.posting(posting)) + (f"; {reason(why)}" if why else "")
+        return f"by {link('posting', posting.version)}: {said}"
 
     def answers(self) -> str:
         heads = ("Number", "Answer", "Carrier", "Truck", "Days", "From and to", "Asked by")
@@ -152,14 +154,12 @@ class Page:
     def answer_row(self, answer: Answer) -> str:
         truck, name = self.trucks[answer.trip.truck], f"answer-{answer.number}"
         asked = f", {self.words.routes(answer.trip.asked)}" if answer.trip.asked else ""
-        version = f" (at version {answer.version})" if answer.reply == "refused" else ""
         shown = choose(name, f"answer {answer.number}") if answer.reply in ("refused", "noroad") else ""
         row = (
             ("Number", f'<a href="#{name}">Answer {answer.number}</a>'),
             (
                 "Answer",
-                f'<span class="state">{safe(ANSWERS[answer.reply])}:</span> '
-                f"{safe(self.words.answer(answer) + version)}",
+                f'<span class="state">{safe(ANSWERS[answer.reply])}:</span> {self.said(answer)}',
             ),
             ("Carrier", safe(truck.carrier)),
             ("Truck", safe(truck.name)),
@@ -171,6 +171,13 @@ class Page:
             f'<tr id="{name}" class="{safe(answer.reply)}" role="row" data-state="{safe(answer.reply)}" '
             f'data-carrier="{safe(truck.carrier)}">{cells(row)}</tr>\n'
         )
+
+    def said(self, answer: Answer) -> str:
+        """What is said of an answer, and at which version it is refused."""
+        if answer.limit is None:
+            return safe(self.words.answer(answer))
+        place = self.words.in_the_way(answer) + self.words.place(answer.limit)
+        return f"{safe(place)}: {reason(self.words.reason(answer.limit))} (at version {answer.version})"
 
     def postings(self) -> str:
         heads = ("Posting", "What is posted", "Before", "Posted by", "Recalled by it")
@@ -225,16 +232,11 @@ class Page:
         return text.replace("<", "\\u003c").replace(">", "\\u003e").replace("&", "\\u0026")
 
     def chosen_permit(self, permit: Permit) -> dict[str, Any]:
-        said = STATUS[permit.status]
-        if permit.posting:
-            posting = self.made.postings[permit.posting - 1]
-            said += f" by posting {posting.version}: {self.recall_text(permit, posting)}"
-        chosen = self.chosen(f"permit {permit.number}", permit.trip, permit.routes, said, permit.limit)
+        chosen = self.chosen(f"permit {permit.number}", permit.trip, permit.routes, permit.limit)
         return chosen | {"version": permit.posting or permit.version}
 
     def chosen_answer(self, answer: Answer, cuts: dict[tuple[int, ...], int]) -> dict[str, Any]:
-        said = f"{ANSWERS[answer.reply]}. {self.words.answer(answer)}"
-        chosen = self.chosen(f"answer {answer.number}", answer.trip, answer.trip.asked, said, answer.limit)
+        chosen = self.chosen(f"answer {answer.number}", answer.trip, answer.trip.asked, answer.limit)
         if answer.reached and self.places is not None:
             chosen["cut"] = cuts.setdefault(answer.reached, len(cuts))
         places = plural(len(answer.reached), "place")
@@ -245,12 +247,9 @@ class Page:
             chosen["reach"] = f"The truck can reach {places} at this version"
         return chosen | {"version": answer.version}
 
-    def chosen(self, name: str, trip: Trip, routes: Routes, said: str, limit: Limit | None) -> dict[str, Any]:
-        """What the drawing shows of a permit or an answer. The text behind `at` is what stands beside the road that
-        fails."""
+    def chosen(self, name: str, trip: Trip, routes: Routes, limit: Limit | None) -> dict[str, Any]:
+        """What the drawing shows of a permit or an answer. What is said of it stands in its row."""
         truck = self.trucks[trip.truck]
         made: dict[str, Any] = {"id": name.replace(" ", "-"), "title": f"{name}: {truck.carrier} {truck.name}"}
-        made |= {"routes": routes, "from": trip.start, "to": trip.end, "said": said}
-        if limit is not None:
-            made |= {"fails": [limit.segment, limit.span], "at": len(said) - len(self.words.reason(limit))}
-        return made
+        made |= {"routes": routes, "from": trip.start, "to": trip.end}
+        return made if limit is None else made | {"fails": [limit.segment, limit.span]}

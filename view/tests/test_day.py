@@ -211,8 +211,9 @@ class Content(unittest.TestCase):
     def test_no_road_says_what_any_walk_reaches(self) -> None:
         day, journal = ((EXAMPLES / f"no-road{ending}").read_bytes() for ending in (".csv", ".journal"))
         shown = Shown(page(day, journal).stdout)
-        chosen = [it for it in json.loads(shown.data)["chosen"] if "No road." in it["said"]]
-        self.assertEqual([it["reach"][:48] for it in chosen], ["Any walk from there, over open or closed roads, "])
+        reached = {it["id"]: it.get("reach", "") for it in json.loads(shown.data)["chosen"]}
+        number = next(name for name, row in shown.rows.items() if "No road: No road leads from" in "".join(row))
+        self.assertTrue(reached[number].startswith("Any walk from there, over open or closed roads, reaches"))
         self.assertNotIn("the truck can reach 2", shown.text)
 
     def test_each_number_has_its_unit(self) -> None:
