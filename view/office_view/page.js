@@ -28,7 +28,8 @@
     if (label) made.dataset.label = label;
     row.append(made);
   };
-  const counted = (count, word) => `${count.toLocaleString("en-US")} ${word}${count === 1 ? "" : "s"}`;
+  const digits = new Intl.NumberFormat("en-US").format;
+  const counted = (count, word) => `${digits(count)} ${word}${count === 1 ? "" : "s"}`;
 
   /* What is looked for: a permit or an answer by its number, numbers as they stand, and words or parts of them. */
   const testsOf = (text) => {
@@ -84,7 +85,7 @@
     return Boolean(here) && ([...here.values].some(([what, value]) => what !== "closed" && value !== data.most[what])
       || [...here.ratings.values()].some((rating) => rating !== data.most.rating));
   };
-  const valueText = (what, value) => (value === data.most[what] ? "no limit" : value.toLocaleString("en-US") + data.units[what]);
+  const valueText = (what, value) => (value === data.most[what] ? "no limit" : digits(value) + data.units[what]);
   const postedText = (posted, segment) => {
     const here = posted.get(segment), parts = [];
     if (!here) return "no limit";
@@ -93,7 +94,7 @@
       else if (value !== data.most[what]) parts.push(`${what === "allowance" ? "axle groups" : what} ${valueText(what, value)}`);
     }
     for (const [span, rating] of here.ratings) {
-      parts.push(`bridge ${data.spans[span][0]} of ${data.spans[span][2].toLocaleString("en-US")} in: ${valueText("rating", rating)}`);
+      parts.push(`bridge ${data.spans[span][0]} of ${digits(data.spans[span][2])} in: ${valueText("rating", rating)}`);
     }
     return parts.join(", ") || "no limit";
   };
@@ -148,6 +149,7 @@
       isFree: (box) => !some(box, (key) => (cells.get(key) || []).some(meets(box))),
     };
   };
+  /* What is to be drawn, below and above, is made into elements when the drawing is chosen. */
   const makeScene = (few) => ({ few, room: makeRoom(), below: [], above: [], labels: [], box: [0, 0, 0, 0], unnamed: 0, mark: null });
   const claim = (scene, box) => {
     scene.room.add(box);
@@ -157,7 +159,10 @@
 
   /* A curve by its four points, as a place and a direction at each part of its way. */
   const curveOf = (a, b, c, d) => {
-    const at = (t) => [0, 1].map((i) => (1 - t) ** 3 * a[i] + 3 * (1 - t) ** 2 * t * b[i] + 3 * (1 - t) * t * t * c[i] + t ** 3 * d[i]);
+    const at = (t) => {
+      const s = 1 - t, p = s * s * s, q = 3 * s * s * t, r = 3 * s * t * t, w = t * t * t;
+      return [p * a[0] + q * b[0] + r * c[0] + w * d[0], p * a[1] + q * b[1] + r * c[1] + w * d[1]];
+    };
     const along = (t) => {
       const [x, y] = at(Math.max(0, t - 0.02)), [u, v] = at(Math.min(1, t + 0.02)), length = Math.hypot(u - x, v - y) || 1;
       return [(u - x) / length, (v - y) / length];
@@ -165,17 +170,23 @@
     return { at, along, text: `M${a}C${b} ${c} ${d}`, length: Math.hypot(d[0] - a[0], d[1] - a[1]) || 120 };
   };
 
-  /* The boxes that a label may have: about a place in some directions, nearer ones first. */
-  const boxesOf = (label) => {
+  /* The box of a label: about a place in some directions, nearer ones first; one that lets the drawing be as wide as its frame
+     before one that does not. */
+  const boxOf = (scene, label, most) => {
     const wide = Math.max(...label.lines.map(widthOf)) + 2 * AIR, high = label.lines.length * LINE + (label.reason ? 2 * AIR : 0);
-    const boxes = [];
+    let other = null;
     for (const gap of label.gaps) {
       for (const [x, y, u, v] of label.anchors) {
         const reach = gap + Math.abs(u) * wide / 2 + Math.abs(v) * high / 2, left = x + u * reach - wide / 2, top = y + v * reach - high / 2;
-        boxes.push([left, top, left + wide, top + high]);
+        const box = [left, top, left + wide, top + high];
+        const isWithin = Math.max(scene.box[2], box[2]) - Math.min(scene.box[0], left) <= most;
+        if ((isWithin || !other) && scene.room.isFree(box)) {
+          if (isWithin) return box;
+          other = box;
+        }
       }
     }
-    return boxes;
+    return other;
   };
   const COMPASS = [...Array(16).keys()].map((it) => [Math.cos((it - 2) * Math.PI / 8), Math.sin((it - 2) * Math.PI / 8)]);
   const about = ([x, y]) => COMPASS.map(([u, v]) => [x, y, u, v]);
@@ -188,20 +199,21 @@
     claim(scene, box);
     if (label.reason) {
       const [x, y] = label.from, to = [Math.max(box[0], Math.min(x, box[2])), Math.max(box[1], Math.min(y, box[3]))];
-      scene.above.unshift(make("path", { class: "leader", d: `M${x} ${y}L${to}` }));
-      scene.above.push(make("rect", { class: "reason", x: box[0], y: box[1], width: box[2] - box[0], height: box[3] - box[1], rx: 3 }));
+      scene.above.unshift(() => make("path", { class: "leader", d: `M${x} ${y}L${to}` }));
+      for (let part = 0; part <= 1; part += 0.04) claim(scene, around([x + part * (to[0] - x), y + part * (to[1] - y)], 3));
+      scene.above.push(() => make("rect", { class: "reason", x: box[0], y: box[1], width: box[2] - box[0], height: box[3] - box[1], rx: 3 }));
     }
-    const text = make("text", { class: label.kind, x: box[0] + AIR, y: box[1] + SIZE + (label.reason ? AIR : 0) });
-    label.lines.forEach((line, at) => text.append(make("tspan", { x: box[0] + AIR, dy: at ? LINE : 0 }, line)));
-    scene.above.push(text);
+    scene.above.push(() => {
+      const text = make("text", { class: label.kind, x: box[0] + AIR, y: box[1] + SIZE + (label.reason ? AIR : 0) });
+      label.lines.forEach((line, at) => text.append(make("tspan", { x: box[0] + AIR, dy: at ? LINE : 0 }, line)));
+      return text;
+    });
   };
-  /* Each label goes where it meets nothing, and where the drawing stays as wide as its frame, if there is such a place. One
-     that finds none is left out, and the drawing says so. */
+  /* Each label goes where it meets nothing. One that finds no such place is left out, and the drawing says so. */
   const placeLabels = (scene) => {
     const most = byId("frame").clientWidth - 16;
-    const isWithin = (box) => Math.max(scene.box[2], box[2]) - Math.min(scene.box[0], box[0]) <= most;
     for (const label of scene.labels.sort((a, b) => a.rank - b.rank)) {
-      const boxes = boxesOf(label).filter(scene.room.isFree), box = boxes.find(isWithin) || boxes[0];
+      const box = boxOf(scene, label, most);
       if (box) drawLabel(scene, label, box);
       else scene.unnamed += 1;
     }
@@ -213,17 +225,17 @@
     while (t > 0.5 && Math.hypot(curve.at(t)[0] - x, curve.at(t)[1] - y) < clear) t -= 0.01;
     const tip = curve.at(t), [u, v] = curve.along(t), long = strong ? 13 : 9, half = strong ? 6 : 4;
     const back = [tip[0] - u * long, tip[1] - v * long];
-    scene.below.push(make("polygon", { class: `head ${classes}`.trim(),
+    scene.below.push(() => make("polygon", { class: `head ${classes}`.trim(),
       points: `${tip} ${back[0] - v * half},${back[1] + u * half} ${back[0] + v * half},${back[1] - u * half}` }));
     claim(scene, around(back, half));
   };
   /* A mark of what fails, and its reason. */
   const addAlarm = (scene, place, state) => {
-    scene.above.push(make("rect", { class: "alarm", x: place[0] - 6, y: place[1] - 8, width: 12, height: 16 }),
-      make("text", { class: "alarm-text", x: place[0], y: place[1] + 5 }, "!"));
+    scene.above.push(() => make("rect", { class: "alarm", x: place[0] - 6, y: place[1] - 8, width: 12, height: 16 }),
+      () => make("text", { class: "alarm-text", x: place[0], y: place[1] + 5 }, "!"));
     claim(scene, around(place, 9));
     scene.mark = place;
-    scene.labels.push({ rank: 2, kind: "reason-text", lines: folded(state.reason), reason: true, from: place, anchors: about(place),
+    scene.labels.push({ rank: -1, kind: "reason-text", lines: folded(state.reason), reason: true, from: place, anchors: about(place),
       gaps: [14, 24, 36, 52, 72, 96, 124, 160, 220, 300] });
   };
   const addBridges = (scene, segment, curve, state, named) => {
@@ -232,7 +244,7 @@
     (few ? spans : [failing < 0 ? spans[0] : spans[failing]]).forEach((span, at, all) => {
       const part = 0.2 + 0.6 * (at + 1) / (all.length + 1), [x, y] = curve.at(part), [u, v] = curve.along(part);
       const fails = failing >= 0 && span === spans[failing];
-      scene.above.push(make("path", { class: "bridge" + (fails ? " fails" : ""), d: "M-9 -9L-6 -6H6L9 -9M-9 9L-6 6H6L9 9",
+      scene.above.push(() => make("path", { class: "bridge" + (fails ? " fails" : ""), d: "M-9 -9L-6 -6H6L9 -9M-9 9L-6 6H6L9 9",
         transform: `translate(${x} ${y}) rotate(${Math.atan2(v, u) * 180 / Math.PI})` }));
       claim(scene, around([x, y], 10));
       if (fails) addAlarm(scene, [x - v * 20, y + u * 20], state);
@@ -245,15 +257,17 @@
   /* A segment: its line and its arrowhead, a cross where it is closed, its bridges, a mark where it fails, and its name. */
   const addRoad = (scene, segment, curve, state, id, clear) => {
     const [name, from, to] = data.segments[segment], classes = classesOf(state, segment), strong = /cut|route|fails/.test(classes);
-    const path = make("path", { class: `road ${classes}`.trim(), ...id, d: curve.text });
-    path.append(make("title", {}, `${name}: ${data.nodes[from]} to ${data.nodes[to]}; ${postedText(state.posted, segment)}`));
-    scene.below.push(path);
+    scene.below.push(() => {
+      const path = make("path", { class: `road ${classes}`.trim(), ...id, d: curve.text });
+      path.append(make("title", {}, `${name}: ${data.nodes[from]} to ${data.nodes[to]}; ${postedText(state.posted, segment)}`));
+      return path;
+    });
     const steps = Math.max(4, Math.ceil(curve.length / 7));
     for (let step = 0; step <= steps; step += 1) claim(scene, around(curve.at(step / steps), strong ? 4 : 2));
     addArrow(scene, curve, classes, clear, strong);
     if (isClosed(state.posted, segment)) {
       const [x, y] = curve.at(0.36);
-      scene.above.push(make("path", { class: "no", d: `M${x - 6} ${y - 6}L${x + 6} ${y + 6}M${x - 6} ${y + 6}L${x + 6} ${y - 6}` }));
+      scene.above.push(() => make("path", { class: "no", d: `M${x - 6} ${y - 6}L${x + 6} ${y + 6}M${x - 6} ${y + 6}L${x + 6} ${y - 6}` }));
       claim(scene, around([x, y], 7));
     }
     addBridges(scene, segment, curve, state, scene.few || state.route.has(segment));
@@ -267,7 +281,7 @@
     const ends = chosen && (chosen.from === node ? "from " : chosen.to === node ? "to " : ""), [x, y] = place;
     const kind = "node" + (state.reached.has(node) ? " reached" : "") + (ends ? " end" : ""), id = named ? { id: `node-${node + 1}` } : {};
     const radius = scene.few || ends ? 6 : 4;
-    scene.above.push(ends ? make("rect", { class: kind, ...id, x: x - 6, y: y - 6, width: 12, height: 12 })
+    scene.above.push(() => ends ? make("rect", { class: kind, ...id, x: x - 6, y: y - 6, width: 12, height: 12 })
       : make("circle", { class: kind, ...id, cx: x, cy: y, r: radius }));
     claim(scene, around(place, radius + 2));
     return ends || "";
@@ -304,7 +318,7 @@
   const routesScene = (state) => {
     const names = [...state.route].flatMap((it) => [data.segments[it][0], data.nodes[data.segments[it][1]], data.nodes[data.segments[it][2]]]);
     const step = Math.max(110, 40 + Math.max(...names.map((it) => widthOf(`from ${it}`))));
-    const many = Math.max(1, Math.min(6, Math.floor((byId("frame").clientWidth - 40) / step)));
+    const many = Math.max(1, Math.min(6, Math.floor((byId("frame").clientWidth - 24 - step / 2) / step)));
     const scene = makeScene(true), drawn = new Set(), lines = [];
     for (const list of chosen.routes) for (let at = 0; at < list.length; at += many) lines.push(list.slice(at, at + many));
     let y = 0;
@@ -331,7 +345,7 @@
     const [left, top, right, bottom] = scene.box.map((it, at) => (at < 2 ? Math.floor(it - 8) : Math.ceil(it + 8)));
     const svg = make("svg", { viewBox: `${left} ${top} ${right - left} ${bottom - top}`, width: right - left, height: bottom - top,
       role: "img", "aria-labelledby": "drawing-title" });
-    svg.append(make("title", { id: "drawing-title" }, title), ...scene.below, ...scene.above);
+    svg.append(make("title", { id: "drawing-title" }, title), ...scene.below.map((it) => it()), ...scene.above.map((it) => it()));
     return svg;
   };
   /* As large as the frame lets it be with its labels, and larger where labels want the room. */
@@ -362,7 +376,8 @@
   };
   const listRoads = (state) => {
     const every = [...data.segments.keys()], cut = state.reached.size ? every.filter((it) => leadsOut(state, it)) : [];
-    const set = [...state.posted.keys()].filter((it) => postedText(state.posted, it) !== "no limit").sort((a, b) => a - b);
+    const isSaid = (it) => isClosed(state.posted, it) || isRestricted(state.posted, it) || state.posted.get(it).ratings.size > 0;
+    const set = [...state.posted.keys()].filter(isSaid).sort((a, b) => a - b);
     const listed = [...new Set([...state.route, ...cut, ...set, ...(every.length <= MOST_ROWS ? every : [])])];
     const body = document.createElement("tbody");
     body.setAttribute("role", "rowgroup");
@@ -378,7 +393,7 @@
     }
     byId("listed").tBodies[0].replaceWith(body);
     byId("listed-caption").textContent = listed.length > MOST_ROWS
-      ? `The first ${MOST_ROWS} of ${listed.length.toLocaleString("en-US")} roads of which something is said`
+      ? `The first ${MOST_ROWS} of ${digits(listed.length)} roads of which something is said`
       : `${listed.length} of ${counted(data.segments.length, "road")}: each route in its order, and what holds there`;
   };
 
@@ -445,7 +460,9 @@
     if (isCarrier) carrier.value = id.slice(8);
     else if (id && (kind || !byId(id))) nobody = `Nothing on this page is called ${id}, so nothing is shown.`;
     filter();
-    if (data.chosen.some((it) => it.id === id)) { choose(id); byId(id).scrollIntoView(); }
+    const leads = data.chosen.some((it) => it.id === id);
+    if (leads || !byId("frame").firstChild) choose(leads ? id : "");
+    if (leads) byId(id).scrollIntoView();
   };
 
   const start = () => {
@@ -470,6 +487,5 @@
   };
   start();
   document.documentElement.dataset.ready = "yes";
-  draw();
   follow();
 })();
