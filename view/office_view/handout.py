@@ -148,7 +148,8 @@ class Handout:
         if limit is not None and limit.what != "closed":
             ways.append(self.lighter(limit))
         ways.append("wait for a new posting")
-        return sentence("; or ".join(ways))
+        others = " Other limits may fail then." if limit is not None else ""
+        return sentence("; or ".join(ways)) + others
 
     def lighter(self, limit: Limit) -> str:
         """What has to change about the truck, so that it keeps this limit."""

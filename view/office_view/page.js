@@ -471,9 +471,10 @@
     choice.append(choices);
     byId("finding").open = matchMedia("(min-width: 62rem)").matches;
     byId("form").addEventListener("submit", (event) => event.preventDefault());
-    search.addEventListener("input", filter);
-    carrier.addEventListener("change", () => { filter(); tell(carrier.value ? `carrier-${carrier.value}` : ""); });
-    status.addEventListener("change", filter);
+    const look = () => { nobody = ""; filter(); };
+    search.addEventListener("input", look);
+    carrier.addEventListener("change", () => { look(); tell(carrier.value ? `carrier-${carrier.value}` : ""); });
+    status.addEventListener("change", look);
     version.addEventListener("input", draw);
     choice.addEventListener("change", () => { choose(choice.value); tell(choice.value); });
     byId("earlier").addEventListener("click", () => { version.stepDown(); draw(); });

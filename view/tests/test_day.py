@@ -4,6 +4,7 @@ import html.parser
 import json
 import os
 import pathlib
+import random
 import re
 import resource
 import signal
@@ -14,9 +15,13 @@ from typing import Any
 
 from support import EXAMPLES, PROGRAM, TOP, VIEW, day_examples, journal_of, made_day, names, ran, said_by
 
+from cases import families  # noqa: E402
 from model.files import DayFile  # noqa: E402
+from model.journal import Actor, text_of  # noqa: E402
+from model.office import Office  # noqa: E402
 from office_view import reckoning  # noqa: E402
 from office_view.command import Fault  # noqa: E402
+from office_view.handout import handout  # noqa: E402
 from office_view.journal import read_journal  # noqa: E402
 from office_view.replay import replay  # noqa: E402
 
@@ -493,6 +498,36 @@ class Forged(unittest.TestCase):
         self.assertGreater(made.reckoning.left_out, 0)
         self.assertEqual([permit.status for permit in made.permits][:2], ["recalled", "recalled"])
         self.assertEqual(replay(DayFile(DAY), read_journal(JOURNAL, "J"), "D", "J").reckoning.left_out, 0)
+
+
+class Turns(unittest.TestCase):
+    """Journals of several actors that take turns in any way: what is worked out agrees with each."""
+
+    def test_legal_journals_have_pages(self) -> None:
+        makers = (families.crowded_day, families.annual_crowd, families.good_day, families.grid_day)
+        outdated = 0
+        for seed in range(40):
+            rng = random.Random(seed)
+            file = DayFile(makers[seed % 4](rng).data)
+            journal = taken_in_turns(file, rng)
+            outdated += journal.count(" = outdated ")
+            made = replay(file, read_journal(journal.encode(), "J"), "D", "J")
+            self.assertEqual(len(made.permits), journal.count(" = issued "), seed)
+            self.assertEqual(made.reckoning.left_out, 0)
+            for permit in made.permits[:2]:
+                self.assertIn(f"Permit {permit.number}", handout(made, [], None, None, permit.number))
+        self.assertGreater(outdated, 10)
+
+
+def taken_in_turns(file: DayFile, rng: random.Random) -> str:
+    """The journal of a day whose actors take turns at random, by the second program."""
+    office, entries = Office(file), []
+    actors = [Actor(number, [it for it in file.commands if it.actor == number]) for number in range(file.actors)]
+    while live := [actor for actor in actors if not actor.is_done()]:
+        actor = rng.choice(live)
+        call = actor.call(office)
+        entries.append(f"{actor.number + 1} {call.text} = {call.reply()}")
+    return text_of(entries)
 
 
 class Audits(unittest.TestCase):

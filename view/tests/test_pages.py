@@ -507,6 +507,38 @@ class Pages(unittest.TestCase):
         self.assertEqual(self.browser.value(address), "#answer-2")
         self.quiet(path)
 
+    def test_a_permit_by_keyboard_alone(self) -> None:
+        path = self.template()
+        self.browser.wide(360, 640)
+        self.browser.open(path)
+
+        def to(name: str) -> None:
+            for _ in range(60):
+                self.browser.press("Tab", 9)
+                if self.browser.value(f"document.activeElement.matches({name!r})"):
+                    shown = self.browser.value("getComputedStyle(document.activeElement).outlineStyle")
+                    self.assertEqual(shown, "solid", name)
+                    return
+            self.fail(f"no {name} is reached")
+
+        to("summary")
+        self.browser.press("Enter", 13, "\r")
+        to("#search")
+        for letter in "permit 2":
+            self.browser.press(letter, ord(letter.upper()), letter)
+        self.browser.press("Enter", 13, "\r")
+        self.assertEqual([name for name in self.browser.value(ROWS) if name[:7] != "posting"], ["permit-2"])
+        to("#permit-2 button")
+        self.browser.press("Enter", 13, "\r")
+        self.assertEqual(self.browser.value("document.activeElement.id + location.hash"), "choice#permit-2")
+        to("#version")
+        self.browser.press("ArrowLeft", 37)
+        self.assertIn("That is of version 2; the roads are shown at version 1", self.browser.value("note.textContent"))
+        to("#later")
+        self.browser.press("Enter", 13, "\r")
+        self.assertEqual(self.browser.value("version.value"), "2")
+        self.quiet(path)
+
     def test_an_address_that_names_nobody_shows_nothing(self) -> None:
         path = self.template()
         for anchor in ("#permit-5", "#answer-9", "#carrier-NOBODY", "#carrier-", "#%3Cimg%3E", "#%", "#permit-01"):
