@@ -14,7 +14,7 @@ from model.trucks import Truck
 from .journal import Limit
 
 # how many places of trucks on spans are tried
-MOST_WORK = 2_500_000
+MOST_WORK = 1_500_000
 SIZES = ("height", "width", "length", "gross")
 
 
