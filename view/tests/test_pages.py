@@ -653,8 +653,8 @@ class Pages(unittest.TestCase):
         path = self.page(day, journal, "large")
         took, busy = self.best_of(path, 5)
         print(
-            f"\npages: {len(day):,} bytes of a day file and {len(journal):,} of its journal open in {took:.2f} seconds, "
-            f"and the page itself takes {busy:.2f}",
+            f"\npages: {len(day):,} bytes of a day file and {len(journal):,} of its journal open in {took:.2f} seconds; "
+            f"the page itself takes {busy:.2f}",
             file=sys.stderr,
         )
         # where others want the processors too, the time of the page itself counts
