@@ -104,9 +104,9 @@
   const stateNow = () => {
     const at = Number(version.value), here = chosen && chosen.version === at;
     const cut = chosen && chosen.cut !== undefined && (here || chosen.always) ? data.cuts[chosen.cut] : [];
-    const fails = here && chosen.fails ? chosen.fails : null;
+    const fails = here && chosen.fails ? chosen.fails : null, bridge = fails && fails[1] >= 0 ? `${data.spans[fails[1]][0]}: ` : "";
     return { posted: postedAt(at), at, here, route: new Set(chosen ? chosen.routes.flat() : []), reached: new Set(cut), fails,
-      reason: fails ? byId(chosen.id).querySelector(".why")?.textContent || "closed" : "" };
+      reason: fails ? bridge + (byId(chosen.id).querySelector(".why")?.textContent || "closed") : "" };
   };
   const failsAt = (state, segment) => state.fails !== null && state.fails[0] === segment;
   const leadsOut = (state, segment) => state.reached.has(data.segments[segment][1]) && !state.reached.has(data.segments[segment][2]);
@@ -170,6 +170,11 @@
     return { at, along, text: `M${a}C${b} ${c} ${d}`, length: Math.hypot(d[0] - a[0], d[1] - a[1]) || 120 };
   };
 
+  /* Whether nothing lies between a place and its name, which would be taken for the name of that. */
+  const isOpen = (scene, label, [x, y, u, v], gap) => {
+    for (let way = label.clear; way < gap; way += 4) if (!scene.room.isFree(around([x + way * u, y + way * v], 3))) return false;
+    return true;
+  };
   /* The box of a label: about a place in some directions, nearer ones first; one that lets the drawing be as wide as its frame
      before one that does not. */
   const boxOf = (scene, label, most) => {
@@ -180,7 +185,7 @@
         const reach = gap + Math.abs(u) * wide / 2 + Math.abs(v) * high / 2, left = x + u * reach - wide / 2, top = y + v * reach - high / 2;
         const box = [left, top, left + wide, top + high];
         const isWithin = Math.max(scene.box[2], box[2]) - Math.min(scene.box[0], left) <= most;
-        if ((isWithin || !other) && scene.room.isFree(box)) {
+        if ((isWithin || !other) && scene.room.isFree(box) && isOpen(scene, label, [x, y, u, v], gap)) {
           if (isWithin) return box;
           other = box;
         }
@@ -235,7 +240,7 @@
       () => make("text", { class: "alarm-text", x: place[0], y: place[1] + 5 }, "!"));
     claim(scene, around(place, 9));
     scene.mark = place;
-    scene.labels.push({ rank: -1, kind: "reason-text", lines: folded(state.reason), reason: true, from: place, anchors: about(place),
+    scene.labels.push({ rank: -1, kind: "reason-text", lines: folded(state.reason), reason: true, from: place, anchors: about(place), clear: Infinity,
       gaps: [14, 24, 36, 52, 72, 96, 124, 160, 220, 300] });
   };
   const addBridges = (scene, segment, curve, state, named) => {
@@ -248,9 +253,10 @@
         transform: `translate(${x} ${y}) rotate(${Math.atan2(v, u) * 180 / Math.PI})` }));
       claim(scene, around([x, y], 10));
       if (fails) addAlarm(scene, [x - v * 20, y + u * 20], state);
-      if (!named && !fails) return;
-      const text = few || fails ? data.spans[span][0] : `${spans.length} bridges`;
-      scene.labels.push({ rank: fails ? 1 : 4, kind: "bridge-name", lines: [text], anchors: about([x, y]), gaps: [12, 20, 30, 44] });
+      if (!named || fails) return;
+      const text = few ? data.spans[span][0] : `${spans.length} bridges`;
+      scene.labels.push({ rank: 4, kind: "bridge-name", lines: [text], anchors: about([x, y]), clear: 18,
+        gaps: [12, 20, 30, 44, 64, 90] });
     });
   };
 
@@ -274,7 +280,7 @@
     if (failsAt(state, segment) && state.fails[1] < 0) addAlarm(scene, curve.at(0.62), state);
     if (scene.few || strong) {
       scene.labels.push({ rank: strong ? 1 : 5, kind: "road-name", lines: [name], anchors: beside(curve, [0.5, 0.4, 0.6, 0.3, 0.7, 0.2, 0.8]),
-        gaps: [6, 12, 20, 30] });
+        clear: 10, gaps: [6, 12, 20, 30] });
     }
   };
   const addNode = (scene, node, place, state, named) => {
@@ -297,10 +303,10 @@
       const [, from, to] = data.segments[segment], key = from * 5000 + to, count = used.get(key) || 0;
       used.set(key, count + 1);
       const [x, y] = places[from], [u, v] = places[to], length = Math.hypot(u - x, v - y) || 1;
-      const bend = Math.min(16, 0.16 * length) * (1 + 1.6 * count), high = y - 44 - 20 * count;
+      const bend = Math.min(24, 0.18 * length) * (1 + 2 * count), high = y - 90 - 30 * count;
       const middle = [(x + u) / 2 - (v - y) / length * bend, (y + v) / 2 + (u - x) / length * bend];
       const toMiddle = ([a, b]) => [(a + 2 * middle[0]) / 3, (b + 2 * middle[1]) / 3];
-      const curve = from === to ? curveOf([x, y], [x - 44, high], [x + 44, high], [x, y])
+      const curve = from === to ? curveOf([x, y], [x - 70, high], [x + 70, high], [x, y])
         : curveOf([x, y], toMiddle([x, y]), toMiddle([u, v]), [u, v]);
       addRoad(scene, segment, curve, state, { id: `road-${segment + 1}` }, scene.few ? 8 : 5);
     }
@@ -308,7 +314,7 @@
     places.forEach((place, node) => {
       if (!scene.few && !ends[node] && !along.has(node)) return;
       scene.labels.push({ rank: ends[node] ? 0 : 3, kind: ends[node] ? "node-name end-name" : "node-name", lines: [ends[node] + data.nodes[node]],
-        anchors: about(place), gaps: [10, 16, 24, 36, 50] });
+        anchors: about(place), clear: 26, gaps: [10, 16, 24, 36, 50] });
     });
     placeLabels(scene);
     return scene;
@@ -331,7 +337,7 @@
         for (const [node, place] of at === line.length - 1 ? [[from, [x, y]], [to, [x + step, y]]] : [[from, [x, y]]]) {
           const ends = addNode(scene, node, place, state, false);
           scene.labels.push({ rank: 0, kind: ends ? "node-name end-name" : "node-name", lines: [ends + data.nodes[node]],
-            anchors: [[...place, 0, -1], [...place, 0, 1]], gaps: [10, 16, 24] });
+            anchors: [[...place, 0, -1], [...place, 0, 1]], clear: 10, gaps: [10, 16, 24] });
         }
         addRoad(scene, segment, curveOf([x, y], [x + step / 3, y], [x + 2 * step / 3, y], [x + step, y]), state, id, 8);
       });
@@ -354,14 +360,14 @@
     const room = byId("frame").clientWidth - 16, least = (scale) => Math.max(0.5, Math.min(2, scale, 440 / high));
     const widthOfScene = (scene) => scene.box[2] - scene.box[0];
     let best = null, scale = least((room - 40) / wide);
-    for (let tries = 0; tries < 3; tries += 1) {
+    for (let tries = 0; tries < 6; tries += 1) {
       const scene = networkScene(state, scale);
-      if (best && (scene.unnamed || widthOfScene(scene) >= widthOfScene(best))) break;
-      best = scene;
-      const smaller = least(scale - (widthOfScene(scene) - room) / wide);
-      if (best.unnamed || widthOfScene(best) <= room || smaller >= scale) break;
+      if (!best || (!scene.unnamed && widthOfScene(scene) < widthOfScene(best))) best = scene;
+      const smaller = least(Math.min(0.94 * scale, scale - (widthOfScene(scene) - room) / wide));
+      if (scene.unnamed || widthOfScene(scene) <= room || smaller >= scale) break;
       scale = smaller;
     }
+    if (best.unnamed) scale = least((room - 40) / wide);
     for (const more of SCALES) {
       if (!best.unnamed || scale * more * Math.max(wide, high) > MOST_WIDE) break;
       const scene = networkScene(state, scale * more);
@@ -372,7 +378,7 @@
 
   const failsText = (state, segment) => {
     if (!failsAt(state, segment)) return "";
-    return `fails${state.fails[1] < 0 ? "" : ` on bridge ${data.spans[state.fails[1]][0]}`}: ${state.reason}; `;
+    return `fails, ${state.fails[1] < 0 ? "" : "bridge "}${state.reason}; `;
   };
   const listRoads = (state) => {
     const every = [...data.segments.keys()], cut = state.reached.size ? every.filter((it) => leadsOut(state, it)) : [];
@@ -415,7 +421,7 @@
     if (!whole) {
       const why = document.createElement("p");
       why.textContent = data.why + (state.route.size ? `: this is ${chosen.routes.length > 1 ? "each route" : "the route"} alone.`
-        : ": choose a permit to see its route.");
+        : data.chosen.length ? ": choose a permit to see its route." : ".");
       parts.push(why);
     }
     const scene = whole ? drawNetwork(state) : state.route.size ? routesScene(state) : null;
