@@ -18,6 +18,7 @@ from .command import USAGE, Fault
 from .journal import Limit, Routes
 from .markup import Source, audited_text, cells, part, plural, policy, safe, sources_text, table
 from .page import ANSWERS, STATES, days
+from .reckoning import MOST_WORK
 from .replay import EXPIRED, IN_FORCE, RECALLED, Answer, Permit, Posting, Replay
 from .wording import EFFECT_UNITS, EFFECTS, LIMIT_NAMES, NO_LIMIT, OPEN, STATUS
 from .wording import Words, axles_text, percent, value_text, verdict
@@ -85,6 +86,8 @@ class Handout:
         self.made, self.sources, self.audited, self.version = made, sources, audited, version
         self.file, self.words = made.file, Words(made.file)
         self.values, self.ratings = posted_at(made, version)
+        # a journal may have used up the work that it may take
+        made.reckoning.work = MOST_WORK
 
     def filled(self, title: str, summary: str, parts: Iterable[str]) -> str:
         """The page with its parts."""
@@ -202,7 +205,9 @@ class Handout:
             inches, rating = self.file.spans[span].inches, value_text("rating", self.ratings[span])
             named = safe(f"{self.words.spans[span]}, {inches:,} in, rating {rating}")
             effects = [it for truck in trucks for it in self.effects(truck, span)]
-            if short:
+            if not effects:
+                found.append(f"<div>{named}: what trucks do to it was not worked out</div>")
+            elif short:
                 parts = ", ".join(f"{EFFECTS[it.what]} {percent(it.has, it.most)}" for it in effects if it.most)
                 found.append(f"<div>{named}{safe(f': {parts} of what it carries' if parts else '')}</div>")
             else:

@@ -393,6 +393,11 @@ class Pages(unittest.TestCase):
             row = self.browser.value("document.getElementById('permit-1').getBoundingClientRect().top")
             self.assertLess(row, 560)
             self.assertFalse(self.browser.value("finding.open"))
+            small = self.browser.value(
+                "[...document.querySelectorAll('body *')].filter((it) => it.checkVisibility() && it.textContent.trim()"
+                f" && parseFloat(getComputedStyle(it).fontSize) < {LEAST_TEXT}).length"
+            )
+            self.assertEqual(small, 0)
             self.assertLessEqual(self.browser.value("document.documentElement.scrollWidth"), 360)
             for anchor in ("#permit-1", "#permit-2", "#answer-3"):
                 self.browser.open(path, anchor)
