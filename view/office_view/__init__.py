@@ -12,7 +12,7 @@ that there is one reader in Python. Read it in this order:
 - `journal`    the grammar of the journal;
 - `auditing`   what a program says of a journal, before there is a page;
 - `reckoning`  the first limit that fails a truck on a segment, worked out;
-- `replay`     a journal over its day file: permits, postings and answers, as far as they agree with what is worked out;
+- `replay`     a journal over its day file: permits, postings and answers;
 - `report`     the grammar of the report;
 - `loading`    what is only drawn of a truck on a span, in exact fractions;
 - `picture`    the pictures of a truck;
