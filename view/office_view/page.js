@@ -40,7 +40,7 @@
       return " ";
     });
     for (const word of rest.split(/\s+/).filter(Boolean)) {
-      const whole = /^\d+$/.test(word) ? new RegExp(`(?<![\\d,.])${word}(?![\\d,.]*\\d)`) : null;
+      const whole = /^\d+$/.test(word) ? new RegExp(`(^|[^\\d,.])${word}(?![\\d,.]*\\d)`) : null;
       tests.push((row, it) => (whole ? whole.test(it) : it.includes(word)));
     }
     return tests;
