@@ -243,8 +243,11 @@ class Page:
         if answer.reply == "noroad":
             chosen["reach"] = f"Any walk from there, over open or closed roads, reaches {places}"
             chosen["always"] = 1
-        elif answer.reached:
+        elif answer.reached and answer.seen == answer.version:
             chosen["reach"] = f"The truck can reach {places} at this version"
+        elif answer.reached:
+            could = f"At version {answer.seen} the truck could reach {places}"
+            chosen["reach"] = f"{could}, and at this version no road leads it on from these"
         return chosen | {"version": answer.version}
 
     def chosen(self, name: str, trip: Trip, routes: Routes, limit: Limit | None) -> dict[str, Any]:

@@ -39,6 +39,7 @@ class Reckoning:
         self.outgoing: list[list[int]] = [[] for _ in file.names["nodes"]]
         for number, segment in enumerate(file.segments):
             self.outgoing[segment.start].append(number)
+        self.walks: dict[int, set[int]] = {}
         self.changes = [0] * len(file.segments)
         self.kept: dict[tuple[int, int, int], Found] = {}
         self.work, self.left_out = MOST_WORK, 0
@@ -86,12 +87,18 @@ class Reckoning:
             self.work -= cost
         return it.effects(inches)
 
-    def leading_out(self, nodes: tuple[int, ...]) -> list[int]:
-        """The segments that begin among some nodes and do not end there, rising."""
-        inside = set(nodes)
-        return sorted(
-            number for node in inside for number in self.outgoing[node] if self.file.segments[number].end not in inside
-        )
+    def walks_from(self, node: int) -> set[int]:
+        """The nodes to which any walk leads from a node, over open and closed segments."""
+        if node not in self.walks:
+            found, waiting = {node}, [node]
+            while waiting:
+                for number in self.outgoing[waiting.pop()]:
+                    end = self.file.segments[number].end
+                    if end not in found:
+                        found.add(end)
+                        waiting.append(end)
+            self.walks[node] = found
+        return self.walks[node]
 
 
 def first_value(truck: Truck, segment: int, values: dict[str, int]) -> Limit | None:

@@ -49,13 +49,14 @@ class Posting:
 
 @dataclass(frozen=True)
 class Answer:
-    """An application that was answered otherwise than with a permit."""
+    """An application that was answered otherwise than with a permit. What is reached was found at the version seen."""
 
     number: int
     line: int
     caller: int
     trip: Trip
     reply: str
+    seen: int
     version: int
     day: str
     limit: Limit | None
@@ -213,9 +214,13 @@ def take_answer(made: Replay, entry: Entry, trip: Trip) -> None:
         demand_fails(made, trip, entry.limit)
         demand_in_the_way(made, trip, entry.limit.segment, reached)
     elif entry.reply == "noroad":
-        demand(not made.reckoning.leading_out(reached), "there are roads that lead on")
-    number, day = len(made.answers) + 1, entry.status
-    answer = Answer(number, entry.line, entry.caller, trip, entry.reply, made.version, day, entry.limit, reached)
+        walks = made.reckoning.walks_from(trip.start)
+        demand(trip.end not in walks, "there are roads that lead there")
+        demand(entry.call == "held" or set(reached) == walks, "the nodes are not those that any walk reaches")
+    at = (entry.seen if entry.call == "submit" else made.version, made.version)
+    answer = Answer(
+        len(made.answers) + 1, entry.line, entry.caller, trip, entry.reply, *at, entry.status, entry.limit, reached
+    )
     made.answers.append(answer)
 
 

@@ -143,7 +143,7 @@ class Words:
         """What is said in front of the limit of a refusal where no route was asked for."""
         if answer.trip.asked:
             return ""
-        return "No way is open to it. The first road that leads on from where the truck can come is "
+        return "No way is open to it. Of the roads that lead on from where it can come, the first in the day file is "
 
     def why(self, permit: Permit) -> str:
         """Why the truck of a recalled permit fails, or nothing where that was not worked out."""

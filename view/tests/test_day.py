@@ -155,8 +155,8 @@ class Content(unittest.TestCase):
         )
         self.assertEqual(
             shown.rows["answer-3"][1],
-            "Refused: No way is open to it. The first road that leads on from where the truck can come is US20-E, "
-            f"bridge MILL-BR: {CARRIED} (at version 2)",
+            "Refused: No way is open to it. Of the roads that lead on from where it can come, the first in the day "
+            f"file is US20-E, bridge MILL-BR: {CARRIED} (at version 2)",
         )
         self.assertEqual(
             shown.rows["permit-1"][1],
@@ -487,7 +487,9 @@ class Forged(unittest.TestCase):
         forged = JOURNAL.replace(b"cut 1 = refused 2 " + limit, b"cut 1,2,3 = refused 2 " + limit, 1)
         self.refuses(DAY, forged, "the nodes are not those of a cut")
         forged = JOURNAL.replace(b"cut 1 = refused 2 " + limit, b"cut 1 = noroad", 1)
-        self.refuses(DAY, forged, "there are roads that lead on")
+        self.refuses(DAY, forged, "there are roads that lead there")
+        day, journal = ((EXAMPLES / f"no-road{ending}").read_bytes() for ending in (".csv", ".journal"))
+        self.refuses(day, journal.replace(b"cut 1,3 = noroad", b"cut 1 = noroad", 1), "not those that any walk reaches")
 
     def test_what_is_too_much_to_work_out_is_left_out_and_said(self) -> None:
         whole, reckoning.MOST_WORK = reckoning.MOST_WORK, 10
