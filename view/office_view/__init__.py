@@ -5,16 +5,21 @@ program and are not proved. The formats of files they read by the modules of the
 that there is one reader in Python. Read it in this order:
 
 - `command`    words, files and the one line of a fault, for all three;
+- `writing`    outputs, written whole or not at all;
 - `sheet`      a file that is read on behind each record that is refused;
 - `sayings`    what is said of a refused record, in words;
 - `plausible`  what is accepted and yet is hardly meant;
 - `journal`    the grammar of the journal;
+- `auditing`   what a program says of a journal, before there is a page;
+- `reckoning`  the first limit that fails a truck on a segment, worked out;
 - `replay`     a journal over its day file: permits, postings and answers;
 - `report`     the grammar of the report;
 - `loading`    what is only drawn of a truck on a span, in exact fractions;
 - `picture`    the pictures of a truck;
 - `network`    the places of nodes in the drawing of roads;
 - `wording`    answers of the office in words and names;
-- `page`       the page of a day.
+- `markup`     pieces of markup;
+- `page`       the page of a day;
+- `handout`    the page of one carrier or of one permit.
 """
 VERSION = "1"

@@ -1,10 +1,13 @@
-"""The places of nodes in the drawing of roads. Nodes of a day file have none, so they are laid out by graphviz."""
+"""The places of nodes in the drawing of roads. Nodes of a day file have none, so they are laid out by graphviz.
+
+Where graphviz is missing or fails, the roads are not drawn whole, and the page says why: all its tables are there.
+"""
 import shutil
 import subprocess
 
 from model.files import DayFile
 
-from .command import Fault, USAGE, missing
+from .command import printable
 
 MOST_NODES, MOST_SEGMENTS, MANY, FEW = 400, 1700, 120, 60
 SECONDS = 60
@@ -15,29 +18,36 @@ def can_be_drawn(file: DayFile) -> bool:
     return len(file.names["nodes"]) <= MOST_NODES and len(file.segments) <= MOST_SEGMENTS
 
 
-def places_of(file: DayFile) -> Places | None:
-    """The place of each node, or nothing where the network is too large to be drawn."""
+def places_of(file: DayFile) -> tuple[Places | None, str]:
+    """The place of each node; or nothing, and why the roads are not drawn whole."""
     nodes = len(file.names["nodes"])
-    if not nodes or not can_be_drawn(file):
-        return None
+    if not nodes:
+        return None, "There are no places and no roads"
+    if not can_be_drawn(file):
+        return None, f"{nodes:,} places and {len(file.segments):,} roads are too many to be drawn"
     program = "neato" if nodes <= MANY else "sfdp"
     if shutil.which(program) is None:
-        raise missing("graphviz", "graphviz")
+        return None, f"{program} of the Debian package graphviz is not installed where this page was made"
+    try:
+        return scaled(laid_out(program, file, nodes)), ""
+    except (OSError, subprocess.SubprocessError, KeyError, ValueError) as fault:
+        return None, printable(f"{program} of graphviz fails where this page was made: {fault}")
+
+
+def laid_out(program: str, file: DayFile, nodes: int) -> Places:
+    """The places as graphviz gives them."""
     pairs = sorted({(min(start, end), max(start, end)) for start, end, _ in file.segments if start != end})
     lines = [f"n{node};" for node in range(nodes)] + [f"n{a} -- n{b};" for a, b in pairs]
     text = "graph { graph [start=7]; node [shape=point]; " + "\n".join(lines) + " }"
-    try:
-        ran = subprocess.run(
-            [program, "-Tplain"], input=text, capture_output=True, text=True, timeout=SECONDS, check=True
-        )
-    except (OSError, subprocess.SubprocessError) as fault:
-        raise Fault(USAGE, f"{program} of graphviz fails: {fault}") from fault
+    ran = subprocess.run(
+        [program, "-Tplain"], input=text, capture_output=True, text=True, timeout=SECONDS, check=True
+    )
     found: dict[int, tuple[float, float]] = {}
     for line in ran.stdout.split("\n"):
         words = line.split()
         if words[:1] == ["node"]:
             found[int(words[1][1:])] = float(words[2]), float(words[3])
-    return scaled([found[node] for node in range(nodes)])
+    return [found[node] for node in range(nodes)]
 
 
 def scaled(places: Places) -> Places:

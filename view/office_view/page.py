@@ -4,74 +4,21 @@ All tables are there as text without any script. What scripts do is to look for 
 the roads at a version. The policy in the head lets nothing run but the one script of the page, and nothing be loaded.
 Every name is escaped, also where the format of names leaves nothing to escape.
 """
-import base64
-import hashlib
-import html
 import json
-import pathlib
 import string
 from collections import Counter
-from collections.abc import Iterable
-from dataclasses import dataclass
 from typing import Any
 
-from model import forms
-
 from . import VERSION
-from .journal import Routes, Trip
+from .auditing import Audited
+from .journal import Limit, Routes, Trip
+from .markup import MANY_ROWS, Source, audited_text, cells, options, part, plural, policy, safe, sources_text, table
 from .network import Places
 from .replay import EXPIRED, IN_FORCE, RECALLED, SURRENDERED, Answer, Permit, Posting, Replay
-from .wording import STATUS, UNITS, Words, annual
+from .wording import OPEN, STATUS, UNITS, Words, annual
 
-HERE = pathlib.Path(__file__).resolve().parent
-MANY_ROWS = 200
-PROGRAM = "Program"
 STATES = {IN_FORCE: "inforce", RECALLED: "recalled", SURRENDERED: "surrendered", EXPIRED: "expired"}
 ANSWERS = {"refused": "Refused", "noroad": "No road", "late": "Too late", "notneeded": "No permit needed"}
-OPEN = {what: 0 if what == "closed" else forms.RANGES[what][1] for what in forms.LIMITS}
-KEYS = (
-    ("road", "open"),
-    ("road restricted", "with a limit"),
-    ("road closed", "closed ×"),
-    ("road route", "the chosen route, or one of the chosen routes"),
-    ("road cut", "leads out of what the truck can reach"),
-)
-
-
-@dataclass(frozen=True)
-class Source:
-    """A file that the page shows: what it is, its name and its bytes."""
-
-    what: str
-    name: str
-    data: bytes
-
-    @property
-    def sum(self) -> str:
-        return hashlib.sha256(self.data).hexdigest()
-
-
-def safe(text: object) -> str:
-    """A text as it may stand in markup and in attributes."""
-    return html.escape(str(text), quote=True)
-
-
-def cells(row: Iterable[tuple[str, str]]) -> str:
-    """The cells of a row: what the column is called, and markup."""
-    (_, head), *rest = row
-    made = [f'<th scope="row" role="rowheader">{head}</th>']
-    return "".join(made + [f'<td role="cell" data-label="{safe(label)}">{markup}</td>' for label, markup in rest])
-
-
-def table(name: str, caption: str, heads: Iterable[str], rows: list[str]) -> str:
-    """A table that stays one for screen readers where it is shown as blocks on a narrow screen."""
-    head = "".join(f'<th scope="col" role="columnheader">{safe(text)}</th>' for text in heads)
-    kind = "rows long" if len(rows) > MANY_ROWS else "rows"
-    return (
-        f'<table class="{kind}" id="{name}" role="table"><caption>{safe(caption)}</caption>'
-        f'<thead role="rowgroup"><tr role="row">{head}</tr></thead>\n'
-        f'<tbody role="rowgroup">\n{"".join(rows)}</tbody></table>'
-    )
 
 
 def link(kind: str, number: int) -> str:
@@ -80,6 +27,11 @@ def link(kind: str, number: int) -> str:
 
 def days(trip: Trip) -> str:
     return f'<span class="whole">{safe(trip.first)} to</span> <span class="whole">{safe(trip.last)}</span>'
+
+
+def reason(text: str) -> str:
+    """What fails, as the drawing takes it from a row."""
+    return f'<span class="why">{safe(text)}</span>'
 
 
 def choose(name: str, text: str) -> str:
@@ -93,37 +45,42 @@ def choose(name: str, text: str) -> str:
 class Page:
     """The page of a replayed journal."""
 
-    def __init__(self, made: Replay, places: Places | None, sources: list[Source]) -> None:
-        self.made, self.places, self.sources = made, places, sources
+    def __init__(
+        self, made: Replay, places: tuple[Places | None, str], sources: list[Source], audited: Audited | None
+    ) -> None:
+        self.made, self.sources, self.audited = made, sources, audited
+        self.places, self.why_not_drawn = places
         self.words, self.trucks = Words(made.file), made.file.trucks
 
     def markup(self) -> str:
-        style, script, page = (
-            (HERE / name).read_text(encoding="utf-8") for name in ("page.css", "page.js", "page.html")
-        )
-        policy = (
-            f"default-src 'none'; style-src '{digest(style)}'; script-src '{digest(script)}'; img-src data:; "
-            "base-uri 'none'; form-action 'none'"
-        )
+        style, script = part("page.css"), part("page.js")
         states = {**{STATES[status]: text for status, text in STATUS.items()}, **ANSWERS}
-        return string.Template(page).substitute(
-            policy=safe(policy),
+        return string.Template(part("page.html")).substitute(
+            policy=safe(policy(style, script)),
             style=style,
             script=script,
             data=self.data(),
             title=safe(f"Permit office, {self.made.file.day}"),
             summary=safe(self.summary()),
+            audited=audited_text(self.audited),
             carriers=options({name: name for name in self.carriers()}),
             states=options(states),
             permits=self.permits(),
             answers=self.answers(),
             postings=self.postings(),
             last=self.made.version,
-            key=key(),
             others=self.others(),
-            sources=self.sources_text(),
+            reckoned=safe(self.reckoned()),
+            sources=sources_text(self.sources),
             made_by=safe(VERSION),
         )
+
+    def reckoned(self) -> str:
+        """What the page worked out itself, and what it left out."""
+        times = self.made.reckoning.left_out
+        if not times:
+            return ""
+        return f"The day has so many trucks and bridges that this was left out {plural(times, 'time')}."
 
     def summary(self) -> str:
         made = self.made
@@ -185,9 +142,9 @@ class Page:
 
     def recalled_by(self, permit: Permit) -> str:
         posting = self.made.postings[permit.posting - 1]
-        why = self.words.why(permit, posting)
-        said = self.words.posting(posting) + (f"; {why}" if why else "")
-        return f"by {link('posting', posting.version)}: {safe(said)}"
+        why = self.words.why(permit)
+        said = safe(self.words.posting(posting)) + (f"; {reason(why)}" if why else "")
+        return f"by {link('posting', posting.version)}: {said}"
 
     def answers(self) -> str:
         heads = ("Number", "Answer", "Carrier", "Truck", "Days", "From and to", "Asked by")
@@ -197,13 +154,12 @@ class Page:
     def answer_row(self, answer: Answer) -> str:
         truck, name = self.trucks[answer.trip.truck], f"answer-{answer.number}"
         asked = f", {self.words.routes(answer.trip.asked)}" if answer.trip.asked else ""
-        version = f" (at version {answer.version})" if answer.reply == "refused" else ""
         shown = choose(name, f"answer {answer.number}") if answer.reply in ("refused", "noroad") else ""
         row = (
             ("Number", f'<a href="#{name}">Answer {answer.number}</a>'),
             (
                 "Answer",
-                f'<span class="state">{safe(ANSWERS[answer.reply])}</span> {safe(self.words.answer(answer) + version)}',
+                f'<span class="state">{safe(ANSWERS[answer.reply])}:</span> {self.said(answer)}',
             ),
             ("Carrier", safe(truck.carrier)),
             ("Truck", safe(truck.name)),
@@ -215,6 +171,13 @@ class Page:
             f'<tr id="{name}" class="{safe(answer.reply)}" role="row" data-state="{safe(answer.reply)}" '
             f'data-carrier="{safe(truck.carrier)}">{cells(row)}</tr>\n'
         )
+
+    def said(self, answer: Answer) -> str:
+        """What is said of an answer, and at which version it is refused."""
+        if answer.limit is None:
+            return safe(self.words.answer(answer))
+        place = self.words.in_the_way(answer) + self.words.place(answer.limit)
+        return f"{safe(place)}: {reason(self.words.reason(answer.limit))} (at version {answer.version})"
 
     def postings(self) -> str:
         heads = ("Posting", "What is posted", "Before", "Posted by", "Recalled by it")
@@ -238,16 +201,6 @@ class Page:
             return ""
         return f'<h2 id="others">New days, surrenders and looks at permits</h2><ol>{items}</ol>'
 
-    def sources_text(self) -> str:
-        """The files that are shown, and the program, where it was named."""
-        lines = [
-            f"{safe(it.what)} <strong>{safe(it.name)}</strong>: sha256 <code>{safe(it.sum)}</code>"
-            for it in self.sources
-        ]
-        if not any(it.what == PROGRAM for it in self.sources):
-            lines.append("Which program wrote the journal was not said.")
-        return "\n".join(f"<p>{line}</p>" for line in lines)
-
     def data(self) -> str:
         """What the script needs, as JSON in which no markup can end or begin."""
         file, made, words = self.made.file, self.made, self.words
@@ -259,8 +212,9 @@ class Page:
         data = {
             "nodes": words.nodes,
             "places": self.places,
+            "why": self.why_not_drawn,
             "segments": [(name, start, end) for name, (start, end, _) in zip(words.segments, file.segments)],
-            "spans": [(name, segment) for name, (segment, _, _) in zip(words.spans, file.spans)],
+            "spans": [(name, *span) for name, span in zip(words.spans, file.spans)],
             "limits": [
                 (number, what, value)
                 for number, values in enumerate(file.values)
@@ -278,54 +232,27 @@ class Page:
         return text.replace("<", "\\u003c").replace(">", "\\u003e").replace("&", "\\u0026")
 
     def chosen_permit(self, permit: Permit) -> dict[str, Any]:
-        truck = self.trucks[permit.trip.truck]
-        version = permit.posting or permit.version
-        return {
-            "id": f"permit-{permit.number}",
-            "title": f"permit {permit.number}: {truck.carrier} {truck.name}",
-            "cut": -1,
-            "routes": permit.routes,
-            "from": permit.trip.start,
-            "to": permit.trip.end,
-            "version": version,
-            "note": f"Permit {permit.number}: {STATUS[permit.status]}",
-        }
+        chosen = self.chosen(f"permit {permit.number}", permit.trip, permit.routes, permit.limit)
+        return chosen | {"version": permit.posting or permit.version}
 
     def chosen_answer(self, answer: Answer, cuts: dict[tuple[int, ...], int]) -> dict[str, Any]:
-        truck = self.trucks[answer.trip.truck]
-        cut = -1
+        chosen = self.chosen(f"answer {answer.number}", answer.trip, answer.trip.asked, answer.limit)
         if answer.reached and self.places is not None:
-            cut = cuts.setdefault(answer.reached, len(cuts))
-        note = f"Answer {answer.number}: {ANSWERS[answer.reply]}. {self.words.answer(answer)}"
-        if answer.reached:
-            note += f". The truck can reach {plural(len(answer.reached), 'place')}"
-        return {
-            "id": f"answer-{answer.number}",
-            "title": f"answer {answer.number}: {truck.carrier} {truck.name}",
-            "cut": cut,
-            "routes": answer.trip.asked,
-            "from": answer.trip.start,
-            "to": answer.trip.end,
-            "version": answer.version,
-            "note": note,
-        }
+            chosen["cut"] = cuts.setdefault(answer.reached, len(cuts))
+        places = plural(len(answer.reached), "place")
+        if answer.reply == "noroad":
+            chosen["reach"] = f"Any walk from there, over open or closed roads, reaches {places}"
+            chosen["always"] = 1
+        elif answer.reached and answer.seen == answer.version:
+            chosen["reach"] = f"The truck can reach {places} at this version"
+        elif answer.reached:
+            could = f"At version {answer.seen} the truck could reach {places}"
+            chosen["reach"] = f"{could}, and at this version no road leads it on from these"
+        return chosen | {"version": answer.version}
 
-
-def options(texts: dict[str, str]) -> str:
-    """The options of a choice: each value with its text."""
-    return "".join(f'<option value="{safe(value)}">{safe(text)}</option>' for value, text in texts.items())
-
-
-def key() -> str:
-    """What the lines of the drawing mean."""
-    line = '<li><svg width="40" height="12" aria-hidden="true"><path class="{}" d="M2 6H38"/></svg> {}</li>'
-    return "".join(line.format(name, safe(text)) for name, text in KEYS)
-
-
-def plural(count: int, word: str) -> str:
-    return f"{count:,} {word}" if count == 1 else f"{count:,} {word}s"
-
-
-def digest(text: str) -> str:
-    """The sum by which a policy names a style or a script."""
-    return "sha256-" + base64.b64encode(hashlib.sha256(text.encode("utf-8")).digest()).decode()
+    def chosen(self, name: str, trip: Trip, routes: Routes, limit: Limit | None) -> dict[str, Any]:
+        """What the drawing shows of a permit or an answer. What is said of it stands in its row."""
+        truck = self.trucks[trip.truck]
+        made: dict[str, Any] = {"id": name.replace(" ", "-"), "title": f"{name}: {truck.carrier} {truck.name}"}
+        made |= {"routes": routes, "from": trip.start, "to": trip.end}
+        return made if limit is None else made | {"fails": [limit.segment, limit.span]}

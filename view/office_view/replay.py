@@ -1,8 +1,10 @@
 """A journal over its day file: permits, postings and answers, as the entries say them.
 
-Nothing is decided here. Each entry has to be the next call of its actor's commands, and its reply has to follow from
-the entries above it as far as numbers, versions, days and marks go; else the journal is not of this day file. Whether
-a limit fails, and which route is the shortest, is not asked again: that is what the office answered.
+Each entry has to be the next call of its actor's commands, and its reply has to follow from the entries above it, as
+far as numbers, versions, days and marks go. What the page says of limits is worked out once more (`reckoning`): a
+permit meets all limits, a refusal names the one that fails first, and a posting recalls the permits that then fail and
+no other. Where anything contradicts the journal, there is no page. Which route is the shortest, and what a truck
+reaches, is not asked again.
 """
 from dataclasses import dataclass, field
 from typing import Any
@@ -11,15 +13,17 @@ from model.files import DayFile
 
 from .command import BAD, Fault
 from .journal import Entry, Limit, Routes, Trip
+from .reckoning import Found, Reckoning
 
 IN_FORCE, RECALLED, SURRENDERED, EXPIRED = "in force", "recalled", "surrendered", "expired"
 
 
 @dataclass
 class Permit:
-    """A permit, and how it stands at the end."""
+    """A permit, and how it stands at the end. Where it is recalled, `limit` is what then fails, where that is known."""
 
     number: int
+    line: int
     caller: int
     trip: Trip
     routes: Routes
@@ -27,6 +31,7 @@ class Permit:
     seen: int
     status: str = IN_FORCE
     posting: int = 0
+    limit: Limit | None = None
 
 
 @dataclass(frozen=True)
@@ -44,12 +49,14 @@ class Posting:
 
 @dataclass(frozen=True)
 class Answer:
-    """An application that was answered otherwise than with a permit."""
+    """An application that was answered otherwise than with a permit. What is reached was found at the version seen."""
 
     number: int
+    line: int
     caller: int
     trip: Trip
     reply: str
+    seen: int
     version: int
     day: str
     limit: Limit | None
@@ -58,7 +65,7 @@ class Answer:
 
 @dataclass(frozen=True)
 class Other:
-    """A new day, a surrender or a show, or a posting that the network does not take."""
+    """A new day, a surrender or a show."""
 
     caller: int
     entry: Entry
@@ -80,9 +87,10 @@ class Replay:
 
     file: DayFile
     day: str
-    ratings: list[int]
-    values: list[dict[str, int]]
+    reckoning: Reckoning
     actors: list[Actor]
+    # the permits that use each segment
+    using: list[list[int]]
     permits: list[Permit] = field(default_factory=list)
     postings: list[Posting] = field(default_factory=list)
     answers: list[Answer] = field(default_factory=list)
@@ -107,8 +115,8 @@ def replay(file: DayFile, entries: list[Entry], day_path: str, journal_path: str
     scripts: list[list[tuple[str, Any]]] = [[] for _ in range(file.actors)]
     for by, kind, what in file.commands:
         scripts[by].append((kind, what))
-    values = [dict(it) for it in file.values]
-    made = Replay(file, file.day, [span[2] for span in file.spans], values, [Actor(script) for script in scripts])
+    using: list[list[int]] = [[] for _ in file.segments]
+    made = Replay(file, file.day, Reckoning(file), [Actor(script) for script in scripts], using)
     line = 1
     try:
         for entry in entries:
@@ -167,7 +175,11 @@ def take_application(made: Replay, actor: Actor, entry: Entry, trip: Trip) -> No
         entry.reply in ("issued", "refused", "outdated", "meets", "late", "notneeded", "noroad"),
         "no answer to an application",
     )
+    demand((trip.first < made.day) == (entry.reply == "late"), f"the office's day is {made.day}")
+    is_legal = made.file.trucks[trip.truck].is_legal()
+    demand(entry.reply == "late" or is_legal == (entry.reply == "notneeded"), legal_text(is_legal))
     if entry.reply in ("outdated", "meets"):
+        take_outdated(made, entry, trip)
         actor.seen, actor.tries = None, actor.tries + 1
         return
     if entry.reply == "issued":
@@ -177,16 +189,82 @@ def take_application(made: Replay, actor: Actor, entry: Entry, trip: Trip) -> No
     actor.at, actor.seen, actor.tries = actor.at + 1, None, 0
 
 
+def legal_text(is_legal: bool) -> str:
+    return "the truck is legal and needs no permit" if is_legal else "the truck is not legal and needs a permit"
+
+
+def take_outdated(made: Replay, entry: Entry, trip: Trip) -> None:
+    """An answer that what was found does not hold any more."""
+    demand(entry.version == made.version, f"the roads stand at version {made.version}")
+    if entry.limit is not None:
+        demand_fails(made, trip, entry.limit)
+        return
+    demand(entry.segment < len(made.file.segments), "there is no such segment")
+    demand_meets(made, trip, entry.segment)
+
+
 def take_answer(made: Replay, entry: Entry, trip: Trip) -> None:
     """An answer that is no permit."""
     demand(entry.reply != "refused" or entry.version == made.version, f"the roads stand at version {made.version}")
-    demand(entry.reply != "late" or trip.first < entry.status == made.day, f"the office's day is {made.day}")
-    demand(entry.limit is None or known(made.file, entry.limit), "there is no such segment or span")
+    demand(entry.reply != "late" or entry.status == made.day, f"the office's day is {made.day}")
     reached = entry.listed if entry.found == "cut" else ()
     demand(all(node < len(made.file.names["nodes"]) for node in reached), "there is no such node")
-    number, day = len(made.answers) + 1, entry.status
-    answer = Answer(number, entry.caller, trip, entry.reply, made.version, day, entry.limit, reached)
+    demand(not reached or (trip.start in reached and trip.end not in reached), "the nodes are not those of a cut")
+    if entry.limit is not None:
+        demand_fails(made, trip, entry.limit)
+        demand_in_the_way(made, trip, entry.limit.segment, reached)
+    elif entry.reply == "noroad":
+        walks = made.reckoning.walks_from(trip.start)
+        demand(trip.end not in walks, "there are roads that lead there")
+        demand(entry.call == "held" or set(reached) == walks, "the nodes are not those that any walk reaches")
+    at = (entry.seen if entry.call == "submit" else made.version, made.version)
+    answer = Answer(
+        len(made.answers) + 1, entry.line, entry.caller, trip, entry.reply, *at, entry.status, entry.limit, reached
+    )
     made.answers.append(answer)
+
+
+def demand_in_the_way(made: Replay, trip: Trip, segment: int, reached: tuple[int, ...]) -> None:
+    """A segment that stands in the way is one of those that were asked for, or leads out of what is reached."""
+    name = segment_name(made, segment)
+    if trip.asked:
+        demand(any(segment in route for route in trip.asked), f"{name} is on no route that is asked for")
+    elif reached:
+        start, end, _ = made.file.segments[segment]
+        demand(start in reached and end not in reached, f"{name} does not lead out of what the truck reaches")
+
+
+def demand_fails(made: Replay, trip: Trip, limit: Limit) -> None:
+    """A limit is the first that fails a truck on its segment, with the numbers of the day file and of postings."""
+    demand(known(made.file, limit), "there is no such segment or span")
+    found = made.reckoning.first(trip.truck, limit.segment)
+    if limit.span >= 0:
+        posted, name = made.reckoning.ratings[limit.span], made.reckoning.names["spans"][limit.span]
+        demand(limit.rate == posted, f"bridge {name} has a rating of {posted} by then")
+    if limit.span >= 0 and not found.is_known:
+        demand(limit.has > limit.carried, "what is refused is no more than what is carried")
+    elif found.limit != limit:
+        raise Stray(f"what fails on {segment_name(made, limit.segment)} is {what_fails(made, found.limit)}")
+
+
+def demand_meets(made: Replay, trip: Trip, segment: int) -> None:
+    """A truck may pass a segment, as far as that is known."""
+    limit = made.reckoning.first(trip.truck, segment).limit
+    if limit is not None:
+        raise Stray(f"its truck may not pass {segment_name(made, segment)}: {what_fails(made, limit)}")
+
+
+def segment_name(made: Replay, segment: int) -> str:
+    return made.reckoning.names["segments"][segment]
+
+
+def what_fails(made: Replay, limit: Limit | None) -> str:
+    """A limit that fails, in a few words for a fault."""
+    if limit is None or limit.what == "closed":
+        return "closed" if limit else "nothing"
+    if limit.span >= 0:
+        return f"the {limit.what} on bridge {made.reckoning.names['spans'][limit.span]} at a rating of {limit.rate}"
+    return f"the {limit.what}: {limit.has}, and {limit.carried} allowed"
 
 
 def known(file: DayFile, limit: Limit) -> bool:
@@ -204,29 +282,42 @@ def issue(made: Replay, entry: Entry, trip: Trip, seen: int) -> None:
         demand(bool(route) and made.file.is_walk(route, trip.start, trip.end), "the route is no walk")
     demand(not trip.asked or entry.routes == trip.asked, "the routes are not those that are asked for")
     demand(bool(trip.asked) or len(entry.routes) == 1, "no route is asked for, and the permit has several")
-    made.permits.append(Permit(entry.number, entry.caller, trip, entry.routes, entry.version, seen))
+    for segment in sorted({segment for route in entry.routes for segment in route}):
+        demand_meets(made, trip, segment)
+        made.using[segment].append(entry.number)
+    made.permits.append(Permit(entry.number, entry.line, entry.caller, trip, entry.routes, entry.version, seen))
 
 
 def take_posting(made: Replay, entry: Entry, what: tuple[int, str, int]) -> None:
     demand((entry.item, entry.what, entry.value) == what, "the posting is not the actor's next command")
-    if entry.reply == "range":
-        made.others.append(Other(entry.caller, entry))
-        return
     demand(entry.reply == "posted" and entry.version == made.version + 1, f"the next posting is {made.version + 1}")
     item, limit, value = what
-    segment = made.file.spans[item][0] if limit == "rating" else item
-    before = made.ratings[item] if limit == "rating" else made.values[item][limit]
+    reckoning = made.reckoning
+    before = reckoning.ratings[item] if limit == "rating" else reckoning.values[item][limit]
+    segment = reckoning.post(item, limit, value)
+    demand(list(entry.recalled) == sorted(set(entry.recalled)), "the recalls do not rise")
     for number in entry.recalled:
         demand(1 <= number <= len(made.permits), f"there is no permit {number}")
-        permit = made.permits[number - 1]
-        demand(status_now(made, permit) == IN_FORCE, f"permit {number} is not in force")
-        demand(any(segment in route for route in permit.routes), f"permit {number} does not use what is posted on")
-        permit.status, permit.posting = RECALLED, entry.version
-    if limit == "rating":
-        made.ratings[item] = value
-    else:
-        made.values[item][limit] = value
+        demand(status_now(made, made.permits[number - 1]) == IN_FORCE, f"permit {number} is not in force")
+        demand(number in made.using[segment], f"permit {number} does not use what is posted on")
+    recall(made, entry, segment)
     made.postings.append(Posting(entry.version, entry.caller, item, limit, value, before, entry.recalled))
+
+
+def recall(made: Replay, entry: Entry, segment: int) -> None:
+    """Recalls the permits that a posting names. They are those in force that then fail, as far as that is known."""
+    name, recalled = segment_name(made, segment), set(entry.recalled)
+    for number in made.using[segment]:
+        permit = made.permits[number - 1]
+        if status_now(made, permit) != IN_FORCE:
+            continue
+        found: Found = made.reckoning.first(permit.trip.truck, segment)
+        if number in recalled:
+            keeps = found.is_known and found.limit is None
+            demand(not keeps, f"permit {number} is recalled, and its truck keeps every limit of {name}")
+            permit.status, permit.posting, permit.limit = RECALLED, entry.version, found.limit
+        elif found.limit is not None:
+            raise Stray(f"permit {number} is not recalled, and fails on {name}: {what_fails(made, found.limit)}")
 
 
 def status_now(made: Replay, permit: Permit) -> str:

@@ -1,16 +1,27 @@
-"""Answers of the office in words and names."""
+"""Answers of the office in words and names. Each number has its unit."""
 from fractions import Fraction
 
-from model.bridges import design
+from model import forms
 from model.files import DayFile
 
 from .journal import Limit, Routes, Trip
 from .replay import EXPIRED, IN_FORCE, RECALLED, SURRENDERED, Answer, Other, Permit, Posting
 
 STATUS = {IN_FORCE: "In force", RECALLED: "Recalled", SURRENDERED: "Surrendered", EXPIRED: "Expired"}
-UNITS = {"height": "in", "width": "in", "length": "in", "gross": "lb", "tridem": "lb"}
+UNITS = {
+    "height": "in",
+    "width": "in",
+    "length": "in",
+    "gross": "lb",
+    "tridem": "lb",
+    "allowance": "thousandths of the federal limits",
+    "rating": "thousandths of HS20-44",
+}
 EFFECTS = {"moment": "moment", "shear": "end shear"}
 EFFECT_UNITS = {"moment": "lb·in", "shear": "lb"}
+# the values that no truck of a day file can fail
+OPEN = {what: 0 if what == "closed" else forms.RANGES[what][1] for what in forms.POSTED}
+NO_LIMIT = "no limit"
 
 
 def annual(routes: Routes) -> str:
@@ -25,13 +36,31 @@ def rounded(value: Fraction, places: int = 0) -> str:
     return ("-" if scaled < 0 else "") + f"{whole:,}" + (f".{part:0{places}d}" if places else "")
 
 
-def two_rounded(has: Fraction, most: Fraction) -> tuple[str, str]:
-    """Two numbers with as few decimals as show that they differ."""
-    for places in range(7):
-        texts = rounded(has, places), rounded(most, places)
-        if texts[0] != texts[1] or has == most:
-            return texts
-    return str(has), str(most)
+def decimals(has: Fraction, most: Fraction) -> int:
+    """As few decimals as show that two numbers differ."""
+    return next((places for places in range(7) if rounded(has, places) != rounded(most, places)), 6)
+
+
+def value_text(what: str, value: int) -> str:
+    """A limit with its unit. The greatest values are no limits: every truck that may stand in a day file keeps them."""
+    if what == "closed":
+        return "closed" if value else "open"
+    return NO_LIMIT if value == OPEN[what] else f"{value:,} {UNITS[what]}"
+
+
+def verdict(has: Fraction, most: Fraction, unit: str, allowed: str = "allowed", more: str = "") -> str:
+    """What is there, what is allowed, the difference, and its part in a hundred of what is allowed."""
+    places = 0 if has == most else max(decimals(has, most), decimals(has - most, Fraction(0)))
+    there, most_text, apart = (rounded(value, places) for value in (has, most, abs(has - most)))
+    part = f" ({percent(abs(has - most), most)})" if most else ""
+    judged = "too much" if has > most else "to spare"
+    return f"{there} {unit}, {allowed} {most_text} {unit}{more}, {apart} {unit} {judged}{part}"
+
+
+def percent(part: Fraction, whole: Fraction) -> str:
+    """A part in a hundred of the whole, to two decimals."""
+    value = 100 * part / whole
+    return "under 0.01 %" if 0 < value < Fraction(1, 200) else f"{rounded(value, 2)} %"
 
 
 class Words:
@@ -59,87 +88,74 @@ class Words:
 
     def posting(self, posting: Posting) -> str:
         """What a posting says."""
-        item = self.item(posting.what, posting.item)
-        if posting.what == "closed":
-            return f"{item} is {'closed' if posting.value else 'open'}"
-        value = f"{posting.value:,}"
-        if posting.what == "rating":
+        item, what = self.item(posting.what, posting.item), posting.what
+        value = value_text(what, posting.value)
+        if what == "closed":
+            return f"{item} is {value}"
+        if value == NO_LIMIT:
+            return f"{item} has no limit" + ("" if what == "rating" else f" of {LIMIT_NAMES[what]}")
+        if what == "rating":
             return f"{item} has a rating of {value}"
-        if posting.what == "allowance":
-            return f"{item} allows {value} thousandths of the limit of each axle group"
-        return f"{item} allows a {LIMIT_NAMES[posting.what]} of at most {value} {UNITS[posting.what]}"
+        if what == "allowance":
+            return f"{item} allows each axle group {posting.value:,} thousandths of its federal limit"
+        return f"{item} allows a {LIMIT_NAMES[what]} of at most {value}"
 
     def before(self, posting: Posting) -> str:
         """What stood there before a posting."""
-        if posting.what == "closed":
-            return "closed" if posting.before else "open"
-        unit = UNITS.get(posting.what, "")
-        return f"{posting.before:,} {unit}".strip()
+        return value_text(posting.what, posting.before)
+
+    def place(self, limit: Limit) -> str:
+        """Where a limit stands: a segment, and the bridge on it."""
+        segment = self.segments[limit.segment]
+        return f"{segment}, bridge {self.spans[limit.span]}" if limit.span >= 0 else segment
 
     def limit(self, limit: Limit) -> str:
         """A limit that fails, in words."""
-        segment = self.segments[limit.segment]
+        return f"{self.place(limit)}: {self.reason(limit)}"
+
+    def reason(self, limit: Limit) -> str:
+        """What fails: what is there, what is allowed, the difference and its part in a hundred."""
         if limit.what == "closed":
-            return f"{segment}: it is closed"
-        has, most = two_rounded(limit.has, limit.carried)
+            return "closed"
         if limit.what == "group":
-            axles = axles_text(*limit.group)
-            return (
-                f"{segment}: {axles} {has} lb, and {most} are allowed, {limit.rate:,} thousandths of their limit of "
-                f"{rounded(limit.most)}"
-            )
+            of = f" ({limit.rate:,} thousandths of their federal limit of {rounded(limit.most)} lb)"
+            return f"{axles_text(*limit.group)} " + verdict(limit.has, limit.carried, "lb", more=of)
         if limit.what == "tridem":
-            return f"{segment}: {axles_text(*limit.group)} {has} lb, and {most} are allowed for a tridem group"
+            return f"tridem group, {axles_text(*limit.group)} " + verdict(limit.has, limit.carried, "lb")
         if limit.span >= 0:
-            return (
-                f"{segment}, bridge {self.spans[limit.span]}: {EFFECTS[limit.what]} {has} {EFFECT_UNITS[limit.what]}, "
-                f"the bridge carries {most} at a rating of {limit.rate:,}"
-            )
-        unit = UNITS[limit.what]
-        return f"{segment}: {LIMIT_NAMES[limit.what]} {has} {unit}, {most} allowed"
+            unit = EFFECT_UNITS[limit.what]
+            of = f" (a rating of {limit.rate:,} thousandths of HS20-44)"
+            return f"{EFFECTS[limit.what]} {verdict(limit.has, limit.carried, unit, 'the bridge carries', of)}"
+        return f"{LIMIT_NAMES[limit.what]} {verdict(limit.has, limit.carried, UNITS[limit.what])}"
 
     def answer(self, answer: Answer) -> str:
         """An answer that is no permit."""
+        trip = answer.trip
         if answer.reply == "refused" and answer.limit is not None:
-            return self.limit(answer.limit)
+            return self.in_the_way(answer) + self.limit(answer.limit)
         if answer.reply == "noroad":
-            return f"No road leads from {self.nodes[answer.trip.start]} to {self.nodes[answer.trip.end]}"
+            return f"No road leads from {self.nodes[trip.start]} to {self.nodes[trip.end]}, open or closed"
         if answer.reply == "late":
-            return f"The first day is before the office's day, {answer.day}"
+            return f"The first day, {trip.first}, is before the office's day, {answer.day}"
         return "The truck is legal and needs no permit"
 
-    def why(self, permit: Permit, posting: Posting) -> str:
-        """What the truck of a recalled permit has of that what was posted, worked out here, from the day file."""
-        truck = self.file.trucks[permit.trip.truck]
-        if posting.what == "closed":
+    def in_the_way(self, answer: Answer) -> str:
+        """What is said in front of the limit of a refusal where no route was asked for."""
+        if answer.trip.asked:
             return ""
-        if posting.what == "rating":
-            inches = self.file.spans[posting.item][1]
-            for word, has, most in zip(("moment", "shear"), truck.effects(inches), design(inches)):
-                if 1000 * has > posting.value * most:
-                    texts = two_rounded(has, most * posting.value / 1000)
-                    effect = f"the truck's {EFFECTS[word]} is {texts[0]} {EFFECT_UNITS[word]}"
-                    return f"{effect}, the bridge carries {texts[1]}"
-            return ""
-        if posting.what == "allowance":
-            first, last, weight, limit, _ = truck.worst
-            texts = two_rounded(Fraction(weight), Fraction(limit * posting.value, 1000))
-            return f"the truck's {axles_text(first, last)} {texts[0]} lb, {texts[1]} are allowed"
-        if posting.what == "tridem":
-            group = truck.heaviest_tridem
-            return f"the truck's {axles_text(group.first, group.last)} {group.weight:,} lb" if group else ""
-        has = getattr(truck, posting.what)
-        return f"the truck has {has:,} {UNITS[posting.what]}"
+        return "No way is open to it. Of the roads that lead on from where it can come, the first in the day file is "
+
+    def why(self, permit: Permit) -> str:
+        """Why the truck of a recalled permit fails, or nothing where that was not worked out."""
+        return "" if permit.limit is None or permit.limit.what == "closed" else self.reason(permit.limit)
 
     def other(self, other: Other) -> str:
-        """A new day, a surrender, a show, or a posting that is not taken."""
+        """A new day, a surrender or a show."""
         entry, actor = other.entry, self.actors[other.caller]
         if entry.call == "day":
             if entry.reply == "dayback":
                 return f"{actor} wants the day {entry.day}, but it stays {entry.status}"
             return f"{actor} goes on to {entry.day}"
-        if entry.call == "post":
-            return f"{actor} posts on {self.item(entry.what, entry.item)} what the network does not take"
         verb = "surrenders" if entry.call == "surrender" else "looks at"
         return f"{actor} {verb} permit {entry.number}: {self.outcome(entry.reply, entry.status)}"
 
@@ -165,6 +181,7 @@ LIMIT_NAMES = {
     "length": "length",
     "gross": "gross weight",
     "tridem": "tridem group",
+    "allowance": "axle groups",
 }
 
 

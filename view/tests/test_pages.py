@@ -5,6 +5,8 @@ Each example and twenty made days are opened. Where PERMIT_PROGRAM names the pro
 import os
 import pathlib
 import re
+import shutil
+import subprocess
 import sys
 import tempfile
 import time
@@ -16,7 +18,9 @@ from support import EXAMPLES, day_examples, journal_of, made_day, names, ran, sa
 
 SIZES = (1, 2, 3, 4, 5, 6, 8, 10, 13, 20)
 LARGE = os.environ.get("PERMIT_LARGE_DAY", "")
-SECONDS = float(os.environ.get("PERMIT_VIEW_SECONDS", "2"))
+SECONDS = float(os.environ.get("PERMIT_VIEW_SECONDS", "1.5"))
+# what the letters of a drawing measure at least, in pixels
+LEAST_TEXT = 12
 
 # Names, roles, labels, headings, focus and contrast, found in the page itself. It gives a list of what is wrong.
 ACCESS = r"""(() => {
@@ -62,11 +66,43 @@ ACCESS = r"""(() => {
     if ((a + 0.05) / (b + 0.05) < 4.5) wrong.push("contrast of " + it.textContent.slice(0, 40));
   }
   for (const it of document.querySelectorAll("path.road")) {
-    const stroke = light(getComputedStyle(it).stroke);
-    if (1.05 / (stroke + 0.05) < 3) wrong.push("contrast of a line " + it.getAttribute("class"));
+    const [a, b] = [light(getComputedStyle(it).stroke), light(behind(it.closest("svg")))].sort((x, y) => y - x);
+    if ((a + 0.05) / (b + 0.05) < 3) wrong.push("contrast of a line " + it.getAttribute("class"));
   }
   return wrong;
 })()"""
+# What is wrong with the labels of a drawing: two that meet, one that leaves the drawing, meets a place or is too small.
+LABELS = r"""(() => {
+  const wrong = [], svg = document.querySelector("#frame svg");
+  if (!svg) return ["there is no drawing"];
+  const boxOf = (it) => { const box = it.getBoundingClientRect(); return [box.left, box.top, box.right, box.bottom]; };
+  const meet = (a, b) => a[0] < b[2] - 0.5 && b[0] < a[2] - 0.5 && a[1] < b[3] - 0.5 && b[1] < a[3] - 0.5;
+  const texts = [...svg.querySelectorAll("text:not(.alarm-text)")], whole = boxOf(svg), boxes = texts.map(boxOf);
+  const scale = svg.getBoundingClientRect().width / svg.viewBox.baseVal.width;
+  const leader = [...svg.querySelectorAll(".leader")].flatMap((it) => [...Array(50).keys()].map((at) => {
+    const spot = it.getPointAtLength(it.getTotalLength() * at / 49), by = it.getScreenCTM();
+    return [spot.x + by.e - 1, spot.y + by.f - 1, spot.x + by.e + 1, spot.y + by.f + 1];
+  }));
+  const places = [...svg.querySelectorAll(".node,.alarm")].map(boxOf);
+  texts.forEach((text, at) => {
+    const box = boxes[at], name = text.textContent;
+    if (parseFloat(getComputedStyle(text).fontSize) * scale < LEAST) wrong.push("too small: " + name);
+    if (box[0] < whole[0] || box[1] < whole[1] || box[2] > whole[2] || box[3] > whole[3]) wrong.push("cut: " + name);
+    boxes.forEach((other, number) => {
+      if (number < at && meet(box, other)) wrong.push(`${name} meets ${texts[number].textContent}`);
+    });
+    if (places.some((place) => meet(box, place))) wrong.push("a place is under " + name);
+    const own = text.getAttribute("class") === "reason-text";
+    if (!own && leader.some((spot) => meet(box, spot))) wrong.push("a line is under " + name);
+  });
+  return wrong;
+})()""".replace("LEAST", str(LEAST_TEXT))
+# The styles of the lines, bridges, places and marks in a part of the page, each once.
+STYLES = r"""[...new Set([...document.querySelectorAll("WHERE svg :is(.road,.bridge,.node,.no,.alarm)")].map((it) => {
+    const style = getComputedStyle(it), names = it.getAttribute("class").split(" ");
+    const shape = names[0] === "node" ? it.tagName : names[0];
+    return [shape, style.stroke, style.strokeWidth, style.strokeDasharray, style.fill].join(" ");
+}))]"""
 ROWS = """Object.fromEntries([...document.querySelectorAll("tr[id]")].filter((row) => row.checkVisibility())
   .map((row) => [row.id, [...row.cells].map((cell) => cell.textContent.replace(/\\s+/g, " ").trim())]))"""
 
@@ -88,12 +124,12 @@ class Pages(unittest.TestCase):
     def setUp(self) -> None:
         self.browser.wide(1280)
 
-    def page(self, day: bytes, journal: bytes, name: str = "day") -> pathlib.Path:
+    def page(self, day: bytes, journal: bytes, name: str = "day", *words: str) -> pathlib.Path:
         """The page of a day, in the folder of the tests."""
         files = [pathlib.Path(self.folder.name, name + ending) for ending in (".csv", ".journal", ".html")]
         files[0].write_bytes(day)
         files[1].write_bytes(journal)
-        told = ran("day", files[0], files[1], "--output", files[2])
+        told = ran("day", files[0], files[1], "--output", files[2], *words)
         self.assertEqual((told.returncode, told.stderr), (0, b""))
         return files[2]
 
@@ -230,7 +266,7 @@ class Pages(unittest.TestCase):
     def test_the_search_field_by_keyboard(self) -> None:
         path = self.page((EXAMPLES / "template.csv").read_bytes(), (EXAMPLES / "template.journal").read_bytes())
         self.browser.open(path)
-        for _ in range(2):
+        for _ in range(3):
             self.browser.press("Tab", 9)
         self.assertEqual(self.browser.value("document.activeElement.id"), "search")
         for letter in "recalled":
@@ -250,8 +286,8 @@ class Pages(unittest.TestCase):
         path = self.page((EXAMPLES / "recall.csv").read_bytes(), (EXAMPLES / "recall.journal").read_bytes())
         self.browser.open(path)
         wanted = self.browser.value(
-            "[...document.querySelectorAll('a[href],input,select,button,[tabindex=\"0\"]')]"
-            ".map((it) => it.outerHTML)"
+            "[...document.querySelectorAll('a[href],input,select,button,summary,[tabindex=\"0\"]')]"
+            ".filter((it) => it.checkVisibility()).map((it) => it.outerHTML)"
         )
         got = []
         for _ in wanted:
@@ -294,19 +330,279 @@ class Pages(unittest.TestCase):
             self.assertEqual(small, 0)
 
     def test_print(self) -> None:
-        path = self.page((EXAMPLES / "template.csv").read_bytes(), (EXAMPLES / "template.journal").read_bytes())
+        path = self.template()
         self.browser.open(path)
         self.assertTrue(self.browser.printed().startswith(b"%PDF"))
-        self.browser.call("Emulation.setEmulatedMedia", media="print")
-        try:
-            hidden = self.browser.value(
-                "[...document.querySelectorAll('.controls,.screen,.skip')].filter((it) => "
-                "it.checkVisibility()).length"
+        self.media("print")
+        hidden = self.browser.value(
+            "[...document.querySelectorAll('.controls,.screen,.skip')].filter((it) => "
+            "it.checkVisibility()).length"
+        )
+        self.assertEqual(hidden, 0)
+        self.assertEqual(len(self.browser.value(ROWS)), 11)
+        # a head is repeated on each sheet where it is the head of a table, and no grid
+        for name, kind in (("thead", "table-header-group"), ("tbody tr", "table-row"), ("td", "table-cell")):
+            got = self.browser.value(f"[...new Set([...document.querySelectorAll('{name}')].map((it) => "
+                                     "getComputedStyle(it).display))]")
+            self.assertEqual(got, [kind])
+
+    def test_heads_repeat_on_each_printed_sheet(self) -> None:
+        if not shutil.which("pdftotext"):
+            self.skipTest("pdftotext is not installed")
+        day = made_day(7, 6)
+        path = self.page(day, journal_of(day))
+        self.browser.open(path)
+        paper = pathlib.Path(self.folder.name, "paper.pdf")
+        paper.write_bytes(self.browser.printed())
+        text = subprocess.run(["pdftotext", "-layout", paper, "-"], capture_output=True, check=True).stdout.decode()
+        sheets = [sheet for sheet in text.split("\f") if re.search(r"Permit [0-9]", sheet)]
+        self.assertGreater(len(sheets), 1)
+        for sheet in sheets[:-1]:
+            self.assertIn("From, to and routes", sheet)
+
+    def media(self, media: str = "", **features: str) -> None:
+        """Shows the page as on paper, dark, or with forced colours, until the end of the test."""
+        chosen = [{"name": name.replace("_", "-"), "value": value} for name, value in features.items()]
+        self.browser.call("Emulation.setEmulatedMedia", media=media, features=chosen)
+        self.addCleanup(self.browser.call, "Emulation.setEmulatedMedia", media="", features=[])
+
+    def template(self, *words: str, name: str = "template") -> pathlib.Path:
+        """The page of an example."""
+        day, journal = ((EXAMPLES / f"{name}{ending}").read_bytes() for ending in (".csv", ".journal"))
+        return self.page(day, journal, "day", *words)
+
+    def test_dark_and_forced_colours(self) -> None:
+        path = self.template()
+        for features in ({"prefers_color_scheme": "dark"}, {"forced_colors": "active"},
+                         {"forced_colors": "active", "prefers_color_scheme": "dark"}):
+            self.media(**features)
+            for anchor in ("#permit-2", "#answer-3"):
+                self.browser.open(path, anchor)
+                self.assertEqual(self.browser.value(ACCESS), [], (features, anchor))
+            light = self.browser.value("getComputedStyle(document.body).backgroundColor") == "rgb(255, 255, 255)"
+            self.assertEqual(light, "prefers_color_scheme" not in features)
+
+    def test_a_telephone_shows_the_first_answer_below_no_controls(self) -> None:
+        program = pathlib.Path(self.folder.name, "stand-in")
+        program.write_text("#!/bin/sh\ncat >/dev/null\necho legal 23\n")
+        program.chmod(0o755)
+        for words in ((), ("--program", str(program))):
+            path = self.template(*words)
+            self.browser.wide(360, 640)
+            self.browser.open(path)
+            row = self.browser.value("document.getElementById('permit-1').getBoundingClientRect().top")
+            self.assertLess(row, 560)
+            self.assertFalse(self.browser.value("finding.open"))
+            small = self.browser.value(
+                "[...document.querySelectorAll('body *')].filter((it) => it.checkVisibility() && it.textContent.trim()"
+                f" && parseFloat(getComputedStyle(it).fontSize) < {LEAST_TEXT}).length"
             )
-            self.assertEqual(hidden, 0)
-            self.assertEqual(len(self.browser.value(ROWS)), 11)
-        finally:
-            self.browser.call("Emulation.setEmulatedMedia", media="")
+            self.assertEqual(small, 0)
+            self.assertLessEqual(self.browser.value("document.documentElement.scrollWidth"), 360)
+            for anchor in ("#permit-1", "#permit-2", "#answer-3"):
+                self.browser.open(path, anchor)
+                self.assertEqual(self.browser.value(LABELS), [])
+
+    def test_the_drawing_points_at_what_fails(self) -> None:
+        path = self.template()
+        self.browser.open(path, "#permit-1")
+        drawn = self.browser.value(
+            "[...document.querySelectorAll('#frame .fails')].map((it) => it.getAttribute('class'))"
+        )
+        self.assertEqual(sorted(drawn), ["bridge fails", "head restricted route fails", "road restricted route fails"])
+        red = self.browser.value("getComputedStyle(document.querySelector('.state')).color")
+        stroke = "getComputedStyle(document.querySelector('{}')).stroke"
+        for name in ("#road-1", "#frame .bridge"):
+            self.assertEqual(self.browser.value(stroke.format(name)), red)
+        reason = self.browser.value("document.querySelector('#frame .reason-text').textContent")
+        self.assertTrue(reason.startswith("MILL-BR: moment 6,752,109 lb·in"), reason)
+        self.assertNotEqual(self.browser.value(stroke.format("#road-3")), red)
+        # what fails at one version does not at another one
+        self.set("version", "0", "input")
+        self.assertEqual(self.browser.value("document.querySelectorAll('#frame .fails').length"), 0)
+        self.assertIn("That is of version 1", self.browser.value("note.textContent"))
+        self.assertIn("of the day file", self.browser.value("saying.textContent"))
+        self.browser.open(path, "#permit-2")
+        self.assertEqual(self.browser.value(stroke.format("#road-5")), red)
+        self.assertEqual(self.browser.value("document.querySelector('#frame .reason-text').textContent"), "closed")
+        self.assertIn("1,250 thousandths of HS20-44", self.browser.value("listed.textContent"))
+
+    def test_each_style_of_the_drawing_stands_in_its_key(self) -> None:
+        for name in ("template", "no-road", "annual", "bridge"):
+            path = self.template(name=name)
+            self.browser.open(path)
+            key = self.browser.value(STYLES.replace("WHERE", ".key"))
+            for it in ["", *self.browser.value("[...choice.options].map((it) => it.value)")]:
+                self.set("choice", it, "change")
+                drawn = self.browser.value(STYLES.replace("WHERE", "#frame"))
+                self.assertLessEqual(set(drawn), set(key), (name, it))
+        # none is told by its colour alone
+        hollow = {style.replace("rgb(255, 255, 255)", "hollow") for style in key}
+        self.assertEqual(len(key), len({re.sub(r"rgb\([^)]*\)", "", style) for style in hollow}), key)
+
+    def test_names_of_16_letters_meet_nothing(self) -> None:
+        long = "ABCDEFGHIJKLMNOP"
+        for name in ("template", "annual", "two-recalls"):
+            day = (EXAMPLES / f"{name}.csv").read_text()
+            journal = (EXAMPLES / f"{name}.journal").read_bytes()
+            for kind in ("node", "segment", "span"):
+                for at, word in enumerate(names(day.encode(), kind)):
+                    day = re.sub(rf"(?<![\w-]){word}(?![\w-])", f"{long[:14]}{kind[1]}{at}", day)
+            path = self.page(day.encode(), journal)
+            for width in (1280, 360):
+                self.browser.wide(width)
+                self.browser.open(path)
+                for it in ["", *self.browser.value("[...choice.options].map((it) => it.value)")]:
+                    self.set("choice", it, "change")
+                    self.assertEqual(self.browser.value(LABELS), [], (name, width, it))
+                    self.assertEqual(self.browser.value("unnamed.textContent"), "", (name, width, it))
+
+    def test_names_of_made_days_meet_nothing(self) -> None:
+        for seed, size in ((5, 2), (6, 4), (7, 7), (8, 10)):
+            day = made_day(seed, size)
+            path = self.page(day, journal_of(day))
+            for width in (1280, 360):
+                self.browser.wide(width)
+                self.browser.open(path)
+                for it in self.browser.value("[...choice.options].map((it) => it.value)")[:6]:
+                    self.set("choice", it, "change")
+                    self.assertEqual(self.browser.value(LABELS), [], (seed, width, it))
+
+    def test_a_permit_is_found_by_its_number(self) -> None:
+        day = made_day(7, 6)
+        path = self.page(day, journal_of(day))
+        self.browser.open(path)
+        everything = [name for name in self.browser.value(ROWS) if name[:7] != "posting"]
+        for words in ("permit 1", "Permit 12", "permit #12", "answer 3", "PERMIT 012"):
+            self.set("search", words, "input")
+            kind, number = words.lower().replace("#", "").split()
+            wanted = [name for name in everything if name == f"{kind}-{int(number)}"]
+            self.assertEqual([name for name in self.browser.value(ROWS) if name[:7] != "posting"], wanted, words)
+        self.set("search", "posting 1", "input")
+        recalled = [row[1] for name, row in self.browser.value(ROWS).items() if name.startswith("permit-")]
+        self.assertTrue(all("by posting 1:" in text for text in recalled), recalled)
+
+    def test_enter_does_nothing_harmful(self) -> None:
+        path = self.template()
+        self.browser.open(path)
+        self.browser.value("search.focus()")
+        for letter in "bolt":
+            self.browser.press(letter, ord(letter.upper()), letter)
+        before = self.browser.value("location.href")
+        self.browser.press("Enter", 13, "\r")
+        time.sleep(0.2)
+        self.assertEqual(self.browser.value("location.href"), before)
+        self.assertEqual(self.browser.value("search.value"), "bolt")
+        self.assertEqual([name for name in self.browser.value(ROWS) if name[:7] != "posting"], ["answer-1"])
+        self.quiet(path)
+
+    def test_the_address_follows_what_is_chosen(self) -> None:
+        path = self.template()
+        self.browser.open(path)
+        address = "location.hash"
+        self.set("choice", "permit-2", "change")
+        self.assertEqual(self.browser.value(address), "#permit-2")
+        self.set("carrier", "BOLT", "change")
+        self.assertEqual(self.browser.value(address), "#carrier-BOLT")
+        self.assertTrue(self.browser.value("clear.checkVisibility()"))
+        self.browser.value("clear.click()")
+        self.assertEqual(self.browser.value(address), "")
+        self.assertEqual(len(self.browser.value(ROWS)), 11)
+        self.browser.value("document.querySelector('#answer-2 button').click()")
+        self.assertEqual(self.browser.value(address), "#answer-2")
+        self.quiet(path)
+
+    def test_a_permit_by_keyboard_alone(self) -> None:
+        path = self.template()
+        self.browser.wide(360, 640)
+        self.browser.open(path)
+
+        def to(name: str) -> None:
+            for _ in range(60):
+                self.browser.press("Tab", 9)
+                if self.browser.value(f"document.activeElement.matches({name!r})"):
+                    shown = self.browser.value("getComputedStyle(document.activeElement).outlineStyle")
+                    self.assertEqual(shown, "solid", name)
+                    return
+            self.fail(f"no {name} is reached")
+
+        to("summary")
+        self.browser.press("Enter", 13, "\r")
+        to("#search")
+        for letter in "permit 2":
+            self.browser.press(letter, ord(letter.upper()), letter)
+        self.browser.press("Enter", 13, "\r")
+        self.assertEqual([name for name in self.browser.value(ROWS) if name[:7] != "posting"], ["permit-2"])
+        to("#permit-2 button")
+        self.browser.press("Enter", 13, "\r")
+        self.assertEqual(self.browser.value("document.activeElement.id + location.hash"), "choice#permit-2")
+        to("#version")
+        self.browser.press("ArrowLeft", 37)
+        self.assertIn("That is of version 2; the roads are shown at version 1", self.browser.value("note.textContent"))
+        to("#later")
+        self.browser.press("Enter", 13, "\r")
+        self.assertEqual(self.browser.value("version.value"), "2")
+        self.quiet(path)
+
+    def test_an_address_that_names_nobody_shows_nothing(self) -> None:
+        path = self.template()
+        for anchor in ("#permit-5", "#answer-9", "#carrier-NOBODY", "#carrier-", "#%3Cimg%3E", "#%", "#permit-01"):
+            self.browser.open(path, anchor)
+            self.assertEqual(self.browser.value(ROWS), {}, anchor)
+            self.assertFalse(self.browser.value("document.getElementById('frame').checkVisibility()"))
+            self.assertIn("so nothing is shown", self.browser.value("found.textContent"))
+            self.assertTrue(self.browser.value("found.checkVisibility() && clear.checkVisibility()"))
+        self.browser.value("clear.click()")
+        self.assertEqual(len(self.browser.value(ROWS)), 11)
+        self.browser.open(path, "#postings")
+        self.assertEqual(len(self.browser.value(ROWS)), 11)
+
+    def test_without_graphviz_the_tables_and_the_chosen_route_are_there(self) -> None:
+        path = self.template()
+        made = path.read_text()
+        found = re.search(r'"places":\[\[.*?\]\],"why":""', made)
+        assert found is not None
+        path.write_text(made.replace(found[0], '"places":null,"why":"graphviz is not installed"'))
+        self.browser.open(path, "#permit-1")
+        self.assertEqual(len(self.browser.value(ROWS)), 11)
+        self.assertIn("graphviz is not installed: this is the route alone", self.browser.value("frame.textContent"))
+        for width in (1280, 360):
+            self.browser.wide(width)
+            self.browser.open(path, "#permit-1")
+            self.assertEqual(self.browser.value(LABELS), [])
+            self.assertIn("road-1", self.browser.value("document.querySelector('#frame path.fails').id"))
+
+    def test_a_page_of_a_permit_prints_on_one_sheet(self) -> None:
+        day = made_day(5, 20)
+        path = self.page(day, journal_of(day), "made", "--permit", "1")
+        pages = [path, self.template("--permit", "1"), self.template("--carrier", "ACME")]
+        pages += [self.template("--permit", "1", name=name) for name in ("annual", "bridge", "tridem")]
+        for it in pages:
+            for paper in ({"paperWidth": 8.27, "paperHeight": 11.69}, {"paperWidth": 8.5, "paperHeight": 11}):
+                self.show(it)
+                printed = self.browser.printed(preferCSSPageSize=True, **paper)
+                self.assertEqual(len(re.findall(rb"/Type\s*/Page\b", printed)), 1, it.name)
+            self.browser.wide(360)
+            self.show(it)
+            self.assertLessEqual(self.browser.value("document.documentElement.scrollWidth"), 360, it.name)
+            self.assertEqual(self.browser.value(ACCESS), [], it.name)
+
+    def best_of(self, path: pathlib.Path, times: int) -> tuple[float, float]:
+        """The least seconds until a page is open, and the least processor time that it takes for that."""
+        self.browser.call("Performance.enable", timeDomain="threadTicks")
+        self.addCleanup(self.browser.call, "Performance.disable")
+        found = []
+        for _ in range(times):
+            took = self.browser.open(path)
+            metrics = self.browser.call("Performance.getMetrics")["metrics"]
+            found.append((took, next(it["value"] for it in metrics if it["name"] == "TaskDuration")))
+        return min(it[0] for it in found), min(it[1] for it in found)
+
+    def show(self, path: pathlib.Path) -> None:
+        """Opens a page that has no script."""
+        self.browser.call("Page.navigate", url=path.resolve().as_uri())
+        while self.browser.value("document.readyState + location.href") != "complete" + path.resolve().as_uri():
+            time.sleep(0.02)
 
     def test_hostile_names_are_text_and_run_nothing(self) -> None:
         made = {b"DEPOT": b"__proto__", b"CREEK": b"constructor", b"ACME": b"toString", b"LOWBOY": b"hasOwnProperty"}
@@ -323,7 +619,7 @@ class Pages(unittest.TestCase):
         self.set("carrier", "toString", "change")
         self.assertEqual(len([name for name in self.browser.value(ROWS) if name[:7] == "permit-"]), 4)
         self.assertIn(
-            "__proto__",
+            "from __proto__",
             self.browser.value("[...document.querySelectorAll('#frame text')].map((it) => it.textContent)"),
         )
         self.quiet(path)
@@ -360,12 +656,15 @@ class Pages(unittest.TestCase):
         day = pathlib.Path(LARGE).read_bytes()
         journal = journal_of(day)
         path = self.page(day, journal, "large")
-        took = min(self.browser.open(path) for _ in range(3))
+        took, busy = self.best_of(path, 5)
         print(
-            f"\npages: {len(day):,} bytes of a day file and {len(journal):,} of its journal open in {took:.2f} seconds",
+            f"\npages: {len(day):,} bytes of a day file and {len(journal):,} of its journal open in {took:.2f} "
+            f"seconds; the page itself takes {busy:.2f}",
             file=sys.stderr,
         )
-        self.assertLess(took, SECONDS)
+        # where others want the processors too, the time of the page itself counts
+        is_crowded = os.getloadavg()[0] > (os.cpu_count() or 1)
+        self.assertLess(busy if is_crowded else took, SECONDS)
         self.assertIn("are too many to be drawn", self.browser.value("frame.textContent"))
         said = said_by(journal.decode())
         number, wanted = max(said["permits"].items(), key=lambda it: sum(map(len, it[1]["routes"])))
