@@ -5,6 +5,7 @@ program and are not proved. The formats of files they read by the modules of the
 that there is one reader in Python. Read it in this order:
 
 - `command`    words, files and the one line of a fault, for all three;
+- `writing`    outputs, written whole or not at all;
 - `sheet`      a file that is read on behind each record that is refused;
 - `sayings`    what is said of a refused record, in words;
 - `plausible`  what is accepted and yet is hardly meant;

@@ -1,17 +1,19 @@
 """Words, files and the one line of a fault, for all three programs.
 
 A fault ends a program with one line on standard error and a status: 2 where the words ask for nothing or a package is
-missing, 3 where a file cannot be read, 4 where the output cannot be written, 5 where a file is not what it has to be.
+missing, 3 where a file cannot be read, 4 where the output cannot be written, 5 where a file is not what it has to be,
+7 where there was no memory. Outputs are written by `writing`.
 """
 import argparse
 import os
 import sys
 from collections.abc import Callable, Sequence
-from typing import BinaryIO
+from typing import BinaryIO, NoReturn
 
 from . import VERSION
 
 USAGE, UNREAD, UNWRITTEN, BAD = 2, 3, 4, 5
+NO_MEMORY = 7
 
 
 INSTALLED = "permit-view-"
@@ -40,9 +42,16 @@ def missing(name: str, package: str) -> Fault:
     return Fault(USAGE, f"{name} is not installed: install the Debian package {package}")
 
 
+class Parser(argparse.ArgumentParser):
+    """A parser of words that shows none of them to a terminal as something to obey."""
+
+    def error(self, message: str) -> NoReturn:
+        super().error(printable(message))
+
+
 def parser(name: str, text: str) -> argparse.ArgumentParser:
     """A parser of words with the options that all three have."""
-    made = argparse.ArgumentParser(prog=name, description=text, formatter_class=argparse.RawDescriptionHelpFormatter)
+    made = Parser(prog=name, description=text, formatter_class=argparse.RawDescriptionHelpFormatter)
     made.add_argument("--version", action="version", version=f"{name} {VERSION}, not proved")
     return made
 
@@ -94,6 +103,9 @@ def run(main: Callable[[Sequence[str]], int], name: str) -> int:
     except Fault as fault:
         print(f"{name}: {printable(str(fault))}", file=sys.stderr)
         return fault.status
+    except MemoryError:
+        print(f"{name}: there was no memory: end other programs, or give this one more", file=sys.stderr)
+        return NO_MEMORY
     except BrokenPipeError:
         sink: BinaryIO = open(os.devnull, "wb")
         os.dup2(sink.fileno(), sys.stdout.fileno())
