@@ -6,7 +6,39 @@ import unittest
 
 from support import EXAMPLES, VIEW, check_examples, day_examples, ran
 
-GOOD = (EXAMPLES / "template.csv").read_bytes()
+# a good day in which something of each kind stands; tests say its rows by their numbers
+GOOD = b"""day,2026-03-02,,,,,,
+node,DEPOT,,,,,,
+node,CREEK,,,,,,
+node,PLANT,,,,,,
+segment,US20-E,DEPOT,CREEK,26400,,,
+segment,US20-W,CREEK,DEPOT,26400,,,
+segment,SR7-N,CREEK,PLANT,15840,,,
+segment,SR7-S,PLANT,CREEK,15840,,,
+segment,RING-E,DEPOT,PLANT,63360,,,
+limit,SR7-N,height,172,,,,
+limit,RING-E,gross,150000,,,,
+span,MILL-BR,US20-E,480,1300,,,
+truck,LOWBOY,ACME,168,120,780,0:12000 180:30000 234:30000,
+truck,VAN,BOLT,160,102,636,0:12000 180:17000 228:17000,
+actor,ann,,,,,,
+apply,ann,VAN,DEPOT,PLANT,,2026-03-02,2026-03-06
+apply,ann,LOWBOY,DEPOT,PLANT,,2026-03-02,2026-03-06
+post,ann,MILL-BR,rating,1250,,,
+show,ann,1,,,,,
+apply,ann,LOWBOY,DEPOT,PLANT,US20-E SR7-N,2026-03-03,2026-03-06
+apply,ann,LOWBOY,DEPOT,PLANT,,2026-03-03,2026-03-06
+post,ann,RING-E,closed,1,,,
+apply,ann,LOWBOY,DEPOT,PLANT,,2026-03-03,2026-03-06
+apply,ann,LOWBOY,PLANT,DEPOT,,2026-03-03,2026-03-06
+post,ann,RING-E,closed,0,,,
+apply,ann,LOWBOY,DEPOT,PLANT,,2026-03-03,2026-03-06
+setday,ann,2026-03-04,,,,,
+apply,ann,LOWBOY,DEPOT,PLANT,,2026-03-03,2026-03-06
+surrender,ann,4,,,,,
+show,ann,4,,,,,
+end,,,,,,,
+"""
 # a road in both directions, with a bridge on both
 TWO_WAYS = b"""day,2026-03-02,,,,,,
 node,A,,,,,,
@@ -269,7 +301,7 @@ class Folded(unittest.TestCase):
     def test_equal_causes_are_one_line_with_a_count(self) -> None:
         _, said = sheet(GOOD.replace(b"2026-03-06", b"3/6/26"), "--no-warnings")
         self.assertEqual(len(said), 2, said)
-        # the applications of the template stand in these rows
+        # its applications stand in these rows
         self.assertTrue(said[0].startswith("rows 16, 17, 20, 21, 23, 24, 26 and 1 more (8 rows), column H "), said[0])
 
     def test_values_that_differ_are_one_mistake(self) -> None:
@@ -472,7 +504,7 @@ class Warned(unittest.TestCase):
             self.assertIn(words, self.warned(TWO_WAYS.replace(old, new, 1)))
 
     def test_a_road_in_one_direction_is_warned_of_nowhere(self) -> None:
-        # RING-E of the template has no stretch of the other way
+        # RING-E has no stretch of the other way
         self.assertNotIn('"RING-E"', self.warned(GOOD))
 
     def test_a_refused_span_counts_on_the_other_way(self) -> None:
