@@ -7,13 +7,22 @@ that there is one reader in Python. Read it in this order:
 - `command`    words, files and the one line of a fault, for all three;
 - `writing`    outputs, written whole or not at all;
 - `sheet`      a file that is read on behind each record that is refused;
+- `whole`      what is wrong with a file as a whole;
 - `sayings`    what is said of a refused record, in words;
+- `spoiled`    what spreadsheets and hands do to a cell;
+- `hints`      both: what befell a cell or a row, or else what has to stand there;
 - `plausible`  what is accepted and yet is hardly meant;
+- `doubts`     the same of roads that lead both ways, and of files of which some records are refused;
+- `listing`    each mistake once, and at most so many lines;
 - `journal`    the grammar of the journal;
 - `replay`     a journal over its day file: permits, postings and answers;
-- `report`     the grammar of the report;
+- `rating`     what a report says of each span, and the table of it;
+- `report`     the grammar of the three reports;
 - `loading`    what is only drawn of a truck on a span, in exact fractions;
-- `picture`    the pictures of a truck;
+- `paper`      sheets of paper, with places in inches;
+- `side`       the truck from the side;
+- `spans`      one span on a sheet;
+- `picture`    all sheets of a truck;
 - `network`    the places of nodes in the drawing of roads;
 - `wording`    answers of the office in words and names;
 - `page`       the page of a day.

@@ -6,6 +6,7 @@ from typing import Any
 
 from matplotlib.axes import Axes
 from matplotlib.figure import Figure
+from matplotlib.lines import Line2D
 from matplotlib.text import Text
 
 WIDE, HIGH, MARGIN = 11.0, 8.5, 0.55
@@ -31,10 +32,10 @@ class Paper:
         return self.axes.text(x, y, text.replace("$", r"\$"), **how)
 
     def line(self, xs: Sequence[float], ys: Sequence[float], **how: Any) -> None:
-        self.axes.plot(xs, ys, **{"color": INK, "linewidth": 0.8, "solid_capstyle": "butt", **how})
+        self.axes.add_artist(Line2D(xs, ys, **{"color": INK, "linewidth": 0.8, "solid_capstyle": "butt", **how}))
 
     def mark(self, x: float, y: float, **how: Any) -> None:
-        self.axes.plot([x], [y], linestyle="none", **{"marker": "o", "color": INK, **how})
+        self.axes.add_artist(Line2D([x], [y], linestyle="none", **{"marker": "o", "color": INK, **how}))
 
     def arrow(self, start: tuple[float, float], end: tuple[float, float], **how: Any) -> None:
         """An arrow from a place to another; with two heads where `style` is `<|-|>`."""

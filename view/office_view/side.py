@@ -21,7 +21,7 @@ BODY, BRACKET = 1.55, 0.21
 WHEEL = 40
 PITCH, NARROW_PITCH = 0.62, 0.26
 # how wide a small letter is, and a little more
-LETTER = 0.072
+LETTER = 0.062
 
 
 def chosen(over: Sequence[Over]) -> list[Over]:
@@ -175,8 +175,8 @@ class Side:
             part = percent(Fraction(it.weight, it.limit))
             text = f"{group}: {it.weight:,} lb, {it.limit:,} allowed ({it.rule}), {part} %"
             x, align = beside(left, right, LETTER * len(text))
-            low = 0.09 if align == "center" else 0.04
-            paper.line([left, left, right, right], [y + low - 0.08, y + low, y + low, y + low - 0.08],
+            low, tick = (0.09, 0.035) if align == "center" else (0.04, 0.08)
+            paper.line([left, left, right, right], [y + low - tick, y + low, y + low, y + low - tick],
                        color=OVER_COLOR, linewidth=1.3, gid=f"over-{number}")
             paper.text(x, y - (0.02 if align == "center" else 0), text, fontsize=SMALL, color=OVER_COLOR, ha=align,
                        gid=f"over-text-{number}")

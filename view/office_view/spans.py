@@ -88,10 +88,10 @@ class SpanSheet:
         both = "moment and end shear are the same part of those of the design load"
         return both if self.judged.governs == "both" else f"the {self.judged.governs} governs"
 
-    def pitch(self) -> float:
-        """How far apart the closest two axles are on the paper, in points."""
-        least = min(behind - before for (before, _), (behind, _) in zip(self.axles, self.axles[1:]))
-        return 72 * (self.at(least) - self.at(0))
+    def pitch(self, at: int) -> float:
+        """How far an axle is from the one nearest to it on the paper, in points."""
+        places = [place for place, _ in self.axles[max(at - 1, 0):at + 2]]
+        return 72 * (self.at(min(behind - before for before, behind in zip(places, places[1:]))) - self.at(0))
 
     def placed(self, name: str, effect: Effect, y: float, title: str) -> None:
         """The train on the span, with the numbers of its axles. Those that are off the span are grey."""
@@ -105,8 +105,8 @@ class SpanSheet:
         ends = [min(max(self.at(it), LEFT), RIGHT) for it in (places[0], places[-1])]
         paper.line(ends, [y - 0.22] * 2, color=TRUCK_COLOR, linewidth=2, gid=f"{name}-deck")
         columns = spread([self.at(places[at]) for at in shown], NUMBERS_APART, LEFT, RIGHT)
-        pitch = self.pitch()
         for column, at in zip(columns, shown):
+            pitch = self.pitch(at)
             x, color = self.at(places[at]), TRUCK_COLOR if 0 <= places[at] <= inches else "#8a8a8a"
             paper.line([x, x], [y - 0.22, y - 0.03], color=color, linewidth=min(1.2, 0.5 * pitch))
             paper.mark(x, y - 0.05, markersize=min(3.5, 0.75 * pitch), markeredgewidth=0, color=color,
@@ -151,7 +151,7 @@ class SpanSheet:
         for column, at in zip(columns, on):
             it = effect.place.lead + self.axles[at][0]
             x, value = self.at(it), line(inches, section, it)
-            paper.line([x, x], [base, height(it)], color=TRUCK_COLOR, linewidth=min(1.3, 0.5 * self.pitch()),
+            paper.line([x, x], [base, height(it)], color=TRUCK_COLOR, linewidth=min(1.3, 0.5 * self.pitch(at)),
                        gid=f"{name}-ordinate-{at + 1}")
             paper.line([x, column], [base + 0.03, base + 0.14], color=TRUCK_COLOR, linewidth=0.5)
             digits = 3 if line is reaction else 1 if greatest >= 10 else 2
