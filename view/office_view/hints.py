@@ -10,7 +10,7 @@ from typing import NamedTuple
 from model import forms
 
 from . import spoiled
-from .sayings import column_of, number_hint, quoted, routes_hint, text_of, what_of
+from .sayings import SINGULAR, column_of, number_hint, quoted, routes_hint, text_of, what_of
 from .sheet import Lenient, Refusal, kind_of, kinds_of_all, plain_kind
 from .spoiled import Spoiled
 
@@ -23,6 +23,9 @@ BEFALLS: dict[Callable[[bytes], object], Befalls] = {
     forms.axles: spoiled.of_axles,
 }
 MOST_AT_ONCE = 4
+# the column of a posting in which a segment or a span stands
+POSTED_ON = 3
+BLANK_MORE = "a blank stands in a column in which nothing is to stand, and no eye sees it: empty it"
 TRUTHS = "closed is 1 for closed and 0 for open"
 
 
@@ -50,6 +53,8 @@ def hint(refusal: Refusal, sheet: Lenient, data: bytes, check: bool) -> Hint:
         made = of_kind(refusal, check)
     elif word == "fields":
         made = of_fields(refusal)
+    elif word == "unknown":
+        made = of_another_kind(refusal, sheet)
     return made or Hint(text := text_of(refusal, sheet, data, check), None, of_many(word, text))
 
 
@@ -72,12 +77,14 @@ def of_field(refusal: Refusal) -> Hint | None:
     if column.form is forms.number and refusal.kind in ("limit", "post") and text.lower() in spoiled.TRUTHS:
         if values[-2] == "closed":
             return Hint(f"{text} is a spreadsheet's word, and {TRUTHS}", spoiled.TRUTHS[text.lower()])
+    if text and not seen(text):
+        return Hint(f"{what}: a blank stands here and nothing else, which no eye sees")
     is_thousandths = "thousandths" in what or (column.form is forms.number and values[-2] in ("allowance", "rating"))
     found = (spoiled.of_thousandths(text) if is_thousandths else None) or befell(text, column.form)
     if found is None:
         return of_form(refusal, text)
     fits = found.mended is not None and column.form(found.mended.encode()) not in (None, "")
-    return Hint(joined(what, found.what), found.mended if fits else None)
+    return Hint(joined(what, found.what), found.mended if fits else None, joined("a cell", found.what))
 
 
 def joined(what: str, is_wrong: str) -> str:
@@ -120,9 +127,32 @@ def of_form(refusal: Refusal, text: str) -> Hint | None:
 def of_extra(refusal: Refusal) -> Hint | None:
     """Something in a column that the kind leaves empty."""
     text = refusal.field_text.decode("utf-8", "replace")
-    if text.translate(dict.fromkeys(map(ord, spoiled.UNSEEN))).strip():
+    nothing = f"in a row of the kind {refusal.kind} nothing stands in this column: empty it"
+    if seen(text):
+        return Hint(nothing)
+    return Hint(f"a blank stands here, which no eye sees, and {nothing}", None, BLANK_MORE)
+
+
+def of_another_kind(refusal: Refusal, sheet: Lenient) -> Hint | None:
+    """A name that is there, but is one of another kind."""
+    column, values = column_of(refusal)
+    kind, name = column.referred(values), refusal.field_text.decode("utf-8", "replace")
+    others = [other for other, names in sheet.names.items() if name in names and other != kind]
+    if kind is None or not others or sheet.rows.get((kind, name), 0) > refusal.row:
         return None
-    return Hint(f"a blank stands in a column in which a {refusal.kind} has nothing, and no eye sees it: empty it")
+    if refusal.kind == "post" and refusal.column == POSTED_ON:
+        on = f"{values[POSTED_ON - 1]} is posted on {a_name(SINGULAR[kind])}"
+        return Hint(f"{name} is {a_name(SINGULAR[others[0]])}, and {on}")
+    return Hint(f"{name} is {a_name(SINGULAR[others[0]])}, and this column names {a_name(SINGULAR[kind])}")
+
+
+def seen(text: str) -> str:
+    """What an eye sees of a cell."""
+    return text.translate(dict.fromkeys(map(ord, spoiled.UNSEEN))).strip()
+
+
+def a_name(word: str) -> str:
+    return f"{'an' if word[0] in 'aeiou' else 'a'} {word}"
 
 
 def of_kind(refusal: Refusal, check: bool) -> Hint | None:
@@ -151,7 +181,9 @@ def of_fields(refusal: Refusal) -> Hint | None:
         return Hint(f"{quoted(first)} is a line for spreadsheets, and no row: take it out")
     if len(refusal.record) == 1 and not first.strip():
         return Hint("a line with nothing but blanks: take it out")
-    if len(refusal.record) == 9 and kind_of(refusal.record) in kinds_of_all() and not any(refusal.record[8:]):
+    if len(refusal.record) == 9 and kind_of(refusal.record) in kinds_of_all():
+        if refusal.record[8]:
+            return Hint(f"{quoted(refusal.record[8])} stands in column I, and there are eight columns, A to H")
         return Hint(
             "there are eight columns, A to H, and this row has 9: a comma too many; or something stands in column I, "
             "perhaps of another row"

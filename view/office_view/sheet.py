@@ -2,10 +2,11 @@
 
 The proved program stops at the first refused record. Here each record is judged by what the records above it define,
 where a refused record counts as mended: the name that it was to define is there, also where the cell of that name is
-itself malformed. So no record is named only since one above it is bad. The first cause of each record is the one that
-the second program's reader gives, which is compared with the proved program's.
+itself malformed, or has a name that is there already. So no record is named only since one above it is bad. The first
+cause of each record is the one that the second program's reader gives, which is compared with the proved program's.
 """
 import re
+from collections import Counter
 from collections.abc import Iterator, Sequence
 from dataclasses import dataclass, field
 from typing import Any
@@ -87,10 +88,13 @@ class Lenient(File):
         # the kind of each record, refused or not, and the rows in which names are defined
         self.all_kinds: list[str] = []
         self.rows: dict[tuple[str, str], int] = {}
-        # names that a record of no kind may have meant to define; cells of names that are no names, each with the kind
-        # of name that it was to define, if that is known; and segments of which the ends are not known
-        self.doubted: set[str] = set()
+        # names that a record may have meant to define, each with its kind, if that is known; cells of names that are no
+        # names; how many records meant to define a name that is not known; and names that are taken for one of these
+        self.doubted: set[tuple[str | None, str]] = set()
         self.spoiled: set[tuple[str | None, str]] = set()
+        self.nameless: Counter[str | None] = Counter()
+        self.claimed: set[tuple[str, str]] = set()
+        # segments of which the ends are not known
         self.astray: set[int] = set()
         self.opened = False
         if len(data) > MOST_BYTES:
@@ -187,9 +191,18 @@ class Lenient(File):
 
     def may_be_there(self, kind: str, name: str) -> bool:
         """Whether a name is defined above, or a record above may have meant to define it."""
-        if name in self.names[kind] or name in self.doubted or len(self.spoiled) > MOST_SPOILED:
+        if name in self.names[kind] or {(kind, name), (None, name)} & self.doubted or (kind, name) in self.claimed:
             return True
-        return any(its in (kind, None) and may_mean(text, name) for its, text in self.spoiled)
+        if len(self.spoiled) > MOST_SPOILED:
+            return True
+        if any(its in (kind, None) and may_mean(text, name) for its, text in self.spoiled):
+            return True
+        for its in (kind, None):
+            if self.nameless[its]:
+                self.nameless[its] -= 1
+                self.claimed.add((kind, name))
+                return True
+        return False
 
     def mend(self, record: list[bytes], cause: str) -> None:
         """Takes a refused record as mended: what it was to define is there."""
@@ -208,18 +221,23 @@ class Lenient(File):
             name = forms.name(record[1]) if len(record) > 1 else None
             if name is None:
                 self.doubt(columns[0].defines, record)
+            elif cause == "same":
+                self.nameless[columns[0].defines] += 1
             else:
                 self.define(kind, name, record)
 
     def doubt(self, kind: str | None, record: list[bytes]) -> None:
-        """Keeps what a record may have meant to define: a name, or a cell that is none."""
+        """Keeps what a record may have meant to define: a name, also with blanks or signs at its ends, or a cell of
+        which the name is not known."""
         if len(record) < 2:
             return
-        name = forms.name(record[1])
+        text = record[1].decode("utf-8", "replace")
+        name = forms.name(re.sub("^[^A-Za-z0-9_-]+|[^A-Za-z0-9_-]+$", "", text).encode())
         if name is None:
-            self.spoiled.add((kind, record[1].decode("utf-8", "replace")))
+            self.spoiled.add((kind, text))
+            self.nameless[kind] += kind is not None
         else:
-            self.doubted.add(name)
+            self.doubted.add((kind, name))
 
     def define(self, kind: str, name: str, record: list[bytes]) -> None:
         """A name of a refused record."""

@@ -219,6 +219,15 @@ class Mended(unittest.TestCase):
         self.assertEqual([line[:6] for line in said], ["row 15", "row 19", "in all", "the of"])
         self.assertIn("no actor above is called bob", said[1])
 
+    def test_a_name_that_is_there_already_is_named_alone(self) -> None:
+        # CREEK was copied from DEPOT and not renamed
+        _, said = sheet(GOOD.replace(b"node,CREEK", b"node,DEPOT"), "--no-warnings")
+        self.assertEqual(len(said), 2, said)
+        self.assertTrue(said[0].startswith('row 3, column B "DEPOT": there is a node DEPOT already, in row 2'), said[0])
+        # a row too few stands in for one name, and not for two
+        _, said = sheet(GOOD.replace(b"node,CREEK", b"node,DEPOT").replace(b"node,PLANT,,,,,,\n", b""), "--no-warnings")
+        self.assertIn("no node above is called PLANT", "".join(said))
+
     def test_rows_that_are_no_records_define_too(self) -> None:
         cases = {
             "the text is not in UTF-8": GOOD.replace(b"LOWBOY,ACME", b"LOWBOY,M\xdcLLER"),
@@ -444,8 +453,27 @@ class Cells(unittest.TestCase):
         self.assertIn("is a line for spreadsheets, and no row: take it out", self.of(b"day,", b"sep=,\nday,"))
         self.assertIn("a blank stands behind it, which no eye sees: write node", self.of(b"node,PLANT", b"node ,PLANT"))
         self.assertIn("here is a remark", self.of(b"node,PLANT", b"# the plant,,,,,,,\nnode,PLANT"))
-        self.assertIn("no eye sees it: empty it", self.of(b"node,PLANT,,", b"node,PLANT, ,"))
+        self.assertIn("which no eye sees, and in a row of the kind node", self.of(b"node,PLANT,,", b"node,PLANT, ,"))
         self.assertIn("nothing but blanks", self.of(b"node,PLANT", b"  \nnode,PLANT"))
+
+    def test_a_name_of_another_kind(self) -> None:
+        said = self.of(b"MILL-BR,rating", b"US20-E,rating")
+        self.assertIn("US20-E is a segment, and rating is posted on a span", said)
+        said = self.of(b"RING-E,closed", b"MILL-BR,closed")
+        self.assertIn("MILL-BR is a span, and closed is posted on a segment", said)
+        self.assertIn("VAN is a truck, and this column names an actor", self.of(b"show,ann", b"show,VAN"))
+
+    def test_something_in_column_i(self) -> None:
+        rows = GOOD.replace(b"\n", b",\n").replace(b"63360,,,,", b"63360,,,,long")
+        _, said = sheet(rows)
+        self.assertIn("or something stands in column I", said[0])
+        self.assertEqual(said[1], 'row 9: "long" stands in column I, and there are eight columns, A to H')
+
+    def test_a_space_behind_each_comma(self) -> None:
+        _, said = sheet(GOOD.replace(b",", b", "), "--no-warnings")
+        self.assertLess(len(said), 8)
+        self.assertIn("a blank stands in a column in which nothing is to stand, and no eye sees it", said[0])
+        self.assertIn("a blank stands in front of it, which no eye sees", said[1])
 
     def test_what_is_to_be_written_is_taken(self) -> None:
         cells = (b"63360", b"6336O"), (b"63360", b"'63360 "), (b"1300", b"1.3"), (b"BOLT", b"BOLT" + HARD_SPACE)
