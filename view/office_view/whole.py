@@ -11,7 +11,7 @@ from typing import BinaryIO
 
 from model.records import MOST_BYTES, unmarked
 
-from .command import UNREAD, Fault, shown_path
+from .command import UNREAD, Fault, printable, shown_path
 from .sheet import kind_of, kinds_of_all, plain_kind
 
 SAVE = "save the sheet as CSV, with commas, in UTF-8"
@@ -79,7 +79,8 @@ def separated(text: bytes) -> str | None:
     """Whether the columns are separated by something else than the comma."""
     lines = [line for line in re.split(rb"[\r\n]+", text[:MOST_BYTES // 16])[:LOOKED_AT] if line]
     said = re.fullmatch(rb'"?sep=(.)"?[,;\t]*', lines[0], re.I) if lines else None
-    more = "" if said is None else f", and the first line {lines[0].decode('utf-8', 'replace')} is no row: take it out"
+    first = printable(lines[0].decode("utf-8", "replace")) if lines else ""
+    more = "" if said is None else f", and the first line {first} is no row: take it out"
     rows = lines[said is not None:]
     if sum(re.fullmatch(rb'"[^"]*,[^"]*"', row) is not None for row in rows) * 2 > len(rows):
         return "each row stands in one cell, commas and all: part column A into columns at its commas"

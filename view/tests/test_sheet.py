@@ -276,6 +276,9 @@ class Whole(unittest.TestCase):
             "separated by tabs": GOOD.replace(b",", b"\t"),
             "separated by bars": GOOD.replace(b",", b"|"),
             "and the first line sep=; is no row": b"sep=;\r\n" + GOOD.replace(b",", b";"),
+            "separated by tabs: save the sheet with the comma as separator, and the first line sep=\\t is no row": (
+                b"sep=\t\r\n" + GOOD.replace(b",", b"\t")
+            ),
             "each row stands in one cell": b"".join(b'"%s"\n' % line for line in GOOD.split()),
             "the rows were sorted by column A": b"\n".join(sorted(GOOD.split(b"\n")[:-1])),
         }
