@@ -66,8 +66,8 @@ class Side:
 
     @property
     def body(self) -> float:
-        """How high the truck is on the paper."""
-        return max(self.scale * self.truck.height, 0.3) if self.judgement.trucks == 1 else 0.3
+        """How high the truck is on the paper, or the wheels of a convoy with the numbers of its trucks."""
+        return max(self.scale * self.truck.height, 0.3) if self.judgement.trucks == 1 else self.scale * WHEEL + 0.25
 
     @property
     def rows_high(self) -> float:
@@ -112,11 +112,11 @@ class Side:
 
     def gaps(self, paper: Paper, ground: float) -> None:
         """The trucks of a convoy, and the gaps between them."""
-        count = len(self.truck.axles)
-        paper.text(MARGIN, ground - 0.42, "truck", fontsize=SMALL, color=QUIET)
+        count, above = len(self.truck.axles), ground - self.body
+        paper.text(MARGIN, above, "truck", fontsize=SMALL, color=QUIET)
         for number in range(self.judgement.trucks):
             first, last = (self.at(self.axles[at][0]) for at in (number * count, number * count + count - 1))
-            paper.text((first + last) / 2, ground - 0.42, str(number + 1), ha="center", fontsize=SMALL,
+            paper.text((first + last) / 2, above, str(number + 1), ha="center", fontsize=SMALL,
                        gid=f"truck-{number + 1}")
             if number + 1 < self.judgement.trucks:
                 behind = self.at(self.axles[number * count + count][0])
