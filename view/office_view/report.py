@@ -89,6 +89,8 @@ class Lines:
         self.lines, self.path, self.at = text.split("\n"), path, 0
         if text.startswith("refused: "):
             raise Fault(BAD, f"{path} is no report, but the line of a refusal: {self.lines[0]}")
+        if not text:
+            raise Fault(BAD, f"{path} is empty: no report was written, or it is one of design and there are no probes")
         if not text.endswith("\n"):
             raise Fault(BAD, f"{path} is no whole report: its last line has no line feed")
         self.lines.pop()

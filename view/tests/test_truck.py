@@ -403,6 +403,14 @@ class OtherReports(unittest.TestCase):
         self.assertAlmostEqual(at[1], 163.2, delta=0.01)
         self.assertIn("the rating carries the convoy", picture.text("probe-1-title"))
 
+    def test_without_a_probe_there_is_the_truck_alone(self) -> None:
+        check = LOWBOY[:LOWBOY.index(b"probe")] + b"end,,,,,,,\n"
+        picture = Picture(drawn(check, REPORT[:REPORT.index(b"span")]).stdout)
+        self.assertEqual(picture.root.get("height"), "612pt")
+        self.assertIn("axle-3", picture.parts)
+        told = drawn(check, b"convoy 2 gap 48 axles 6 gross 144000\n")
+        self.assertEqual((told.returncode, Picture(told.stdout).text("truck-2")), (0, "2"))
+
     def test_each_example(self) -> None:
         for name in ("three-loads.design", "two-trucks.convoy"):
             report = EXAMPLES / name
@@ -562,7 +570,8 @@ class BadInput(unittest.TestCase):
 
     def test_what_is_no_report(self) -> None:
         self.refuses(LOWBOY, b"refused: record 1 train 1\n", 5, "the line of a refusal: refused: record 1 train 1")
-        self.refuses(LOWBOY, b"", 5, "its last line has no line feed")
+        self.refuses(LOWBOY, b"", 5, "is empty: no report was written, or it is one of design and there are no probes")
+        self.refuses(LOWBOY, b"refused: convoy 2\n", 5, "the line of a refusal: refused: convoy 2")
         self.refuses(LOWBOY, REPORT[:-1], 5, "its last line has no line feed")
         self.refuses(LOWBOY, b"permit-journal 1\nend 0\n", 5, "line 1 is no line of the kind truck")
         self.refuses(LOWBOY, REPORT.replace(b"shear", b"sheer", 1), 5, "line 11 is no line of the kind shear")
