@@ -74,12 +74,12 @@ def of_field(refusal: Refusal) -> Hint | None:
     column, values = column_of(refusal)
     text = refusal.field_text.decode("utf-8", "replace")
     what = what_of(refusal)
-    if column.form is forms.number and refusal.kind in ("limit", "post") and text.lower() in spoiled.TRUTHS:
-        if values[-2] == "closed":
-            return Hint(f"{text} is a spreadsheet's word, and {TRUTHS}", spoiled.TRUTHS[text.lower()])
+    limit = values[-2] if column.form is forms.number and refusal.kind in ("limit", "post") else None
+    if limit == "closed" and text.lower() in spoiled.TRUTHS:
+        return Hint(f"{text} is a spreadsheet's word, and {TRUTHS}", spoiled.TRUTHS[text.lower()])
     if text and not seen(text):
         return Hint(f"{what}: a blank stands here and nothing else, which no eye sees")
-    is_thousandths = "thousandths" in what or (column.form is forms.number and values[-2] in ("allowance", "rating"))
+    is_thousandths = "thousandths" in what or limit in ("allowance", "rating")
     found = (spoiled.of_thousandths(text) if is_thousandths else None) or befell(text, column.form)
     if found is None:
         return of_form(refusal, text)

@@ -125,7 +125,7 @@ def others(text: str) -> Spoiled | None:
 
 def of_thousandths(text: str) -> Spoiled | None:
     """A number of thousandths that is written as a factor, as 1.3 for 1300."""
-    found = re.fullmatch(r"([0-9]{1,3})[.,]([0-9]{1,3})0*", text)
+    found = re.fullmatch(r"([0-9])[.,]([0-9]{1,3})0*", text)
     if found is None:
         return None
     return Spoiled("it has no point, since it counts thousandths", str(int(found[1] + found[2].ljust(3, "0"))))

@@ -400,7 +400,11 @@ class Cells(unittest.TestCase):
     def test_thousandths(self) -> None:
         for cell in (b"1.3", b"1.300", b"1.30"):
             self.assertIn("has no point, since it counts thousandths: write 1300", self.of(b"1300", cell))
-        self.assertIn("1250", self.of(b"rating,1250", b"rating,1.25"))
+        self.assertIn("since it counts thousandths: write 1250", self.of(b"rating,1250", b"rating,1.25"))
+        self.assertIn("has no separators: write 12500", self.of(b"1300", b'"12,500"'))
+        # a weight in tons, perhaps: what is meant is not said
+        self.assertIn("here is a fraction: round it", self.of(b"1300", b"45.5"))
+        self.assertIn("here is a fraction: round it", self.of(b"RING-E,gross,150000", b"RING-E,gross,75.5"))
 
     def test_words(self) -> None:
         self.assertIn("closed is 1 for closed and 0 for open: write 1", self.of(b"closed,1", b"closed,TRUE"))
