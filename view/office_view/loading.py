@@ -1,5 +1,8 @@
 """What is only drawn of a truck on a simple span, in exact fractions: influence lines, and the envelope of the moment.
 
+The lane load of the design loads covers the whole span, since no influence line of a simple span is below 0 anywhere,
+and its concentrated load stands at the section.
+
 The moment at a section, over all places of a truck, is greatest with some axle at the section: as a function of the
 place it is a chain of straight lines, and it bends downward only where an axle passes the section. So the envelope at
 a section is the greatest of as many moments as the truck has axles. Of HS20-44 the second spacing of 14 ft is the
@@ -8,7 +11,7 @@ axle is farther from it.
 """
 from fractions import Fraction
 
-from model.bridges import HS20, moment
+from model.bridges import HS20, MILITARY, moment
 from model.limits import Axles
 
 DIVISIONS = 48
@@ -45,6 +48,21 @@ def envelope(axles: Axles, inches: int, places: list[Fraction]) -> Points:
     return [(place, max(one_way[place], one_way[inches - place])) for place in places]
 
 
-def design_envelope(inches: int, places: list[Fraction], rating: int) -> Points:
-    """The same of HS20-44, times a rating in thousandths."""
-    return [(place, most * rating / 1000) for place, most in envelope(HS20, inches, places)]
+def reaction(inches: int, section: Fraction, at: Fraction) -> Fraction:
+    """The reaction of a support of a pound at a place; 0 off the span. The section is the support's place."""
+    if not 0 <= at <= inches:
+        return Fraction(0)
+    return 1 - abs(at - section) / inches
+
+
+def lane_moment(inches: int, section: Fraction) -> Fraction:
+    """The moment of the lane load at a section: 640 lb per ft on the whole span, and 18,000 lb at the section."""
+    return section * (inches - section) * (Fraction(640, 12) / 2 + Fraction(18_000, inches))
+
+
+def design_envelope(inches: int, places: list[Fraction], rating: int, all_loads: bool = False) -> Points:
+    """The same of HS20-44, or the greatest of all three design loads, times a rating in thousandths."""
+    loads = [envelope(HS20, inches, places)]
+    if all_loads:
+        loads += [envelope(MILITARY, inches, places), [(place, lane_moment(inches, place)) for place in places]]
+    return [(place, max(points[at][1] for points in loads) * rating / 1000) for at, place in enumerate(places)]

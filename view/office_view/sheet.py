@@ -1,20 +1,31 @@
 """A check file or a day file that is read on behind each record that is refused.
 
 The proved program stops at the first refused record. Here each record is judged by what the records above it define,
-where a refused record counts as mended: the name that it was to define is there. So no record is named only since one
-above it is bad. The first cause of each record is the one that the second program's reader gives, which is compared
-with the proved program's.
+where a refused record counts as mended: the name that it was to define is there, also where the cell of that name is
+itself malformed, or has a name that is there already. So no record is named only since one above it is bad. The first
+cause of each record is the one that the second program's reader gives, which is compared with the proved program's.
 """
-from collections.abc import Sequence
+import re
+from collections import Counter
+from collections.abc import Iterator, Sequence
 from dataclasses import dataclass, field
 from typing import Any
 
 from model import forms
 from model.files import CHECK_KINDS, DAY_KINDS, CheckFile, DayFile, File, Refused, Segment, Span, Values
-from model.records import MOST_BYTES, is_text, placed_records, unmarked
+from model.records import MOST_BYTES, placed_records, unmarked
 from model.trucks import broken_rule
 
 WHOLE_RECORD = ("fields", "kind", "order")
+# what stands between columns where it is not the comma
+OTHER_SEPARATORS = rb"[;\t|]"
+MOST_LETTERS = 16
+# as many letters may stand in place of one that no name has, as ue in place of its umlaut
+MOST_IN_PLACE = 2
+# where more cells than this are no names, each unknown name may be one of them
+MOST_SPOILED = 200
+# no file that the office takes has so many records, and of one with so many mistakes no more are looked for
+MOST_REFUSALS = 10_000
 
 
 @dataclass(frozen=True)
@@ -74,11 +85,22 @@ class Lenient(File):
     def __init__(self, data: bytes) -> None:
         self.refusals: list[Refusal] = []
         self.accepted: list[Accepted] = []
+        # the kind of each record, refused or not, and the rows in which names are defined
+        self.all_kinds: list[str] = []
         self.rows: dict[tuple[str, str], int] = {}
-        # names that a record of no kind may have meant to define, and segments of which the ends are not known
-        self.doubted: set[str] = set()
+        # names that a record may have meant to define, each with its kind, if that is known; cells of names that are no
+        # names; how many records meant to define a name that is not known; and names that are taken for one of these
+        self.doubted: set[tuple[str | None, str]] = set()
+        self.spoiled: set[tuple[str | None, str]] = set()
+        self.nameless: Counter[str | None] = Counter()
+        self.claimed: set[tuple[str, str]] = set()
+        # segments of which the ends are not known
         self.astray: set[int] = set()
         self.opened = False
+        if len(data) > MOST_BYTES:
+            # the file is refused for this alone, and may have been read up to here only
+            self.refusals.append(Refusal(0, 0, "bytes", 6, []))
+            data = b""
         text = unmarked(data)
         self.places = [place for place, _ in placed_records(data)]
         self.lines = line_numbers(text, self.places)
@@ -87,18 +109,23 @@ class Lenient(File):
         except Refused as refused:
             self.note(refused, [])
 
-    def weigh(self, data: bytes) -> None:
-        if len(data) > MOST_BYTES:
-            self.refusals.append(Refusal(0, 0, "bytes", 6, [b"%d" % len(data)]))
-
     def note(self, refused: Refused, record: list[bytes], cause: str | None = None) -> None:
         """Keeps a refusal of the record at which the file is."""
         cause = cause or cause_of(refused)
         line = self.lines[self.row - 1] if self.row <= len(self.lines) else 0
         self.refusals.append(Refusal(self.row, line, cause, refused.status, record))
 
+    @property
+    def is_cut(self) -> bool:
+        """Whether there are so many mistakes that the rest of the file is not looked at."""
+        return len(self.refusals) >= MOST_REFUSALS
+
     def take(self, record: list[bytes]) -> None:
+        if self.is_cut:
+            self.ended = True
+            return
         kind, row = kind_of(record), self.row
+        self.all_kinds.append(plain_kind(kind))
         if kind == self.first and not self.opened and row > 1:
             # what stands above is refused, and the file begins here
             self.row = 1
@@ -160,20 +187,57 @@ class Lenient(File):
         column = self.kinds[kind_of(record)][int(number) - 2]
         kind = column.referred([it.form(text) for it, text in zip(self.kinds[kind_of(record)], record[1:])])
         names = column.names(column.form(record[int(number) - 1]))
-        return kind is not None and all(name in self.names[kind] or name in self.doubted for name in names)
+        return kind is not None and all(self.may_be_there(kind, name) for name in names)
+
+    def may_be_there(self, kind: str, name: str) -> bool:
+        """Whether a name is defined above, or a record above may have meant to define it."""
+        if name in self.names[kind] or {(kind, name), (None, name)} & self.doubted or (kind, name) in self.claimed:
+            return True
+        if len(self.spoiled) > MOST_SPOILED:
+            return True
+        if any(its in (kind, None) and may_mean(text, name) for its, text in self.spoiled):
+            return True
+        for its in (kind, None):
+            if self.nameless[its]:
+                self.nameless[its] -= 1
+                self.claimed.add((kind, name))
+                return True
+        return False
 
     def mend(self, record: list[bytes], cause: str) -> None:
         """Takes a refused record as mended: what it was to define is there."""
-        kind = kind_of(record)
-        if kind.strip().lower().startswith("end") and cause != "order":
+        if len(record) == 1 and re.search(OTHER_SEPARATORS, record[0]):
+            record = re.split(OTHER_SEPARATORS, record[0])
+        kind = plain_kind(kind_of(record))
+        if kind.startswith("end") and cause != "order":
             self.ended = True
-        name = forms.name(record[1]) if len(record) > 1 else None
-        if name is None or not is_text(record):
+        for line in swallowed(record):
+            self.ended = self.ended or plain_kind(kind_of(line)) == "end"
+            self.doubt(None, line)
+        columns = self.kinds.get(kind)
+        if columns is None:
+            self.doubt(None, record)
+        elif columns and columns[0].defines:
+            name = forms.name(record[1]) if len(record) > 1 else None
+            if name is None:
+                self.doubt(columns[0].defines, record)
+            elif cause == "same":
+                self.nameless[columns[0].defines] += 1
+            else:
+                self.define(kind, name, record)
+
+    def doubt(self, kind: str | None, record: list[bytes]) -> None:
+        """Keeps what a record may have meant to define: a name, also with blanks or signs at its ends, or a cell of
+        which the name is not known."""
+        if len(record) < 2:
             return
-        if kind not in self.kinds:
-            self.doubted.add(name)
-        elif self.kinds[kind] and self.kinds[kind][0].defines:
-            self.define(kind, name, record)
+        text = record[1].decode("utf-8", "replace")
+        name = forms.name(re.sub("^[^A-Za-z0-9_-]+|[^A-Za-z0-9_-]+$", "", text).encode())
+        if name is None:
+            self.spoiled.add((kind, text))
+            self.nameless[kind] += kind is not None
+        else:
+            self.doubted.add((kind, name))
 
     def define(self, kind: str, name: str, record: list[bytes]) -> None:
         """A name of a refused record."""
@@ -209,6 +273,37 @@ class DaySheet(Lenient, DayFile):
         return any(number in self.astray for number in route) or super().is_walk(route, start, end)
 
 
+def plain_kind(kind: str) -> str:
+    """A kind as it is most likely meant: in small letters, and with nothing but letters."""
+    return re.sub("[^a-z]", "", kind.lower())
+
+
+def swallowed(record: list[bytes]) -> Iterator[list[bytes]]:
+    """The lines that a record takes in, where a quote is opened in it and not closed in its line."""
+    for text in record:
+        for line in re.split(rb"[\r\n]+", text)[1:]:
+            yield line.split(b",")
+
+
+def may_mean(text: str, name: str) -> bool:
+    """Whether a cell that is no name may have to be mended to this name.
+
+    The letters that a name may have are those of the name, in their order. In place of another letter the name has up
+    to two. Of a text that is too long the name may be a part. A cell that is empty may mean any name.
+    """
+    kept = re.sub("[^A-Za-z0-9_-]", "", text)
+    others = len(text) - len(kept)
+    if len(kept) > MOST_LETTERS:
+        return is_part(name, kept)
+    return not kept or (is_part(kept, name) and len(name) - len(kept) <= MOST_IN_PLACE * others)
+
+
+def is_part(part: str, whole: str) -> bool:
+    """Whether the letters of the one stand in the other, in their order."""
+    letters = iter(whole)
+    return all(letter in letters for letter in part)
+
+
 def cause_of(refused: Refused) -> str:
     """The cause in the line of a refusal: what stands behind `refused: record ROW`."""
     words = refused.line.split()
@@ -228,9 +323,9 @@ def line_numbers(text: bytes, places: list[int]) -> list[int]:
 
 
 def is_check(data: bytes) -> bool:
-    """Whether a file says that it is a check file: its first record is a truck."""
+    """Whether a file says that it is a check file: its first record is a truck, or is meant as one."""
     first = next(iter(placed_records(data[:4096])), (0, [b""]))[1]
-    return first[0] == b"truck"
+    return first[0] == b"truck" or plain_kind(kind_of(first)) == "truck"
 
 
 def read_sheet(data: bytes, check: bool) -> Lenient:

@@ -1,11 +1,62 @@
 """Tests of view/sheet: what is said of each row, and how it ends."""
 import pathlib
 import subprocess
+import tempfile
 import unittest
 
 from support import EXAMPLES, VIEW, check_examples, day_examples, ran
 
-GOOD = (EXAMPLES / "template.csv").read_bytes()
+# a good day in which something of each kind stands; tests say its rows by their numbers
+GOOD = b"""day,2026-03-02,,,,,,
+node,DEPOT,,,,,,
+node,CREEK,,,,,,
+node,PLANT,,,,,,
+segment,US20-E,DEPOT,CREEK,26400,,,
+segment,US20-W,CREEK,DEPOT,26400,,,
+segment,SR7-N,CREEK,PLANT,15840,,,
+segment,SR7-S,PLANT,CREEK,15840,,,
+segment,RING-E,DEPOT,PLANT,63360,,,
+limit,SR7-N,height,172,,,,
+limit,RING-E,gross,150000,,,,
+span,MILL-BR,US20-E,480,1300,,,
+truck,LOWBOY,ACME,168,120,780,0:12000 180:30000 234:30000,
+truck,VAN,BOLT,160,102,636,0:12000 180:17000 228:17000,
+actor,ann,,,,,,
+apply,ann,VAN,DEPOT,PLANT,,2026-03-02,2026-03-06
+apply,ann,LOWBOY,DEPOT,PLANT,,2026-03-02,2026-03-06
+post,ann,MILL-BR,rating,1250,,,
+show,ann,1,,,,,
+apply,ann,LOWBOY,DEPOT,PLANT,US20-E SR7-N,2026-03-03,2026-03-06
+apply,ann,LOWBOY,DEPOT,PLANT,,2026-03-03,2026-03-06
+post,ann,RING-E,closed,1,,,
+apply,ann,LOWBOY,DEPOT,PLANT,,2026-03-03,2026-03-06
+apply,ann,LOWBOY,PLANT,DEPOT,,2026-03-03,2026-03-06
+post,ann,RING-E,closed,0,,,
+apply,ann,LOWBOY,DEPOT,PLANT,,2026-03-03,2026-03-06
+setday,ann,2026-03-04,,,,,
+apply,ann,LOWBOY,DEPOT,PLANT,,2026-03-03,2026-03-06
+surrender,ann,4,,,,,
+show,ann,4,,,,,
+end,,,,,,,
+"""
+# a road in both directions, with a bridge on both
+TWO_WAYS = b"""day,2026-03-02,,,,,,
+node,A,,,,,,
+node,B,,,,,,
+segment,S-E,A,B,26400,,,
+segment,S-W,B,A,26400,,,
+span,MILL-E,S-E,480,1300,,,
+span,MILL-W,S-W,480,1300,,,
+truck,VAN,BOLT,170,102,636,0:12000 180:17000 228:17000,
+actor,ann,,,,,,
+apply,ann,VAN,A,B,,2026-03-02,2026-03-06
+apply,ann,VAN,B,A,,2026-03-02,2026-03-06
+post,ann,S-E,closed,1,,,
+post,ann,S-W,closed,1,,,
+show,ann,2,,,,,
+end,,,,,,,
+"""
+HARD_SPACE = "\u00a0".encode()
 
 
 def sheet(data: bytes, *words: str) -> tuple[int, list[str]]:
@@ -35,14 +86,12 @@ class Refusals(unittest.TestCase):
             self.assertEqual((status, said[-1]), (0, "the office takes this file"), file.name)
 
     def test_names_a_carrier_with_a_space(self) -> None:
-        status, said = sheet(GOOD.replace(b",ACME,", b",ACME Inc,"))
+        status, said = sheet(GOOD.replace(b",ACME,", b",ACME Inc,"), "--no-warnings")
         self.assertEqual(status, 5)
         self.assertEqual(
             said,
             [
                 'row 13, column C "ACME Inc": a carrier is a name: letters, digits, - and _, no spaces',
-                'warning: row 28, column G "2026-03-03": the office\'s day is 2026-03-04 by then, so that the answer '
-                "will be late",
                 "the office would write: refused: record 13 field 3",
             ],
         )
@@ -84,17 +133,17 @@ class Refusals(unittest.TestCase):
         self.assertEqual(
             [line.split(":")[0] for line in said],
             [
-                'row 5, column E "26,400"',
-                'row 6, column E "26,400"',
+                'rows 5 and 6, column E "26,400"',
                 'row 12, column E "1300 "',
                 'row 12, column D "4800000"',
                 'row 16, column H "3/6/26"',
+                "in all 5 mistakes in 4 rows",
                 "the office would write",
             ],
         )
         self.assertIn("has no separators: write 26400", said[0])
-        self.assertIn("is 1 to 6,000", said[3])
-        self.assertIn("YYYY-MM-DD", said[4])
+        self.assertIn("is 1 to 6,000", said[2])
+        self.assertIn("YYYY-MM-DD", said[3])
 
     def test_does_not_name_rows_for_a_name_that_a_refused_row_defines(self) -> None:
         _, said = sheet(GOOD.replace(b"node,CREEK,,", b"nodes,CREEK,,"), "--no-warnings")
@@ -129,10 +178,6 @@ class Refusals(unittest.TestCase):
             self.assertEqual(status, 5, words)
             self.assertIn(words, said[0], said[0])
 
-    def test_says_a_run_of_rows_in_one_line(self) -> None:
-        _, said = sheet(GOOD.replace(b",", b";"), "--no-warnings")
-        self.assertTrue(said[0].startswith(f"rows 1 to {GOOD.count(bytes([10]))}: "), said[0])
-
     def test_says_the_line_of_the_file_where_it_is_another(self) -> None:
         _, said = sheet(b"\n\n" + GOOD.replace(b",ACME,", b",ACME Inc,"))
         self.assertTrue(said[0].startswith("row 13 (line 15 of the file), column C"), said[0])
@@ -144,6 +189,307 @@ class Refusals(unittest.TestCase):
         self.assertIn(b'column C "\\x1b[2J\\u202e"', told.stdout)
 
 
+class Mended(unittest.TestCase):
+    """A malformed cell that defines a name counts as mended for the rows below."""
+
+    def test_a_cell_that_defines_a_name_is_named_alone(self) -> None:
+        cells = {
+            b"ann" + HARD_SPACE: "a hard space stands behind it, which no eye sees: write ann",
+            b"ann ": "a blank stands behind it, which no eye sees: write ann",
+            b"'ann": "an apostrophe stands in front",
+            b"": "the name of an actor is missing",
+            "\u200bann".encode(): "a letter stands in it that no eye sees: write ann",
+        }
+        for cell, words in cells.items():
+            _, said = sheet(GOOD.replace(b"actor,ann,", b"actor," + cell + b","), "--no-warnings")
+            self.assertEqual(len(said), 2, said)
+            self.assertTrue(said[0].startswith("row 15, column B "), said[0])
+            self.assertIn(words, said[0])
+
+    def test_a_name_that_is_too_long_or_has_another_letter(self) -> None:
+        for cell, used in ((b"CREEKSIDE-AND-MILL-POND", b"CREEK"), ("CRÉEK".encode(), b"CREEK"), (b"CR.K", b"CREEK")):
+            data = GOOD.replace(b"CREEK", used).replace(b"node," + used, b"node," + cell)
+            _, said = sheet(data, "--no-warnings")
+            self.assertEqual(len(said), 2, said)
+            self.assertTrue(said[0].startswith("row 3, column B "), said[0])
+
+    def test_another_name_is_still_named(self) -> None:
+        data = GOOD.replace(b"actor,ann,", b"actor,ann" + HARD_SPACE + b",").replace(b"show,ann,1,", b"show,bob,1,")
+        _, said = sheet(data, "--no-warnings")
+        self.assertEqual([line[:6] for line in said], ["row 15", "row 19", "in all", "the of"])
+        self.assertIn("no actor above is called bob", said[1])
+
+    def test_a_name_that_is_there_already_is_named_alone(self) -> None:
+        # CREEK was copied from DEPOT and not renamed
+        _, said = sheet(GOOD.replace(b"node,CREEK", b"node,DEPOT"), "--no-warnings")
+        self.assertEqual(len(said), 2, said)
+        self.assertTrue(said[0].startswith('row 3, column B "DEPOT": there is a node DEPOT already, in row 2'), said[0])
+        # a row too few stands in for one name, and not for two
+        _, said = sheet(GOOD.replace(b"node,CREEK", b"node,DEPOT").replace(b"node,PLANT,,,,,,\n", b""), "--no-warnings")
+        self.assertIn("no node above is called PLANT", "".join(said))
+
+    def test_rows_that_are_no_records_define_too(self) -> None:
+        cases = {
+            "the text is not in UTF-8": GOOD.replace(b"LOWBOY,ACME", b"LOWBOY,M\xdcLLER"),
+            "separated by semicolons": GOOD.replace(b"node,CREEK,,,,,,", b"node;CREEK;;;;;;"),
+            "a quote is opened": GOOD.replace(b"node,CREEK", b'"node,CREEK'),
+            "written in small letters: write node": GOOD.replace(b"node,CREEK", b"Node,CREEK"),
+        }
+        for words, data in cases.items():
+            _, said = sheet(data, "--no-warnings")
+            self.assertEqual(len(said), 2, said)
+            self.assertIn(words, said[0])
+
+    def test_refused_applications_count_where_permits_are_numbered(self) -> None:
+        # the fourth permit is that of the fourth application, of which the first is refused here
+        rows = [b"apply,ann,VAN,A,B,,2026-03-02,3/6/26", b"show,ann,3,,,,,", b"show,ann,4,,,,,", b"end,"]
+        _, said = sheet(TWO_WAYS.replace(b"end,", b"\n".join(rows), 1))
+        warned = [line for line in said if "no permit has this number" in line]
+        self.assertEqual(len(warned), 1, said)
+        self.assertIn('row 17, column C "4"', warned[0])
+        self.assertIn("above are 3 applications", warned[0])
+
+    def test_a_refused_actor_works_at_once_with_the_others(self) -> None:
+        _, said = sheet(TWO_WAYS.replace(b"actor,ann,", b"actor,b b,,,,,,\nactor,ann,"))
+        self.assertIn("2 actors work at once", "".join(said))
+
+    def test_behind_a_refused_day_no_day_is_known(self) -> None:
+        later = b"apply,ann,VAN,A,B,,2026-03-03,2026-03-06\n"
+        for day, is_warned in ((b"2026-03-05", True), (b"3/5/26", False)):
+            _, said = sheet(TWO_WAYS.replace(b"end,", b"setday,ann," + day + b",,,,,\n" + later + b"end,"))
+            self.assertEqual("the answer will be late" in "".join(said), is_warned, said)
+
+
+class Whole(unittest.TestCase):
+    """What is said of a file as a whole is all that is said."""
+
+    def test_a_verdict_on_the_file_ends_the_list(self) -> None:
+        cases = {
+            "this is a workbook of a spreadsheet (xlsx, ods)": b"PK\x03\x04" + bytes(range(256)) * 40,
+            "this is a workbook of an old spreadsheet": b"\xd0\xcf\x11\xe0" + bytes(range(256)) * 40,
+            "compressed by gzip": b"\x1f\x8b\x08" + b"\n,,\n" * 90,
+            "this is a picture": b"\x89PNG\r\n\x1a\n" + b"\n,,\n" * 90,
+            "in HTML or XML": b"<!DOCTYPE html>\n<html><table>\n" + GOOD,
+            "the text is in UTF-16": GOOD.decode().encode("utf-16"),
+            "the text is in UTF-16, not in UTF-8": GOOD.decode().encode("utf-16-be"),
+            "separated by semicolons: save the sheet with the comma as separator": GOOD.replace(b",", b";"),
+            "separated by tabs": GOOD.replace(b",", b"\t"),
+            "separated by bars": GOOD.replace(b",", b"|"),
+            "and the first line sep=; is no row": b"sep=;\r\n" + GOOD.replace(b",", b";"),
+            "separated by tabs: save the sheet with the comma as separator, and the first line sep=\\t is no row": (
+                b"sep=\t\r\n" + GOOD.replace(b",", b"\t")
+            ),
+            "each row stands in one cell": b"".join(b'"%s"\n' % line for line in GOOD.split()),
+            "the rows were sorted by column A": b"\n".join(sorted(GOOD.split(b"\n")[:-1])),
+        }
+        for words, data in cases.items():
+            status, said = sheet(data, "--day")
+            self.assertEqual((status, len(said)), (5, 2), said)
+            self.assertIn(words, said[0])
+            self.assertTrue(said[1].startswith("the office would write: refused: record 1 "), said)
+
+    def test_a_file_of_a_byte_too_many(self) -> None:
+        more = GOOD + b"\n" * (4194304 - len(GOOD))
+        self.assertEqual(sheet(more, "--no-warnings"), (0, ["the office takes this file"]))
+        with tempfile.NamedTemporaryFile() as file:
+            file.write(more + b"\n")
+            file.flush()
+            told = ran("sheet", file.name)
+        self.assertEqual(told.returncode, 6)
+        self.assertEqual(
+            told.stdout,
+            b"a file has at most 4,194,304 bytes, and this one has 4,194,305 bytes: split it\n"
+            b"the office would write: refused: bytes\n",
+        )
+
+    def test_what_is_too_large_is_not_read_to_its_end(self) -> None:
+        if pathlib.Path("/dev/zero").exists():
+            told = ran("sheet", "/dev/zero")
+            self.assertEqual((told.returncode, told.stdout.count(b"\n")), (6, 2))
+            self.assertIn(b"and this one has more bytes than that", told.stdout)
+
+
+class Folded(unittest.TestCase):
+    def test_equal_causes_are_one_line_with_a_count(self) -> None:
+        _, said = sheet(GOOD.replace(b"2026-03-06", b"3/6/26"), "--no-warnings")
+        self.assertEqual(len(said), 2, said)
+        # its applications stand in these rows
+        self.assertTrue(said[0].startswith("rows 16, 17, 20, 21, 23, 24, 26 and 1 more (8 rows), column H "), said[0])
+
+    def test_values_that_differ_are_one_mistake(self) -> None:
+        data = GOOD.replace(b"26400", b'"26,400"').replace(b"15840", b'"15,840"')
+        _, said = sheet(data, "--no-warnings")
+        self.assertEqual(
+            said[0],
+            'rows 5 to 8, column E, first "26,400": a length in feet has no separators: write 26400 there',
+        )
+
+    def test_many_names_are_one_line(self) -> None:
+        nodes = b"".join(b"segment,S%d,A%d,B%d,1,,,\n" % (at, at, at) for at in range(300))
+        _, said = sheet(b"day,2026-03-02,,,,,,\n" + nodes + b"end,,,,,,,\n")
+        self.assertEqual(
+            said[:2],
+            [
+                'rows 2 to 301, columns C and D, first "A0": no node above is called so: capitals count, and names are '
+                "defined above the rows that use them",
+                "the office would write: refused: record 2 unknown 3",
+            ],
+        )
+
+    def test_at_most_fifty_lines_and_a_total(self) -> None:
+        rows = b"".join(b"limit,S-E,height,%d,,,,\n" % at for at in range(170, 240))
+        _, said = sheet(TWO_WAYS.replace(b"span,MILL-E", rows + b"span,MILL-E"))
+        self.assertEqual(len(said), 52)
+        # the first of 70 is no second one, and the stretch of the other way has no such limit
+        self.assertEqual(said[50], "left out here: 20 lines; in all 139 warnings")
+        self.assertEqual(said[51], "the office takes this file")
+
+    def test_a_file_of_nothing_but_mistakes_is_not_looked_through(self) -> None:
+        _, said = sheet(b"x\n" * 50000)
+        self.assertEqual(len(said), 3)
+        self.assertIn("in all 10,000 mistakes in 10,000 rows; behind them nothing was looked at", said[1])
+
+
+class Cells(unittest.TestCase):
+    """What spreadsheets and hands do to a cell is called by its name, and what to write is said where it is certain."""
+
+    def of(self, old: bytes, new: bytes) -> str:
+        self.assertIn(old, GOOD)
+        status, said = sheet(GOOD.replace(old, new, 1), "--no-warnings")
+        self.assertEqual((status, len(said)), (5, 2), said)
+        return said[0]
+
+    def test_numbers(self) -> None:
+        cases = {
+            b"=5280*12": "a length in feet: here is a formula, and not what it gives: paste its value in its place",
+            b"#REF!": "#REF! is what a spreadsheet shows for a formula without a value: write the value itself",
+            b"#N/A": "#N/A is what a spreadsheet shows",
+            b"Err:502": "Err:502 is what a spreadsheet shows",
+            b"#####": "the column was too narrow to show what stands in it: make it wider and save again",
+            b"TRUE": "TRUE is a spreadsheet's word, and no number",
+            b"63360 ": "a blank stands behind it, which no eye sees: write 63360",
+            b" 63360": "a blank stands in front of it, which no eye sees: write 63360",
+            b"63360" + HARD_SPACE: "a hard space stands behind it, which no eye sees: write 63360",
+            b"63360\t": "a tab stands behind it, which no eye sees: write 63360",
+            b"6336O": "the letter O stands among its digits: write 63360",
+            b"6336l": "the letter l stands among its digits: write 63361",
+            b"'63360": "an apostrophe stands in front, which some spreadsheets save with the text: write 63360",
+            b"63360.00": "is a whole number, with nothing behind a point: write 63360",
+            b"63360.50": "is a whole number, and here is a fraction: round it",
+            b"63.360": "with no point: write 63360 where the point parts thousands, and else round it",
+            b"63 360": "has no separators: write 63360",
+            b"'63,360'": "an apostrophe stands in front, which some spreadsheets save with the text, and it has no",
+            b"63360 ft": "has no unit behind it: digits alone",
+            b"12mi": "has no unit behind it: digits alone",
+            b"6.336E+04": "a spreadsheet wrote it as a power of ten, perhaps rounded: write 63360",
+            b"-63360": "has no sign",
+            b"2026-03-02": "here is a day, and no number",
+            b"12%": "is no number of per cent",
+            b"1234567890": "has at most 9 digits, and here are 10",
+            "\u0666\u0663".encode(): "its digits are those of another script",
+            "63360 §".encode(): "is a number: one to nine digits, and nothing else",
+            b"63360x2": "is a number: one to nine digits, no signs",
+            b"far": "one to nine digits",
+        }
+        for cell, words in cases.items():
+            said = self.of(b"63360", cell if b"," not in cell else b'"' + cell + b'"')
+            self.assertTrue(said.startswith("row 9, column E "), said)
+            self.assertIn(words, said)
+            self.assertEqual("has no unit" in said, "unit" in words, said)
+
+    def test_thousandths(self) -> None:
+        for cell in (b"1.3", b"1.300", b"1.30"):
+            self.assertIn("has no point, since it counts thousandths: write 1300", self.of(b"1300", cell))
+        self.assertIn("since it counts thousandths: write 1250", self.of(b"rating,1250", b"rating,1.25"))
+        self.assertIn("has no separators: write 12500", self.of(b"1300", b'"12,500"'))
+        # a weight in tons, perhaps: what is meant is not said
+        self.assertIn("here is a fraction: round it", self.of(b"1300", b"45.5"))
+        self.assertIn("here is a fraction: round it", self.of(b"RING-E,gross,150000", b"RING-E,gross,75.5"))
+
+    def test_words(self) -> None:
+        self.assertIn("closed is 1 for closed and 0 for open: write 1", self.of(b"closed,1", b"closed,TRUE"))
+        self.assertIn("closed is 1 for closed and 0 for open: write 0", self.of(b"closed,0", b"closed,false"))
+        self.assertIn("is written in small letters: write height", self.of(b"SR7-N,height", b"SR7-N,Height"))
+        self.assertIn("a blank stands behind it, which no eye sees: write height", self.of(b"height,", b"height ,"))
+
+    def test_names(self) -> None:
+        cases = {
+            b" BOLT": "a blank stands in front of it, which no eye sees: write BOLT",
+            "BOLT\u2013A".encode(): "here is a longer dash than -: write BOLT-A",
+            "BÖLT".encode(): "has the letters A to Z, digits, - and _ alone, and not Ö",
+            b"BOLT&CO": "digits, - and _ alone, and not &",
+            b"BOLT CO": "is a name: letters, digits, - and _, no spaces",
+            b"B" * 17: "at most 16 letters, digits, - and _, and this has 17",
+            b"=B2": "here is a formula",
+        }
+        for cell, words in cases.items():
+            self.assertIn(words, self.of(b"BOLT", cell))
+
+    def test_days(self) -> None:
+        cases = {
+            b"2026-3-2": "its month and day have two digits, with - between: write 2026-03-02",
+            b"2026/03/02": "write 2026-03-02",
+            b"2026-03-02 00:00:00": "has no time of day: write 2026-03-02",
+            b"46083": "here is a spreadsheet's own number of a day",
+            b"03/02/26": "is written YYYY-MM-DD, as 2026-03-02: set the column to the format Text",
+            b"": "an opening day is missing",
+        }
+        for cell, words in cases.items():
+            said = self.of(b"day,2026-03-02", b"day," + cell)
+            self.assertIn(words, said)
+            self.assertEqual(words.endswith("2026-03-02") and "write" in words, said.endswith("write 2026-03-02"))
+
+    def test_axles(self) -> None:
+        axles = b"0:12000 180:30000 234:30000"
+        cases = {
+            b"0:12000  180:30000 234:30000": "here are two spaces side by side: write 0:12000 180:30000 234:30000",
+            b"0:12000;180:30000;234:30000": "one space stands between two pairs, and here is another sign: write 0:120",
+            b"0:12000" + HARD_SPACE + b"180:30000 234:30000": "a hard space or a tab stands in it: write 0:12000 180:3",
+            b'"0:12,000 180:30000 234:30000"': 'in pair 1, "0:12,000", a number has no separators',
+            b"0:12000 180 234:30000": 'pair 2 is "180", with no colon',
+            b"0:12000 180: 234:30000": 'in pair 2, "180:", a number is missing',
+            b"0:12000 180:3OOOO 234:30000": "the letter O stands among its digits",
+        }
+        for cell, words in cases.items():
+            self.assertIn(words, self.of(axles, cell))
+
+    def test_kinds_and_rows(self) -> None:
+        mark = b"\xef\xbb\xbf"
+        self.assertIn("a second byte order mark stands in front of the file", self.of(b"day,", mark + mark + b"day,"))
+        self.assertIn("a byte order mark stands here", self.of(b"node,PLANT", mark + b"node,PLANT"))
+        self.assertIn("is a line for spreadsheets, and no row: take it out", self.of(b"day,", b"sep=,\nday,"))
+        self.assertIn("a blank stands behind it, which no eye sees: write node", self.of(b"node,PLANT", b"node ,PLANT"))
+        self.assertIn("here is a remark", self.of(b"node,PLANT", b"# the plant,,,,,,,\nnode,PLANT"))
+        self.assertIn("which no eye sees, and in a row of the kind node", self.of(b"node,PLANT,,", b"node,PLANT, ,"))
+        self.assertIn("nothing but blanks", self.of(b"node,PLANT", b"  \nnode,PLANT"))
+
+    def test_a_name_of_another_kind(self) -> None:
+        said = self.of(b"MILL-BR,rating", b"US20-E,rating")
+        self.assertIn("US20-E is a segment, and rating is posted on a span", said)
+        said = self.of(b"RING-E,closed", b"MILL-BR,closed")
+        self.assertIn("MILL-BR is a span, and closed is posted on a segment", said)
+        self.assertIn("VAN is a truck, and this column names an actor", self.of(b"show,ann", b"show,VAN"))
+
+    def test_something_in_column_i(self) -> None:
+        rows = GOOD.replace(b"\n", b",\n").replace(b"63360,,,,", b"63360,,,,long")
+        _, said = sheet(rows)
+        self.assertIn("or something stands in column I", said[0])
+        self.assertEqual(said[1], 'row 9: "long" stands in column I, and there are eight columns, A to H')
+
+    def test_a_space_behind_each_comma(self) -> None:
+        _, said = sheet(GOOD.replace(b",", b", "), "--no-warnings")
+        self.assertLess(len(said), 8)
+        self.assertIn("a blank stands in a column in which nothing is to stand, and no eye sees it", said[0])
+        self.assertIn("a blank stands in front of it, which no eye sees", said[1])
+
+    def test_what_is_to_be_written_is_taken(self) -> None:
+        cells = (b"63360", b"6336O"), (b"63360", b"'63360 "), (b"1300", b"1.3"), (b"BOLT", b"BOLT" + HARD_SPACE)
+        for old, new in cells:
+            said = self.of(old, new)
+            instead = said.rpartition("write ")[2].encode()
+            self.assertEqual(sheet(GOOD.replace(old, instead, 1), "--no-warnings")[0], 0, said)
+
+
 class Warned(unittest.TestCase):
     def warned(self, data: bytes) -> str:
         status, said = sheet(data)
@@ -151,6 +497,7 @@ class Warned(unittest.TestCase):
         return "\n".join(line for line in said if line.startswith("warning: "))
 
     def test_warns_of_what_is_hardly_meant(self) -> None:
+        good = self.warned(GOOD)
         cases = {
             'row 12, column D "40": a span of 3 ft 4 in': GOOD.replace(b"480,1300", b"40,1300"),
             'row 12, column E "13"': GOOD.replace(b"480,1300", b"480,13"),
@@ -176,7 +523,28 @@ class Warned(unittest.TestCase):
         }
         for words, data in cases.items():
             self.assertIn(words, self.warned(data))
-            self.assertNotIn(words, self.warned(GOOD))
+            self.assertNotIn(words, good)
+
+    def test_warns_of_what_stands_on_one_of_two_ways(self) -> None:
+        self.assertEqual(self.warned(TWO_WAYS), "")
+        height = b"limit,S-W,height,168,,,,\n"
+        cases = (
+            ('row 6, column C "S-E": S-W leads the other way and has no span', b"span,MILL-W,S-W,480,1300,,,\n", b""),
+            ('row 6, column C "S-W": S-E leads the other way and has no span', b"span,MILL-E,S-E,480,1300,,,\n", b""),
+            ('"S-E": S-W leads the other way, and its closed is never set', b"post,ann,S-W,closed,1,,,\n", b""),
+            ('row 6, column B "S-W": S-E leads the other way, and its height', b"span,", height + b"span,"),
+            ("no rating is posted on its spans", b"post,ann,S-E,closed,1", b"post,ann,MILL-E,rating,900"),
+        )
+        for words, old, new in cases:
+            self.assertIn(words, self.warned(TWO_WAYS.replace(old, new, 1)))
+
+    def test_a_road_in_one_direction_is_warned_of_nowhere(self) -> None:
+        # RING-E has no stretch of the other way
+        self.assertNotIn('"RING-E"', self.warned(GOOD))
+
+    def test_a_refused_span_counts_on_the_other_way(self) -> None:
+        _, said = sheet(TWO_WAYS.replace(b"S-W,480,1300", b"S-W,480,1300.5"))
+        self.assertEqual([line for line in said if line.startswith("warning")], [])
 
     def test_warns_of_nothing_where_it_is_not_asked_to(self) -> None:
         _, said = sheet(GOOD, "--no-warnings")
