@@ -67,22 +67,6 @@ def read(path: str) -> bytes:
         raise Fault(UNREAD, f"{shown_path(path)} cannot be read: {fault.strerror}") from fault
 
 
-def write(path: str | None, data: bytes) -> None:
-    """Writes to a file, or to standard output where there is no path. Nothing is written before all of it is there."""
-    try:
-        if path is None:
-            sys.stdout.buffer.write(data)
-            sys.stdout.buffer.flush()
-            return
-        with open(path, "wb") as file:
-            file.write(data)
-    except BrokenPipeError:
-        raise
-    except OSError as fault:
-        shown = shown_path(path or "standard output")
-        raise Fault(UNWRITTEN, f"{shown} cannot be written: {fault.strerror}") from fault
-
-
 def shown_path(path: str) -> str:
     """A path as it may be shown: what a terminal would obey is escaped."""
     return "standard input" if path == "-" else printable(path)

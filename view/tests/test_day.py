@@ -30,6 +30,15 @@ JOURNAL = (EXAMPLES / "template.journal").read_bytes()
 TRIDEM = (EXAMPLES / "tridem.journal").read_bytes()
 ANNUAL_DAY = (EXAMPLES / "annual.csv").read_bytes()
 ANNUAL = (EXAMPLES / "annual.journal").read_bytes()
+# the postings of the template: where, what, and to which value
+POSTINGS = [
+    [0, "rating", 1250],
+    [1, "rating", 1250],
+    [4, "closed", 1],
+    [5, "closed", 1],
+    [4, "closed", 0],
+    [5, "closed", 0],
+]
 # what the truck of the template has on its bridge, what is carried, the difference, and its part in a hundred
 CARRIED = (
     "moment 6,752,109 lb·in, the bridge carries 6,747,000 lb·in (a rating of 1,250 thousandths of HS20-44), "
@@ -151,18 +160,20 @@ class Content(unittest.TestCase):
         shown = self.compare(DAY, JOURNAL)
         self.assertEqual(
             shown.rows["answer-2"][1],
-            f"Refused: US20-E, bridge MILL-BR: {CARRIED} (at version 1)",
+            f"Refused: US20-E, bridge MILL-BR-E: {CARRIED} (at version 2)",
         )
         self.assertEqual(
             shown.rows["answer-3"][1],
             "Refused: No way is open to it. Of the roads that lead on from where it can come, the first in the day "
-            f"file is US20-E, bridge MILL-BR: {CARRIED} (at version 2)",
+            f"file is US20-E, bridge MILL-BR-E: {CARRIED} (at version 4)",
         )
+        self.assertTrue(shown.rows["answer-4"][1].endswith(f"US20-W, bridge MILL-BR-W: {CARRIED} (at version 4)"))
         self.assertEqual(
             shown.rows["permit-1"][1],
-            f"Recalled by posting 1: bridge MILL-BR on US20-E has a rating of 1,250 thousandths of HS20-44; {CARRIED}",
+            "Recalled by posting 1: bridge MILL-BR-E on US20-E has a rating of 1,250 thousandths of HS20-44; "
+            f"{CARRIED}",
         )
-        self.assertEqual(shown.rows["permit-2"][1], "Recalled by posting 2: RING-E is closed")
+        self.assertEqual(shown.rows["permit-3"][1], "Recalled by posting 3: RING-E is closed")
         self.assertEqual(shown.rows["posting-1"][2], "1,300 thousandths of HS20-44")
 
     def test_an_annual_permit_shows_all_its_routes(self) -> None:
@@ -192,9 +203,10 @@ class Content(unittest.TestCase):
         data = json.loads(Shown(page(DAY, JOURNAL).stdout).data)
         self.assertEqual(data["nodes"], ["DEPOT", "CREEK", "PLANT"])
         self.assertEqual(data["segments"][2], ["SR7-N", 1, 2])
-        self.assertEqual(data["postings"], [[0, "rating", 1250], [4, "closed", 1], [4, "closed", 0]])
+        self.assertEqual(data["postings"], POSTINGS)
         self.assertEqual(len(data["places"] or data["nodes"]), 3)
-        self.assertEqual(data["cuts"], [[0]])
+        # from DEPOT no further, and from PLANT to CREEK
+        self.assertEqual(data["cuts"], [[0], [1, 2]])
 
     def test_a_large_network_is_not_laid_out(self) -> None:
         day = made_day(1, 20)
@@ -204,13 +216,13 @@ class Content(unittest.TestCase):
         self.assertEqual(data["why"], "441 places and 1,680 roads are too many to be drawn")
 
     def test_a_limit_that_no_truck_can_fail_is_no_limit(self) -> None:
-        day = DAY.replace(b"post,ann,MILL-BR,rating,1250", b"post,ann,SR7-N,height,999")
+        day = DAY.replace(b"post,ann,MILL-BR-E,rating,1250", b"post,ann,SR7-N,height,999")
         day = day.replace(b"post,ann,RING-E,closed,1", b"post,ann,RING-E,gross,2000000")
-        day = day.replace(b"post,ann,RING-E,closed,0", b"post,ann,MILL-BR,rating,100000")
+        day = day.replace(b"post,ann,RING-E,closed,0", b"post,ann,MILL-BR-E,rating,100000")
         shown = Shown(page(day, journal_of(day)).stdout)
         self.assertEqual(shown.rows["posting-1"][1:3], ["SR7-N has no limit of height", "172 in"])
-        self.assertEqual(shown.rows["posting-2"][1:3], ["RING-E has no limit of gross weight", "150,000 lb"])
-        self.assertEqual(shown.rows["posting-3"][1], "bridge MILL-BR on US20-E has no limit")
+        self.assertEqual(shown.rows["posting-3"][1:3], ["RING-E has no limit of gross weight", "150,000 lb"])
+        self.assertEqual(shown.rows["posting-5"][1], "bridge MILL-BR-E on US20-E has no limit")
         self.assertNotIn("999", "".join(text for row in shown.rows.values() for text in row))
 
     def test_no_road_says_what_any_walk_reaches(self) -> None:
@@ -243,7 +255,7 @@ class Hostile(unittest.TestCase):
             b"ACME": b"0",
             b"LOWBOY": b"toString",
             b"ann": b"abcdefghijklm_-9",
-            b"MILL-BR": b"ABCDEFGHIJKLMNOP",
+            b"MILL-BR-E": b"ABCDEFGHIJKLMNOP",
             b"US20-E": b"hasOwnProperty",
             b"US20-W": b"QRSTUVWXYZ",
             b"RING-E": b"nopqrstuvwxyz",
@@ -251,10 +263,12 @@ class Hostile(unittest.TestCase):
         }
         day = DAY
         for name, hostile in made.items():
-            day = re.sub(rb"(?<![A-Za-z0-9_-])" + name + rb"(?![A-Za-z0-9_-])", hostile, day)
+            day, found = re.subn(rb"(?<![A-Za-z0-9_-])" + name + rb"(?![A-Za-z0-9_-])", hostile, day)
+            self.assertGreater(found, 0, name)
         shown = Shown(page(day, JOURNAL).stdout)
         self.assertEqual(shown.rows["permit-1"][2:4], ["0", "toString"])
         self.assertIn("__proto__ to -, by hasOwnProperty", shown.rows["permit-1"][5])
+        self.assertIn("bridge ABCDEFGHIJKLMNOP on hasOwnProperty has", shown.rows["permit-1"][1])
 
     def test_the_name_of_a_file_is_text(self) -> None:
         name = "<img src=x onerror=alert(1)>&\"'.csv"
@@ -276,7 +290,7 @@ class Hostile(unittest.TestCase):
     def test_a_hostile_day_file_is_refused(self) -> None:
         told = page(DAY.replace(b"ACME", b"<script>alert(1)</script>"), JOURNAL)
         self.assertEqual((told.returncode, told.stdout), (5, b""))
-        self.assertIn(b"refused: record 13 field 3", told.stderr)
+        self.assertIn(b"refused: record 17 field 3", told.stderr)
 
 
 class BadInput(unittest.TestCase):
@@ -291,13 +305,13 @@ class BadInput(unittest.TestCase):
         self.refuses(DAY, other, 5, "line 3, the application is not the actor's next command")
         self.refuses((EXAMPLES / "recall.csv").read_bytes(), JOURNAL, 5, "is not of")
         self.refuses(
-            DAY.replace(b"MILL-BR,rating,1250", b"MILL-BR,rating,1249"),
+            DAY.replace(b"MILL-BR-E,rating,1250", b"MILL-BR-E,rating,1249"),
             JOURNAL,
             5,
-            "line 6, the posting is not the actor's next command",
+            "line 8, the posting is not the actor's next command",
         )
         self.refuses(
-            DAY.replace(b"surrender,ann,4,,,,,\n", b""), JOURNAL, 5, "line 23, the actor's next command is show"
+            DAY.replace(b"surrender,ann,4,,,,,\n", b""), JOURNAL, 5, "line 28, the actor's next command is show"
         )
         self.refuses(
             DAY.replace(b"end,", b"show,ann,4,,,,,\nend,"), JOURNAL, 5, "actor 1 has commands that are not there"
@@ -308,14 +322,14 @@ class BadInput(unittest.TestCase):
             self.assertIn(old, JOURNAL)
             return JOURNAL.replace(old, new, 1)
 
-        self.refuses(DAY, changed(b"= issued 2 at 1", b"= issued 3 at 1"), 5, "the next permit is 2")
+        self.refuses(DAY, changed(b"= issued 2 at 0", b"= issued 3 at 0"), 5, "the next permit is 2")
         self.refuses(DAY, changed(b"posted 1 recalled 1", b"posted 2 recalled 1"), 5, "the next posting is 1")
-        self.refuses(DAY, changed(b"posted 1 recalled 1", b"posted 1 recalled 2"), 5, "there is no permit 2")
+        self.refuses(DAY, changed(b"posted 1 recalled 1", b"posted 1 recalled 3"), 5, "there is no permit 3")
         self.refuses(DAY, changed(b"posted 2 recalled 2", b"posted 2 recalled 1"), 5, "permit 1 is not in force")
-        self.refuses(DAY, changed(b"seen 0 recalled 1", b"seen 0 inforce"), 5, "line 7, permit 1 stands otherwise")
+        self.refuses(DAY, changed(b"seen 0 recalled 1", b"seen 0 inforce"), 5, "line 10, permit 1 stands otherwise")
         self.refuses(DAY, changed(b"= surrendered", b"= notyours"), 5, "permit 4 is in force")
         self.refuses(DAY, changed(b"= late 2026-03-04", b"= late 2026-03-03"), 5, "the office's day is 2026-03-04")
-        self.refuses(DAY, changed(b"1 snapshot = at 1", b"1 snapshot = at 0"), 5, "the roads stand at version 1")
+        self.refuses(DAY, changed(b"1 snapshot = at 2", b"1 snapshot = at 0"), 5, "the roads stand at version 2")
         self.refuses(
             DAY,
             changed(b"route 1,3 = issued 1 at 0 route 1,3", b"route 1,3 = issued 1 at 0 route 3,1"),
@@ -378,19 +392,19 @@ class BadInput(unittest.TestCase):
             (b"permit-journal 3\nend 0\nx", 3),
             (b"permit-journal 3\nend 0\n\n", 3),
             (b"permit-journal 3\nend 0", 2),
-            (JOURNAL[:-1], 25),
+            (JOURNAL[:-1], 30),
             (b"\n".join(lines[:5]) + b"\n", 6),
             (JOURNAL.replace(b" = at 0", b"  = at 0", 1), 2),
             (JOURNAL.replace(b"issued 1", b"issued 01", 1), 5),
-            (JOURNAL.replace(b"54016875/8", b"108033750/16", 1), 9),
-            (JOURNAL.replace(b"recalled 1\n", b"recalled 1\r\n", 1), 6),
-            (JOURNAL.replace(b"2026-03-04", b"2026-02-30", 1), 20),
+            (JOURNAL.replace(b"54016875/8", b"108033750/16", 1), 12),
+            (JOURNAL.replace(b"recalled 1\n", b"recalled 1\r\n", 1), 8),
+            (JOURNAL.replace(b"2026-03-04", b"2026-02-30", 1), 25),
             (JOURNAL.replace(b"truck 2", b"truck 0", 1), 3),
             (JOURNAL.replace(b"truck 2", b"truck 65537", 1), 3),
             (JOURNAL.replace(b"seen 0", b"seen 4294967296", 1), 3),
-            (JOURNAL.replace(b"end 23", b"end 24"), 25),
-            (JOURNAL.replace(b"end 23", b"end 023"), 25),
-            (JOURNAL.replace(b"54016875/8", b"9" * 5000 + b"/8", 1), 9),
+            (JOURNAL.replace(b"end 28", b"end 29"), 30),
+            (JOURNAL.replace(b"end 28", b"end 028"), 30),
+            (JOURNAL.replace(b"54016875/8", b"9" * 5000 + b"/8", 1), 12),
             (JOURNAL.replace(b"seen 0", b"seen " + b"9" * 5000, 1), 3),
             (JOURNAL.replace(b"\n1 snap", b"\n\xff snap", 1), 2),
         ]
@@ -436,26 +450,29 @@ class Forged(unittest.TestCase):
     def test_a_recall_that_is_taken_out(self) -> None:
         forged = JOURNAL.replace(b"posted 1 recalled 1", b"posted 1 recalled -")
         forged = forged.replace(b"at 0 seen 0 recalled 1", b"at 0 seen 0 inforce")
-        why = "line 6, permit 1 is not recalled, and fails on US20-E: the moment on bridge MILL-BR at a rating of 1250"
+        moment = "the moment on bridge MILL-BR-{} at a rating of 1250"
+        why = "line 8, permit 1 is not recalled, and fails on US20-E: " + moment.format("E")
         self.refuses(DAY, forged, why)
         told = page(DAY, forged)
         self.assertEqual((told.returncode, told.stdout), (5, b""))
         self.assertIn(why, told.stderr.decode())
         forged = JOURNAL.replace(b"posted 2 recalled 2", b"posted 2 recalled -")
-        self.refuses(DAY, forged, "permit 2 is not recalled, and fails on RING-E: closed")
+        self.refuses(DAY, forged, "permit 2 is not recalled, and fails on US20-W: " + moment.format("W"))
+        forged = JOURNAL.replace(b"posted 3 recalled 3", b"posted 3 recalled -")
+        self.refuses(DAY, forged, "permit 3 is not recalled, and fails on RING-E: closed")
 
     def test_a_recall_too_many(self) -> None:
-        day = DAY.replace(b"MILL-BR,rating,1250", b"MILL-BR,rating,1260")
+        day = DAY.replace(b"rating,1250", b"rating,1260")
         forged = JOURNAL.replace(b"rating 1250", b"rating 1260")
-        self.refuses(day, forged, "line 6, permit 1 is recalled, and its truck keeps every limit of US20-E")
+        self.refuses(day, forged, "line 8, permit 1 is recalled, and its truck keeps every limit of US20-E")
 
     def test_a_rating_that_is_not_posted(self) -> None:
         forged = JOURNAL.replace(b"hs20 5397600/1 rating 1250", b"hs20 5397600/1 rating 1200", 1)
-        self.refuses(DAY, forged, "line 9, bridge MILL-BR has a rating of 1250 by then")
+        self.refuses(DAY, forged, "line 12, bridge MILL-BR-E has a rating of 1250 by then")
 
     def test_numbers_of_a_refusal_that_are_not_so(self) -> None:
         for old, new in ((b"54016875/8", b"54016877/8"), (b"5397600/1", b"5397601/1"), (b"1 moment", b"1 shear")):
-            why = "line 9, what fails on US20-E is the moment on bridge MILL-BR"
+            why = "line 12, what fails on US20-E is the moment on bridge MILL-BR-E"
             self.refuses(DAY, JOURNAL.replace(old, new, 1), why)
         limit = b"segment 1 span 1 moment 54016875/8 hs20 5397600/1 rating 1250"
         for other, why in (
@@ -465,11 +482,11 @@ class Forged(unittest.TestCase):
             (b"segment 2 span 1 moment 54016875/8 hs20 5397600/1 rating 1250", "there is no such segment or span"),
             (b"segment 9 closed", "there is no such segment or span"),
         ):
-            self.refuses(DAY, JOURNAL.replace(b"refused 1 " + limit, b"refused 1 " + other, 1), why)
+            self.refuses(DAY, JOURNAL.replace(b"refused 2 " + limit, b"refused 2 " + other, 1), why)
 
     def test_a_permit_over_a_closed_road(self) -> None:
-        forged = re.sub(b" cut 1 = refused 2 .*", b" route 5 = issued 3 at 2 route 5", JOURNAL)
-        self.refuses(DAY, forged, "line 14, its truck may not pass RING-E: closed")
+        forged = re.sub(b" cut 1 = refused 4 .*", b" route 5 = issued 4 at 4 route 5", JOURNAL)
+        self.refuses(DAY, forged, "line 18, its truck may not pass RING-E: closed")
 
     def test_a_refusal_of_a_truck_that_is_legal_and_a_legal_one_that_is_not(self) -> None:
         forged = JOURNAL.replace(b"seen 0 none = notneeded", b"seen 0 route 5 = issued 1 at 0 route 5", 1)
@@ -479,14 +496,14 @@ class Forged(unittest.TestCase):
 
     def test_roads_that_do_not_stand_in_the_way(self) -> None:
         limit = b"segment 1 span 1 moment 54016875/8 hs20 5397600/1 rating 1250"
-        forged = JOURNAL.replace(b"cut 1 = refused 2 " + limit, b"cut 1 = refused 2 segment 5 closed", 1)
+        forged = JOURNAL.replace(b"cut 1 = refused 4 " + limit, b"cut 1 = refused 4 segment 5 closed", 1)
         # which road is the first one is not asked
         replay(DayFile(DAY), read_journal(forged, "J"), "D", "J")
-        forged = JOURNAL.replace(b"cut 1 = refused 2 " + limit, b"cut 1,2 = refused 2 " + limit, 1)
+        forged = JOURNAL.replace(b"cut 1 = refused 4 " + limit, b"cut 1,2 = refused 4 " + limit, 1)
         self.refuses(DAY, forged, "US20-E does not lead out of what the truck reaches")
-        forged = JOURNAL.replace(b"cut 1 = refused 2 " + limit, b"cut 1,2,3 = refused 2 " + limit, 1)
+        forged = JOURNAL.replace(b"cut 1 = refused 4 " + limit, b"cut 1,2,3 = refused 4 " + limit, 1)
         self.refuses(DAY, forged, "the nodes are not those of a cut")
-        forged = JOURNAL.replace(b"cut 1 = refused 2 " + limit, b"cut 1 = noroad", 1)
+        forged = JOURNAL.replace(b"cut 1 = refused 4 " + limit, b"cut 1 = noroad", 1)
         self.refuses(DAY, forged, "there are roads that lead there")
         day, journal = ((EXAMPLES / f"no-road{ending}").read_bytes() for ending in (".csv", ".journal"))
         self.refuses(day, journal.replace(b"cut 1,3 = noroad", b"cut 1 = noroad", 1), "not those that any walk reaches")
@@ -546,7 +563,7 @@ class Audits(unittest.TestCase):
         head = Shown(told.stdout).text.split("Permits")[0]
         self.assertIn("Audited: legal.", head)
         self.assertIn(hashlib.sha256(pathlib.Path(self.program).read_bytes()).hexdigest(), head)
-        self.assertIn("23 lines of it", head)
+        self.assertIn("28 lines of it", head)
         self.assertEqual("This file is a script" in head, not PROGRAM)
 
     def test_a_forged_journal_is_no_page(self) -> None:
@@ -555,23 +572,23 @@ class Audits(unittest.TestCase):
         told = page(DAY, forged, "--program", self.program)
         self.assertEqual((told.returncode, told.stdout), (9, b""))
         self.assertIn(
-            "not legal: entry 5, line 6 of it: 1 post span 1 rating 1250 = posted 1 recalled - (", told.stderr.decode()
+            "not legal: entry 7, line 8 of it: 1 post span 1 rating 1250 = posted 1 recalled - (", told.stderr.decode()
         )
 
     def test_what_the_page_does_not_ask_the_program_does(self) -> None:
         limit = b"segment 1 span 1 moment 54016875/8 hs20 5397600/1 rating 1250"
-        forged = JOURNAL.replace(b"cut 1 = refused 2 " + limit, b"cut 1 = refused 2 segment 5 closed", 1)
+        forged = JOURNAL.replace(b"cut 1 = refused 4 " + limit, b"cut 1 = refused 4 segment 5 closed", 1)
         told = page(DAY, forged, "--program", self.program)
         self.assertEqual((told.returncode, told.stdout), (9, b""))
-        self.assertIn("not legal: entry 13, line 14 of it: 1 submit", told.stderr.decode())
+        self.assertIn("not legal: entry 17, line 18 of it: 1 submit", told.stderr.decode())
 
     def test_programs_that_say_nothing_of_an_audit(self) -> None:
         for name, text, status, words in (
             ("mute", "#!/bin/sh\ncat >/dev/null\n", 5, "status 0, no line"),
-            ("other", "#!/bin/sh\ncat >/dev/null; echo legal 22\n", 5, "status 0, legal 22"),
+            ("other", "#!/bin/sh\ncat >/dev/null; echo legal 27\n", 5, "status 0, legal 27"),
             ("killed", "#!/bin/sh\nkill -9 $$\n", 5, "status -9, no line"),
-            ("failing", "#!/bin/sh\ncat >/dev/null; echo legal 23; exit 7\n", 5, "status 7, legal 23"),
-            ("endless", "#!/bin/sh\nyes legal 23\n", 5, "legal 23"),
+            ("failing", "#!/bin/sh\ncat >/dev/null; echo legal 28; exit 7\n", 5, "status 7, legal 28"),
+            ("endless", "#!/bin/sh\nyes legal 28\n", 5, "legal 28"),
             ("rude", "#!/bin/sh\ncat >/dev/null; printf '\\033[2J'\n", 5, "status 0, \\x1b[2J"),
             ("data", "no program", 2, "cannot be run: Exec format error"),
         ):
@@ -600,25 +617,28 @@ class Handouts(unittest.TestCase):
         for words in (
             "Permit 1: ACME LOWBOY",
             "How it standsRecalled on 2026-03-04",
-            "By posting 1: bridge MILL-BR on US20-E has a rating of 1,250 thousandths of HS20-44. "
+            "By posting 1: bridge MILL-BR-E on US20-E has a rating of 1,250 thousandths of HS20-44. "
             f"M{CARRIED[1:]}",
             "Days2026-03-02 to 2026-03-06",
             "Do not drive on this permit. Ask again without US20-E, or with no route; or ask with less weight",
             "2 roads, 42,240 ft, 8.0 miles; limits and ratings as posted at version 1",
-            "1. US20-EDEPOT to CREEK26,400 ftno limitMILL-BR, 480 in, rating 1,250 thousandths of HS20-44",
+            "1. US20-EDEPOT to CREEK26,400 ftno limitMILL-BR-E, 480 in, rating 1,250 thousandths of HS20-44",
             "end shear of LOWBOY: 62,775 lb, carried 69,000 lb, 6,225 lb to spare (9.02 %)",
             "2. SR7-NCREEK to PLANT15,840 ftheight 172 in",
             "LOWBOY168 in120 in780 in72,000 lb1: 12,000 lb at 0 in; 2: 30,000 lb at 180 in (180 in behind the one ",
-            "Permit 3, in force: PLANT to DEPOT",
+            "2 recalled, 3 refused, 1 surrendered, 1 too late; the last 4 of them are",
+            "Permit 4, surrendered: DEPOT to PLANT",
         ):
             self.assertIn(words, text)
 
     def test_a_permit_in_force_and_the_other_ones(self) -> None:
-        self.assertIn("Drive from 2026-03-03 to 2026-03-06, with this truck", self.shown("--permit", "3"))
         self.assertIn("It was given back.", self.shown("--permit", "4"))
-        expired = DAY.replace(b"setday,ann,2026-03-04", b"setday,ann,2026-03-09")
-        expired = expired.replace(b"surrender,ann,4,,,,,\n", b"")
-        text = self.shown("--permit", "3", day=expired, journal=journal_of(expired))
+        held = DAY.replace(b"surrender,ann,4,,,,,\n", b"")
+        self.assertNotEqual(held, DAY)
+        text = self.shown("--permit", "4", day=held, journal=journal_of(held))
+        self.assertIn("Drive from 2026-03-03 to 2026-03-06, with this truck", text)
+        expired = held.replace(b"setday,ann,2026-03-04", b"setday,ann,2026-03-09")
+        text = self.shown("--permit", "4", day=expired, journal=journal_of(expired))
         self.assertIn("Its last day is before the office's day, 2026-03-09.", text)
 
     def test_an_annual_permit_has_each_route(self) -> None:
@@ -629,7 +649,7 @@ class Handouts(unittest.TestCase):
 
     def test_a_carrier_has_its_own_answers_alone(self) -> None:
         acme, bolt = self.shown("--carrier", "ACME"), self.shown("--carrier", "BOLT")
-        self.assertIn("4 permits, 1 in force on 2026-03-04; 3 other answers.", acme)
+        self.assertIn("4 permits, 0 in force on 2026-03-04; 4 other answers.", acme)
         self.assertIn("0 permits, 0 in force on 2026-03-04; 1 other answer.", bolt)
         self.assertIn("No permit needed", bolt)
         for words in ("BOLT", "VAN", "160 in", "Answer 1"):

@@ -272,15 +272,15 @@ class Pages(unittest.TestCase):
         for letter in "recalled":
             self.browser.press(letter, ord(letter.upper()), letter)
         self.assertEqual(
-            [name for name in self.browser.value(ROWS) if name[:7] != "posting"], ["permit-1", "permit-2"]
+            [name for name in self.browser.value(ROWS) if name[:7] != "posting"], ["permit-1", "permit-2", "permit-3"]
         )
-        self.assertEqual(self.browser.value("found.textContent"), "2 permits and 0 other answers shown")
+        self.assertEqual(self.browser.value("found.textContent"), "3 permits and 0 other answers shown")
         outline = self.browser.value("getComputedStyle(document.activeElement).outlineStyle")
         self.assertEqual(outline, "solid")
         self.browser.value("version.focus()")
         self.browser.press("ArrowLeft", 37)
-        self.assertEqual(self.browser.value("version.value"), "2")
-        self.assertIn("version 2: RING-E is closed", self.browser.value("version.getAttribute('aria-valuetext')"))
+        self.assertEqual(self.browser.value("version.value"), "5")
+        self.assertIn("version 5: RING-E is open", self.browser.value("version.getAttribute('aria-valuetext')"))
 
     def test_every_control_is_reached_by_keyboard_in_its_order(self) -> None:
         path = self.page((EXAMPLES / "recall.csv").read_bytes(), (EXAMPLES / "recall.journal").read_bytes())
@@ -312,9 +312,9 @@ class Pages(unittest.TestCase):
             nodes = self.browser.call("Accessibility.getFullAXTree")["nodes"]
             roles = [node["role"]["value"] for node in nodes if not node.get("ignored")]
             self.assertEqual(roles.count("table"), 4)
-            # four permits, four answers, three postings, five roads, and a head for each where it is shown
-            self.assertGreaterEqual(roles.count("row"), 16)
-            self.assertEqual(roles.count("rowheader"), 16)
+            # four permits, five answers, six postings, six roads, and a head for each where it is shown
+            self.assertGreaterEqual(roles.count("row"), 21)
+            self.assertEqual(roles.count("rowheader"), 21)
             self.assertEqual(roles.count("slider"), 1)
 
     def test_three_widths(self) -> None:
@@ -339,7 +339,7 @@ class Pages(unittest.TestCase):
             "it.checkVisibility()).length"
         )
         self.assertEqual(hidden, 0)
-        self.assertEqual(len(self.browser.value(ROWS)), 11)
+        self.assertEqual(len(self.browser.value(ROWS)), 15)
         # a head is repeated on each sheet where it is the head of a table, and no grid
         for name, kind in (("thead", "table-header-group"), ("tbody tr", "table-row"), ("td", "table-cell")):
             got = self.browser.value(f"[...new Set([...document.querySelectorAll('{name}')].map((it) => "
@@ -384,7 +384,7 @@ class Pages(unittest.TestCase):
 
     def test_a_telephone_shows_the_first_answer_below_no_controls(self) -> None:
         program = pathlib.Path(self.folder.name, "stand-in")
-        program.write_text("#!/bin/sh\ncat >/dev/null\necho legal 23\n")
+        program.write_text("#!/bin/sh\ncat >/dev/null\necho legal 28\n")
         program.chmod(0o755)
         for words in ((), ("--program", str(program))):
             path = self.template(*words)
@@ -415,14 +415,14 @@ class Pages(unittest.TestCase):
         for name in ("#road-1", "#frame .bridge"):
             self.assertEqual(self.browser.value(stroke.format(name)), red)
         reason = self.browser.value("document.querySelector('#frame .reason-text').textContent")
-        self.assertTrue(reason.startswith("MILL-BR: moment 6,752,109 lb·in"), reason)
+        self.assertTrue(reason.startswith("MILL-BR-E: moment 6,752,109"), reason)
         self.assertNotEqual(self.browser.value(stroke.format("#road-3")), red)
         # what fails at one version does not at another one
         self.set("version", "0", "input")
         self.assertEqual(self.browser.value("document.querySelectorAll('#frame .fails').length"), 0)
         self.assertIn("That is of version 1", self.browser.value("note.textContent"))
         self.assertIn("of the day file", self.browser.value("saying.textContent"))
-        self.browser.open(path, "#permit-2")
+        self.browser.open(path, "#permit-3")
         self.assertEqual(self.browser.value(stroke.format("#road-5")), red)
         self.assertEqual(self.browser.value("document.querySelector('#frame .reason-text').textContent"), "closed")
         self.assertIn("1,250 thousandths of HS20-44", self.browser.value("listed.textContent"))
@@ -507,7 +507,7 @@ class Pages(unittest.TestCase):
         self.assertTrue(self.browser.value("clear.checkVisibility()"))
         self.browser.value("clear.click()")
         self.assertEqual(self.browser.value(address), "")
-        self.assertEqual(len(self.browser.value(ROWS)), 11)
+        self.assertEqual(len(self.browser.value(ROWS)), 15)
         self.browser.value("document.querySelector('#answer-2 button').click()")
         self.assertEqual(self.browser.value(address), "#answer-2")
         self.quiet(path)
@@ -553,9 +553,9 @@ class Pages(unittest.TestCase):
             self.assertIn("so nothing is shown", self.browser.value("found.textContent"))
             self.assertTrue(self.browser.value("found.checkVisibility() && clear.checkVisibility()"))
         self.browser.value("clear.click()")
-        self.assertEqual(len(self.browser.value(ROWS)), 11)
+        self.assertEqual(len(self.browser.value(ROWS)), 15)
         self.browser.open(path, "#postings")
-        self.assertEqual(len(self.browser.value(ROWS)), 11)
+        self.assertEqual(len(self.browser.value(ROWS)), 15)
 
     def test_without_graphviz_the_tables_and_the_chosen_route_are_there(self) -> None:
         path = self.template()
@@ -564,7 +564,7 @@ class Pages(unittest.TestCase):
         assert found is not None
         path.write_text(made.replace(found[0], '"places":null,"why":"graphviz is not installed"'))
         self.browser.open(path, "#permit-1")
-        self.assertEqual(len(self.browser.value(ROWS)), 11)
+        self.assertEqual(len(self.browser.value(ROWS)), 15)
         self.assertIn("graphviz is not installed: this is the route alone", self.browser.value("frame.textContent"))
         for width in (1280, 360):
             self.browser.wide(width)
@@ -646,7 +646,7 @@ class Pages(unittest.TestCase):
             ]["value"]
         finally:
             self.browser.call("Emulation.setScriptExecutionDisabled", value=False)
-        self.assertIn("Recalled by posting 1: bridge MILL-BR on US20-E has a rating of 1,250", text)
+        self.assertIn("Recalled by posting 1: bridge MILL-BR-E on US20-E has a rating of 1,250", text)
         self.assertIn("wants scripts", text)
         self.assertNotIn("Show on the roads", text)
 
