@@ -2,9 +2,11 @@
 //! output, and tells standard error of each permit that a day recalled.
 #![tactic(auto)]
 
-ghost use Rattle.std.specs.Prelude.{◌≡◌, ◌<◌};
+ghost use Rattle.std.specs.Prelude.{◌≡◌, ◌<◌, map};
+ghost use Rattle.std.specs.String.{string_bytes};
 ghost use Rattle.notice_desk.specs.Standings.{AreNew};
-ghost use Rattle.permit_program.specs.Runs.{desk_at};
+ghost use Rattle.command_line.specs.Asking.{asked_of};
+ghost use Rattle.permit_program.specs.Runs.{IsRun, desk_at, outside_of};
 
 use analyst_pool::OpenGate;
 use notice_desk::{Notice, Subscribers};
@@ -31,7 +33,7 @@ fn main(rt: HostRuntime) -> ExitCode {
         Err(_) => false,
     };
     let status = match words_of(&rt) {
-        Ok(words) if is_added => run_counted::<Brand>(
+        Ok(words) if is_added => run_counted::<Brand, _, _>(
             &rt,
             words.as_slice(),
             &mut source,
@@ -45,12 +47,13 @@ fn main(rt: HostRuntime) -> ExitCode {
     ExitCode::from(status)
 }
 
-// Runs the program with a gate that keeps no actor waiting, and with a counter of what an office tests in its turns.
-fn run_counted<L: Ledger + Send + Sync>(
+// Runs the program with a gate that keeps no actor waiting, and with a counter of what an office tests in its turns. It is a run
+// of these words, and ends with its status.
+fn run_counted<L: Ledger + Send + Sync, S: Source, K: Sink>(
     rt: &(impl Threads + Wait + AllocGlobal + Sync),
     words: &[String],
-    source: &mut impl Source,
-    sink: &mut impl Sink,
+    source: &mut S,
+    sink: &mut K,
     notices: &mut Subscribers,
     blank: Blank,
 ) -> u8
@@ -58,6 +61,10 @@ fn run_counted<L: Ledger + Send + Sync>(
     requires parts { blank.parts ≡ L.parts }
     requires counter { 0 < blank.parts }
     requires notices { AreNew (desk_at ⟦<dyn Notice as Notice>⟧ notices.old).standings }
+    ensures run { let outside = outside_of ⟦<S as Source>⟧ ⟦<K as Sink>⟧ in
+        let desk = desk_at ⟦<dyn Notice as Notice>⟧ in
+        let asked = asked_of (map string_bytes words.now) in
+        IsRun asked (outside source.old sink.old (desk notices.old)) (outside source.new sink.new (desk notices.new)) result }
 {
     let ended: Ended<L> = run(rt, words, source, sink, notices, &OpenGate, blank);
     ended.status
