@@ -415,7 +415,9 @@ class Pages(unittest.TestCase):
         for name in ("#road-1", "#frame .bridge.fails"):
             self.assertEqual(self.browser.value(stroke.format(name)), red)
         # it is folded into lines where it is long
-        reason = self.browser.value("[...document.querySelectorAll('#frame .reason-text')].map((it) => it.textContent).join(' ')")
+        reason = self.browser.value(
+            "[...document.querySelectorAll('#frame .reason-text')].map((it) => it.textContent).join(' ')"
+        )
         self.assertRegex(reason, r"^MILL-BR-E: moment 6,752,109\S*\s*lb·in")
         self.assertNotEqual(self.browser.value(stroke.format("#road-3")), red)
         # what fails at one version does not at another one
