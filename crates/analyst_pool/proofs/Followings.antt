@@ -19,10 +19,6 @@ goes_on_later : (last : Option Stored) (now next : Stored) → GoesOn last now �
 goes_on_later None now next h k = tt
 goes_on_later (Some s) now next h k = later_on s now next h k
 
--- a follower that was just given a snapshot
-pub follows_given : (base : BaseLists) (now : Stored) → FollowsAt base now (followed base now)
-follows_given base now = record { base_is = refl; later = later_same now }
-
 module _ {P : Type 0} where
   base_same : (v w : Calling P) → w.who ≡ v.who → w.who.base ≡ v.who.base
   base_same v w same = ap (λ (k : Who P). k.base) same

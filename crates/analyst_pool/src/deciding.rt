@@ -2,6 +2,7 @@
 
 ghost use Rattle.std.specs.Prelude.{◌≡◌, ◌<◌, false, IfErr, IfOk};
 ghost use Rattle.trip_analysis.specs.Applications.{Sound};
+ghost use Rattle.trip_analysis.specs.Counters.{IsBlankOf};
 ghost use Rattle.office_words.specs.declared.entry.Command.TheVariants as asked;
 ghost use Rattle.office_core.specs.Replies.{is_outdated};
 ghost use Rattle.analyst_pool.specs.Attempts.{Concluded, DecidedAfter, IsPrepared, IsSubmitted, MaySubmit};
@@ -76,9 +77,7 @@ pub fn decide<C: OfficeCalls, G: Gate, L: Ledger>(
     errand: &Errand<G>,
     blank: Blank,
 ) -> Reply
-    requires name { blank.name ≡ L.name }
-    requires parts { blank.parts ≡ L.parts }
-    requires counter { 0 < blank.parts }
+    requires counter { IsBlankOf L.name L.parts blank }
     requires base { errand.now.base.now ≡ (C.view calls.old).who.base }
     requires sound { Sound errand.now.base.now application }
     ensures decided { CarriedOut (C.view calls.old) (asked.Apply application) result (C.view calls.new) }

@@ -4,6 +4,7 @@ ghost use Rattle.std.specs.Prelude.{◌≡◌, ◌<◌, IfOk, IfSome, None};
 ghost use Rattle.snapshot_store.specs.Stores.{store_version_of};
 ghost use Rattle.trip_analysis.specs.Applications.{Sound};
 ghost use Rattle.trip_analysis.specs.Findings.{IsFoundAt};
+ghost use Rattle.trip_analysis.specs.Counters.{IsBlankOf};
 ghost use Rattle.analyst_pool.specs.Following.{FollowsAt};
 
 use names::NoMemory;
@@ -25,9 +26,7 @@ pub struct Finder<L: Ledger> {
 impl<L: Ledger> Finder<L> {
     /// One who knows nothing yet, with a new counter.
     pub fn new(blank: Blank) -> Finder<L>
-        requires name { blank.name ≡ L.name }
-        requires parts { blank.parts ≡ L.parts }
-        requires some { 0 < blank.parts }
+        requires counter { IsBlankOf L.name L.parts blank }
         ensures { result.follower ≡ None }
     {
         Finder {

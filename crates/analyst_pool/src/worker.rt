@@ -1,6 +1,7 @@
 // Actors who carry out their scripts, all at once.
 
 ghost use Rattle.std.specs.Prelude.{◌≡◌, ◌<◌, ◌≤◌, ℕ, length, slice_index_or, vec_len, All};
+ghost use Rattle.trip_analysis.specs.Counters.{IsBlankOf};
 ghost use Rattle.analyst_pool.specs.declared.worker.Outcome.TheVariants as outcome;
 ghost use Rattle.analyst_pool.specs.declared.worker.Worker.{Worker};
 ghost use Rattle.office_words.specs.Commands.{MayCarryOut};
@@ -94,9 +95,7 @@ impl<C: OfficeCalls> Worker<C> {
         gate: &G,
         blank: Blank,
     )
-        requires name { blank.name ≡ L.name }
-        requires parts { blank.parts ≡ L.parts }
-        requires counter { 0 < blank.parts }
+        requires counter { IsBlankOf L.name L.parts blank }
         requires ready { HasNotBegun base.now C.view self.old }
         ensures { Ran C.view self.old self.new }
     {

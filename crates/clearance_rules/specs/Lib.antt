@@ -7,9 +7,9 @@ pub use Rattle.span_rating.specs.Carrying
 pub use Rattle.hs20_truck.specs.Effects
 pub use Rattle.road_graph.specs.Roads
 pub use Rattle.restriction_log.specs.States
+pub mod Counters
 pub mod Loads
 pub mod Limits
 pub mod Failing
-pub mod Names
 pub mod Order
 pub mod Laws

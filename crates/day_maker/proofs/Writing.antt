@@ -27,16 +27,6 @@ blanks_more fields new all i n h same is =
     let e : n - i ≡ suc (n - (i + 1)) = omega arith in
     rw is (append_assoc fields ([] ∷ []) (replicate (n - (i + 1)) []) ∙ (rw e at same))
 
--- and none is left
-pub blanks_end : (fields all : Row) (i n : ℕ) → n ≤ i → fields ++ replicate (n - i) [] ≡ all → fields ≡ all
-blanks_end fields all i n h same = let e : n - i ≡ 0 = omega arith in sym (append-nil fields) ∙ (rw e at same)
-
--- behind the kind and its fields
-pub blanks_begin : (kind : List ℕ) (fields new : Row) (n : ℕ) → n ≡ length fields → new ≡ kind ∷ fields → new ++ replicate (7 - n) [] ≡ row (kind ∷ fields)
-blanks_begin kind fields new n same is =
-    let count : 8 - suc (length fields) ≡ 7 - n = omega arith in
-    rw (is, count) refl
-
 -- the page after a record was written
 pub page_grows : (page : PageParts) (o : Option (Writer (Vec ℕ Global))) (old new : Writer (Vec ℕ Global)) (number : ℕ) (made fields : Row) → record { text = given_text o; number = number } ≡ page → o ≡ Some old → IsBetweenRecords old → made ≡ fields
     → (fields_written old ≡ 0 → has_written old ≡ false → ((writer_setup old).style ≢ style.NonNumeric) → Appends (text_written (λ v. Some v.items) old) (text_written (λ v. Some v.items) new) (row_text (writer_setup old) made))

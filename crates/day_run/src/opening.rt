@@ -2,6 +2,7 @@
 
 ghost use Rattle.std.specs.Prelude.{◌≡◌, ◌≤◌, ◌*◌, ◌<◌, length, IfOk, Some};
 ghost use Rattle.std.specs.Arc.{arc_value};
+ghost use Rattle.clearance_rules.specs.Counters.{IsBlankOf};
 ghost use Rattle.office_turn.specs.Told.{opening_root};
 ghost use Rattle.day_text.specs.Laws.{IsDayFile};
 ghost use Rattle.day_text.specs.Scripts.{AreScripts};
@@ -31,9 +32,7 @@ pub(crate) fn open<L: Ledger>(
     file: DayFile,
     blank: Blank,
 ) -> Result<Opening<L>, NoMemory>
-    requires name { blank.name ≡ L.name }
-    requires parts { blank.parts ≡ L.parts }
-    requires counter { 0 < blank.parts }
+    requires counter { IsBlankOf L.name L.parts blank }
     requires file { IsDayFile file }
     ensures terms { IfOk result (λ o. o.desk.terms ≡ Some (file.base, file.day, o.desk.most)) }
     ensures room { IfOk result (λ o. 17 * length file.commands ≤ o.desk.most) }
@@ -66,9 +65,7 @@ fn desk_about<L: Ledger>(
     most: u32,
     blank: Blank,
 ) -> Result<(Arc<Base, Global>, Desk<L>, Root<L>), NoMemory>
-    requires name { blank.name ≡ L.name }
-    requires parts { blank.parts ≡ L.parts }
-    requires counter { 0 < blank.parts }
+    requires counter { IsBlankOf L.name L.parts blank }
     requires some { 1 ≤ most }
     requires bounded { most ≤ 1000000 }
     ensures base { IfOk result (λ made. arc_value made.0 ≡ base) }

@@ -2,6 +2,7 @@
 
 ghost use Rattle.std.specs.Prelude.{◌≡◌, ◌<◌, IfOk, OnOk};
 ghost use Rattle.road_graph.specs.Roads.{IsRoads};
+ghost use Rattle.clearance_rules.specs.Counters.{IsBlankOf};
 ghost use Rattle.day_text.specs.Laws.{IsDayFile};
 ghost use Rattle.office_core.specs.Costs.{Counts};
 ghost use Rattle.day_run.specs.Served.{IsServed, LoneActorsAreOne};
@@ -32,9 +33,7 @@ pub fn serve<R: Threads + Wait + AllocGlobal + Sync, G: Gate + Sync, L: Ledger +
     gate: &G,
     blank: Blank,
 ) -> Result<(Office, Steps<L>), NoMemory>
-    requires name { blank.name ≡ L.name }
-    requires parts { blank.parts ≡ L.parts }
-    requires counter { 0 < blank.parts }
+    requires counter { IsBlankOf L.name L.parts blank }
     requires file { IsDayFile file }
     ensures served { IfOk result (λ done. IsServed file done.0.history) }
     ensures base { IfOk result (λ done. done.0.base ≡ file.base) }

@@ -2,6 +2,7 @@
 
 ghost use Rattle.std.specs.Prelude.{◌≡◌, ◌<◌, ◌≤◌, IfOk, length};
 ghost use Rattle.std.specs.Arc.{arc_value};
+ghost use Rattle.clearance_rules.specs.Counters.{IsBlankOf};
 ghost use Rattle.journal_audit.specs.Auditors.{HasOpened};
 ghost use Rattle.journal_audit.specs.Verdicts.{IsVerdict};
 
@@ -42,9 +43,7 @@ fn judge_all<L: Ledger>(
     history: &[Entry],
     blank: Blank,
 ) -> Result<Verdict, NoMemory>
-    requires name { blank.name ≡ L.name }
-    requires parts { blank.parts ≡ L.parts }
-    requires some { 0 < blank.parts }
+    requires counter { IsBlankOf L.name L.parts blank }
     requires few { length history.now ≤ 1000000 }
     requires opened { HasOpened auditor.old day history.now }
     ensures { IfOk result (IsVerdict auditor.old.replay.base day history.now) }

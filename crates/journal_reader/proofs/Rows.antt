@@ -180,20 +180,3 @@ first_long : (f : Format) → length (ended (first_line f)) ≡ 17
 first_long One = refl
 first_long Two = refl
 first_long Three = refl
-
--- there are more bytes than lines
-pub few_lines : (f : Format) (h : List Entry) (text rest : List ℕ) → text ≡ front_of f h ++ rest → length h + length rest + 17 ≤ length text
-few_lines f h text rest whole =
-    let a = length-append (front_of f h) rest in
-    let b = length-append (ended (first_line f)) (lines_of h) in
-    let c = ap (λ (t : List ℕ). length t) whole in
-    let d = by h in
-    omega (arith, a, b, c, d, first_long f)
-  where
-    by : (g : List Entry) → length g ≤ length (lines_of g)
-    by [] = omega arith
-    by (e ∷ g) =
-        let a = length-append (ended (line_of e)) (lines_of g) in
-        let b = length-append (line_of e) (10 ∷ []) in
-        let c = by g in
-        omega (arith, a, b, c)

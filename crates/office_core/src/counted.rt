@@ -1,6 +1,7 @@
 // An office with the counter of its tests.
 
 ghost use Rattle.std.specs.Prelude.{◌≡◌, ◌<◌, [], false};
+ghost use Rattle.clearance_rules.specs.Counters.{IsBlankOf};
 ghost use Rattle.office_words.specs.declared.entry.Reply.TheVariants as reply;
 ghost use Rattle.office_core.specs.Replies.{is_full};
 ghost use Rattle.office_core.specs.Costs.{IsCost};
@@ -38,9 +39,7 @@ impl<L: Ledger> CountedOffice<L> {
 
     /// An office with no entry yet, and a counter that is made of the blank.
     pub fn new(office: Office, blank: Blank) -> CountedOffice<L>
-        requires name { blank.name ≡ L.name }
-        requires parts { blank.parts ≡ L.parts }
-        requires some { 0 < blank.parts }
+        requires counter { IsBlankOf L.name L.parts blank }
         requires opened { office.history ≡ [] }
         ensures office { result.office ≡ office }
         ensures tests { result.tests ≡ 0 }

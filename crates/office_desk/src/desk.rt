@@ -2,6 +2,7 @@
 
 ghost use Rattle.std.specs.Prelude.{◌≡◌, ◌<◌, ◌≤◌, All, IfOk, Some, length, true};
 ghost use Rattle.std.specs.Arc.{arc_value};
+ghost use Rattle.clearance_rules.specs.Counters.{IsBlankOf};
 ghost use Rattle.office_turn.specs.Story.{StartsWith};
 ghost use Rattle.office_turn.specs.Told.{HasReceipt, IsReady, admitted_by, after_admit, after_join, opening_root};
 ghost use Rattle.office_core.specs.Machine.{IsLegal, entries_by};
@@ -62,9 +63,7 @@ impl<L: Ledger> Desk<L> {
         most: u32,
         blank: Blank,
     ) -> Result<(Desk<L>, Root<L>), NoMemory>
-        requires name { blank.name ≡ L.name }
-        requires parts { blank.parts ≡ L.parts }
-        requires counter { 0 < blank.parts }
+        requires counter { IsBlankOf L.name L.parts blank }
         requires some { 1 ≤ most }
         requires bounded { most ≤ 1000000 }
         ensures terms { IfOk result (λ started. started.0.terms ≡ Some (arc_value base, day, most)) }

@@ -7,6 +7,7 @@ ghost use Rattle.std.specs.String.{string_bytes};
 ghost use Rattle.notice_desk.specs.Standings.{AreNew};
 ghost use Rattle.command_line.specs.Asking.{asked_of};
 ghost use Rattle.permit_program.specs.Runs.{IsRun, desk_at, outside_of};
+ghost use Rattle.permit_program.specs.Counters.{IsBlankOf};
 
 use analyst_pool::OpenGate;
 use notice_desk::{Notice, Subscribers};
@@ -57,9 +58,7 @@ fn run_counted<L: Ledger + Send + Sync, S: Source, K: Sink>(
     notices: &mut Subscribers,
     blank: Blank,
 ) -> u8
-    requires name { blank.name ≡ L.name }
-    requires parts { blank.parts ≡ L.parts }
-    requires counter { 0 < blank.parts }
+    requires counter { IsBlankOf L.name L.parts blank }
     requires notices { AreNew (desk_at ⟦<dyn Notice as Notice>⟧ notices.old).standings }
     ensures run { let outside = outside_of ⟦<S as Source>⟧ ⟦<K as Sink>⟧ in
         let desk = desk_at ⟦<dyn Notice as Notice>⟧ in

@@ -29,22 +29,6 @@ below a b less = grind (arith, nat_tests)
 not_below : (a b : ℕ) → b ≤ a → nat_lt a b ≡ false
 not_below a b more = grind (arith, nat_tests)
 
--- what a reader says of too many bytes, and of all of them
-pub many_left : (old new : Option (List ℕ)) → TookExactly (most_bytes + 1) old new → IfSome old (λ bytes. most_bytes < length bytes)
-many_left None new took = tt
-many_left (Some bytes) None (taken, consumes, long) = absurd consumes
-many_left (Some bytes) (Some rest) (taken, consumes, long) = omega (arith, ap length consumes, length-append taken rest, long)
-
-pub all_taken : (old new : Option (List ℕ)) (bytes : List ℕ) → Consumes old new bytes → IsAtEnd new → IfSome old (λ all. (bytes ≡ all) × (new ≡ Some []))
-all_taken None new bytes consumes end = tt
-all_taken (Some all) None bytes consumes end = absurd consumes
-all_taken (Some all) (Some rest) bytes consumes end = (sym (consumes ∙ (ap (λ (xs : List ℕ). bytes ++ xs) end ∙ append-nil bytes)), ap Some end)
-
--- nothing was taken
-pub takes_none : (left : Option (List ℕ)) → TookAtMost (most_bytes + 1) left left
-takes_none None = ([], tt, omega arith)
-takes_none (Some bytes) = ([], refl, omega arith)
-
 -- none of these is plain
 away : (k : ℕ) → k ≢ 0 → k ≢ 2 → k ≢ 3 → k ≢ 4 → k ≢ 7 → k ≢ 8 → (n : ℕ) → n ≡ k → IsPlain n → ⊥
 away k no0 no2 no3 no4 no7 no8 n is (inl e) = no0 (sym is ∙ e)

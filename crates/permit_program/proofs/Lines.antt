@@ -17,6 +17,3 @@ written_line line before after (Err fault) all part rose = record { front = (fau
 -- a text that was written whole, and one of which a front was
 pub whole_text : {K : Type 0} (text : List ℕ) (before after : SinkAt K) → Appends before.held after.held text → after.faults ≡ before.faults → AnswersText text before after 0
 whole_text text before after wrote calm = record { whole = λ is. (wrote, calm); front = λ is. absurd (omega (arith, is)); statuses = inl refl }
-
-pub front_text : {K : Type 0} (text : List ℕ) (before after : SinkAt K) (count : ℕ) → Appends before.held after.held (take count text) → SinkFailed before after → AnswersText text before after 4
-front_text text before after count wrote failed = record { whole = λ is. absurd (omega (arith, is)); front = λ is. ((count, wrote), failed); statuses = inr refl }

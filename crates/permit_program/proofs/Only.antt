@@ -62,14 +62,6 @@ module _ (trucks gap : ℕ) (bytes : List ℕ) (file : CheckFile) (read : check_
       ap (convoy_refusal trucks gap) read ∙ (ap (option_map answer_to_convoy) first ∙ ap Some answers)
   refused_convoy refused refusal.NoMemory first answers = tt
 
--- the answer to bytes that are no check file is that of `convoy` too
-pub refused_for_convoy : (trucks gap : ℕ) (bytes : List ℕ) (refused : FileRefusal) (r : Refusal)
-    → IsRefusedAs (check_of bytes) refused → IsAnswerTo refused r → IsRefusalOf (convoy trucks gap) bytes r
-refused_for_convoy trucks gap bytes (file.Refused row cause) (refusal.Refused status line) is answers =
-    ap (convoy_refusal trucks gap) is ∙ ap Some answers
-refused_for_convoy trucks gap bytes file.NoMemory (refusal.Refused status line) is answers = absurd answers
-refused_for_convoy trucks gap bytes refused refusal.NoMemory is answers = tt
-
 -- the journal of a day of at most one actor is one
 only_journal : LoneActorsAreOne → (bytes text other : List ℕ) (file : DayParts) (history : List Entry) → day_of bytes ≡ Ok file → IsRoads file.base.roads → IsServed file history → text ≡ journal_of history
     → HasFewActors bytes → Headline bytes other → other ≡ text
@@ -104,11 +96,6 @@ journal_made one bytes text recalls file history read roads served journal recal
   };
   told = ap Some (sym recalled);
 }
-
--- the day file that is made of a number
-pub day_file_made : (seed size : ℕ) (made : Result (Vec ℕ Global) NoMemory) → IfOk made (λ text. text.items ≡ made_day seed size) → IfOk made (λ text. (bytes : List ℕ) → Makes (make seed size) bytes text.items)
-day_file_made seed size (Ok text) is = λ bytes. record { taken = refl; output = is; only = λ free other h. h ∙ sym is }
-day_file_made seed size (Err e) is = tt
 
 -- the summary of a made day is one
 only_summary : SerialHistoriesAreOne → (seed size : ℕ) (text other : List ℕ) (file : DayParts) (history : List Entry) → day_of (made_day seed size) ≡ Ok file → IsRoads file.base.roads → IsSerial file history

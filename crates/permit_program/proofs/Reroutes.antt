@@ -57,10 +57,3 @@ module _ (bytes : List ℕ) (f : DayParts) (read : day_of bytes ≡ Ok f) where
   pub refused_long : IsTooLong f → (r : Refusal) → IsCommandAnswer answer_to_entries r → IsRefusalOf reroute bytes r
   refused_long long (refusal.Refused status line) answers = judged (Some (record { status = status; line = string_bytes line })) (inr (long, ap Some answers))
   refused_long long refusal.NoMemory answers = tt
-
--- bytes that are no day file are refused as such
-pub refused_records : (bytes : List ℕ) (refused : FileRefusal) (r : Refusal) → IsRefusedAs (day_of bytes) refused → IsAnswerTo refused r → IsRefusalOf reroute bytes r
-refused_records bytes (file.Refused row cause) (refusal.Refused status line) is answers =
-    subst (λ (told : Result DayParts (ℕ × Cause)). JudgesFile told (Some (record { status = status; line = string_bytes line }))) (sym is) (ap Some answers)
-refused_records bytes file.NoMemory (refusal.Refused status line) is answers = absurd answers
-refused_records bytes refused refusal.NoMemory is answers = tt

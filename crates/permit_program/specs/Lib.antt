@@ -1,3 +1,4 @@
+pub use Rattle.clearance_rules.specs.Counters
 pub mod Headline
 pub mod Command
 pub mod Audit

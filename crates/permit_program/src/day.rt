@@ -1,6 +1,7 @@
 // What `day` makes: the journal of an office's day, and its recalls.
 
 ghost use Rattle.std.specs.Prelude.{◌≡◌, ◌<◌, IfErr, IfOk};
+ghost use Rattle.clearance_rules.specs.Counters.{IsBlankOf};
 ghost use Rattle.journal_text.specs.Journals.{journal_of};
 ghost use Rattle.reroute_desk.specs.RecallLists.{recalls_in};
 ghost use Rattle.permit_program.specs.Command.{IsRefusalOf, MakesAndTells};
@@ -43,9 +44,7 @@ pub(crate) fn make_journal<
     G: Gate + Sync,
     L: Ledger + Send + Sync,
 >(rt: &R, bytes: &[u8], gate: &G, blank: Blank) -> Result<DayOutput<L>, Refusal>
-    requires name { blank.name ≡ L.name }
-    requires parts { blank.parts ≡ L.parts }
-    requires counter { 0 < blank.parts }
+    requires counter { IsBlankOf L.name L.parts blank }
     ensures made { IfOk result (λ output. MakesAndTells day bytes.now output.journal.items output.recalls.items) }
     ensures counted { IfOk result (λ output. CountedHeadline output.tests bytes.now output.journal.items) }
     ensures refused { IfErr result (IsRefusalOf day bytes.now) }

@@ -3,6 +3,7 @@
 ghost use Rattle.std.specs.Prelude.{◌≡◌, ◌≢◌, ◌<◌, ◌≤◌, ◌+◌, IfErr, IfOk, Some, length, map};
 ghost use Rattle.std.specs.String.{string_bytes};
 ghost use Rattle.office_io.specs.Causes.{TookAtMost, UnlessReadFault};
+ghost use Rattle.clearance_rules.specs.Counters.{IsBlankOf};
 ghost use Rattle.notice_desk.specs.Standings.{AreNew};
 ghost use Rattle.command_line.specs.Asking.{NumbersAreInRange, asked_of};
 ghost use Rattle.command_line.specs.declared.asked.Asked.{Asked};
@@ -89,9 +90,7 @@ pub fn run<
     gate: &G,
     blank: Blank,
 ) -> Ended<L>
-    requires name { blank.name ≡ L.name }
-    requires parts { blank.parts ≡ L.parts }
-    requires counter { 0 < blank.parts }
+    requires counter { IsBlankOf L.name L.parts blank }
     requires notices { AreNew (desk_at ⟦<dyn Notice as Notice>⟧ notices.old).standings }
     ensures run { let outside = outside_of ⟦<S as Source>⟧ ⟦<K as Sink>⟧ in
         let desk = desk_at ⟦<dyn Notice as Notice>⟧ in
@@ -179,9 +178,7 @@ fn perform_day<
     gate: &G,
     blank: Blank,
 ) -> Ended<L>
-    requires name { blank.name ≡ L.name }
-    requires parts { blank.parts ≡ L.parts }
-    requires counter { 0 < blank.parts }
+    requires counter { IsBlankOf L.name L.parts blank }
     requires notices { AreNew (desk_at ⟦<dyn Notice as Notice>⟧ notices.old).standings }
     ensures run { let outside = outside_of ⟦<S as Source>⟧ ⟦<K as Sink>⟧ in
         let desk = desk_at ⟦<dyn Notice as Notice>⟧ in

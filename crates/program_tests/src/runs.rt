@@ -2,6 +2,7 @@
 
 ghost use Rattle.std.specs.Prelude.{◌≡◌, ◌<◌};
 ghost use Rattle.notice_desk.specs.Standings.{AreNew, standings};
+ghost use Rattle.permit_program.specs.Counters.{IsBlankOf};
 
 use crate::cases::Notices;
 use analyst_pool::{Gate, OpenGate};
@@ -159,9 +160,7 @@ fn run_counted<
     gate: &G,
     blank: Blank,
 ) -> u8
-    requires name { blank.name ≡ L.name }
-    requires parts { blank.parts ≡ L.parts }
-    requires some { 0 < blank.parts }
+    requires counter { IsBlankOf L.name L.parts blank }
     requires new { AreNew (standings (λ n. (⟦<dyn Notice as Notice>⟧ n.vtable).list n.value) notices.old) }
 {
     let Ended { status, tests } = run::<R, MemorySource, MemorySink, G, L>(

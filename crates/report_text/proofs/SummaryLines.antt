@@ -9,8 +9,3 @@ line_adds old a b c new word digits h i j k = rw (k, j, i, h) (simp append_assoc
 pub seven_add : (p0 p1 p2 p3 p4 p5 p6 p7 a b c d e f g : List ℕ) → p0 ≡ [] → p1 ≡ p0 ++ a → p2 ≡ p1 ++ b → p3 ≡ p2 ++ c → p4 ≡ p3 ++ d → p5 ≡ p4 ++ e → p6 ≡ p5 ++ f → p7 ≡ p6 ++ g
     → p7 ≡ a ++ (b ++ (c ++ (d ++ (e ++ (f ++ g)))))
 seven_add p0 p1 p2 p3 p4 p5 p6 p7 a b c d e f g h i j k l m n o = rw (o, n, m, l, k, j, i, h) (simp append_assoc)
-
--- the version behind the entries that are left, by the next of them
-pub version_more : (history : List Entry) (i before : ℕ) (e : Entry) → i < length history → e ≡ get_or history i e → last_version_from before (drop i history) ≡ last_version_from (version_behind before e.reply) (drop (i + 1) history)
-version_more history i before e inside is =
-    rw add-one (ap (last_version_from before) (drop-cons history i e inside) ∙ ap (λ (x : Entry). last_version_from (version_behind before x.reply) (drop (suc i) history)) (sym is))

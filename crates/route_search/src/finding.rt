@@ -80,19 +80,6 @@ pub fn shortest_walk(
     Ok(or_why(alloc, trip, found)?)
 }
 
-/// The same, where the potentials are known. `NoMemory` where no memory was left.
-pub fn shortest_walk_by(
-    alloc: Global,
-    trip: &TripEnds,
-    potentials: &Potentials,
-) -> Result<Shortest, NoMemory>
-    requires { ArePotentialsOver trip.now.roads.network.now trip.now.roads.flags.now trip.now.to potentials.now }
-    ensures { IfOk result (IsShortest trip.now.roads.network.now trip.now.roads.flags.now trip.now.from trip.now.to) }
-{
-    let found = shortest_route_by(alloc, trip, potentials)?;
-    Ok(or_why(alloc, trip, found)?)
-}
-
 /// The route that `shortest_walk` answers, or `None` where no passable walk leads there. The lengths go into the table,
 /// whatever a search before this one noted there. `NoMemory` where no memory was left.
 pub fn shortest_route(

@@ -38,7 +38,7 @@ mod walks;
 mod width;
 
 pub use finding::{
-    potentials, search, shortest_route, shortest_route_by, shortest_walk, shortest_walk_by,
+    potentials, search, shortest_route, shortest_route_by, shortest_walk,
 };
 pub use found::{Found, Potentials};
 pub use heights::Heights;

@@ -13,6 +13,7 @@ pub use Rattle.road_graph.specs.Roads
 pub use Rattle.route_search.specs.Walks
 pub use Rattle.restriction_log.specs.States
 pub use Rattle.snapshot_store.specs.Stores
+pub use Rattle.clearance_rules.specs.Counters
 pub use Rattle.clearance_rules.specs.Loads
 pub use Rattle.clearance_rules.specs.Limits
 pub use Rattle.trip_routes.specs.Routes

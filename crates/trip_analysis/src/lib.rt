@@ -49,6 +49,6 @@ pub use finding::{Proposal, What};
 pub use follower::Follower;
 pub use known::Known;
 pub use laws::{asked_findings_are_of_the_routes, findings_hold, free_findings_are_of_walks};
-pub use node_set::{NodeSet, first_meeting_out};
+pub use node_set::NodeSet;
 pub use truck_at::TruckAt;
 pub use truck_on::TruckOn;

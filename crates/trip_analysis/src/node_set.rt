@@ -1,18 +1,12 @@
 // A set of nodes, and the segments that leave it.
 
 ghost use Rattle.std.specs.Prelude.{◌≡◌, ◌+◌, ◌<◌, ◌≤◌, ◌∷◌, [], length, true, MatchOption};
-ghost use Rattle.restriction_log.specs.States.{AreOf};
 ghost use Rattle.trip_analysis.specs.NodeSets.{AreMarks, IsLeastInto};
-ghost use Rattle.trip_analysis.specs.Findings.{IsNextLeaving, first_meeting, is_number_among, leaves, leaving, leaving_from};
+ghost use Rattle.trip_analysis.specs.Findings.{IsNextLeaving, is_number_among, leaves, leaving};
 
-use crate::base::Base;
-use crate::truck_on::TruckOn;
-use clearance_rules::Steps;
-use restriction_log::State;
 use road_graph::{Network, SharedNumbers};
 use std::marker::Model;
 use std::snapshot::Snapshot as Told;
-use std::sync::ledger::Ledger;
 
 /// The most nodes of a network.
 const MOST_NODES: usize = 4096;
@@ -72,7 +66,7 @@ impl NodeSet {
             (IsNextLeaving network.now self.now 0) }
     {
         if self.count < network.nodes() as usize / 2 {
-            return self.next_leaving(network, 0);
+            return self.first_by_number(network);
         }
         let count = network.segments();
         let mut first = count;
@@ -109,44 +103,21 @@ impl NodeSet {
         most
     }
 
-    /// The least segment from a number on that leaves the nodes, or none where none does. Takes no memory.
+    // The least segment that leaves the nodes, looked for by rising numbers.
     #[tactic(auto, using(crate::proofs::Crossing::lemmas))]
-    pub fn next_leaving(&self, network: &Network, start: u32) -> Option<u32>
+    fn first_by_number(&self, network: &Network) -> Option<u32>
         ensures { MatchOption result
-            (leaving_from network.now self.now start ≡ [])
-            (IsNextLeaving network.now self.now start) }
+            (leaving network.now self.now ≡ [])
+            (IsNextLeaving network.now self.now 0) }
     {
         let count = network.segments();
-        for segment in start..count {
+        for segment in 0..count {
             if self.is_left_by(network, segment) {
                 return Some(segment);
             }
         }
         None
     }
-}
-
-/// The least segment out of these nodes that the truck may pass. Takes no memory.
-pub fn first_meeting_out<L: Ledger>(
-    base: &Base,
-    state: &State,
-    truck: u32,
-    nodes: &NodeSet,
-    steps: &mut Steps<L>,
-) -> Option<u32>
-    requires truck { truck < length base.now.fleet }
-    requires state { AreOf base.now.roads state.now }
-    ensures { result ≡ first_meeting base.now state.now truck (leaving base.now.roads nodes.now) }
-{
-    let on = TruckOn { base, state, truck };
-    let mut start = 0;
-    'out: while let Some(s) = nodes.next_leaving(base.network(), start) {
-        if on.is_passable(s, steps) {
-            return Some(s);
-        }
-        start = s + 1;
-    }
-    None
 }
 
 // For each number that a node can have, whether it is one of these.
