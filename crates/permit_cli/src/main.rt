@@ -2,8 +2,9 @@
 //! output, and tells standard error of each permit that a day recalled.
 #![tactic(auto)]
 
-ghost use Rattle.std.specs.Prelude.{◌≡◌, ◌<◌, map};
+ghost use Rattle.std.specs.Prelude.{◌≡◌, ◌<◌, IfOk, drop, map};
 ghost use Rattle.std.specs.String.{string_bytes};
+ghost use Rattle.std.specs.Vec.Iter.{into_iter_items};
 ghost use Rattle.notice_desk.specs.Standings.{AreNew};
 ghost use Rattle.command_line.specs.Asking.{asked_of};
 ghost use Rattle.permit_program.specs.Runs.{IsRun, desk_at, outside_of};
@@ -13,13 +14,14 @@ use analyst_pool::OpenGate;
 use notice_desk::{Notice, Subscribers};
 use office_io::{Sink, Source, StdSink, StdSource};
 use permit_program::{Ended, LineNotice, add_listener, refuse_words, run};
-use std::alloc::AllocFailed;
+use std::alloc::{AllocFailed, Global};
 use std::io::ErrorKind;
 use std::marker::Brand;
 use std::process::ExitCode;
 use std::sync::Wait;
 use std::sync::ledger::{Blank, Ledger};
 use std::thread::Threads;
+use std::vec::IntoIter;
 use std::{env, io};
 use thiserror::Error;
 
@@ -96,11 +98,21 @@ impl From<AllocFailed<String>> for WordsFault {
 
 // The words of the command line, without the program's name.
 fn words_of(rt: &HostRuntime) -> Result<Vec<String>, WordsFault> {
-    let mut words = Vec::new(rt.alloc());
-    for (i, word) in env::args(rt)?.enumerate() {
-        if i > 0 {
-            words.push(word)?;
-        }
+    Ok(behind_the_first(rt.alloc(), env::args(rt)?)?)
+}
+
+// All of these words but the first.
+fn behind_the_first(
+    alloc: Global,
+    words: IntoIter<String>,
+) -> Result<Vec<String>, AllocFailed<String>>
+    ensures { IfOk result (λ behind. behind.items ≡ drop 1 (into_iter_items words)) }
+{
+    let mut words = words;
+    drop(words.next());
+    let mut behind = Vec::new(alloc);
+    'rest: while let Some(word) = words.next() {
+        behind.push(word)?;
     }
-    Ok(words)
+    Ok(behind)
 }
