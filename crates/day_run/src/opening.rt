@@ -1,6 +1,6 @@
 // A desk that opens for the actors of a day.
 
-ghost use Rattle.std.specs.Prelude.{◌≡◌, ◌≤◌, ◌*◌, ◌<◌, length, IfOk, Some};
+ghost use Rattle.std.specs.Prelude.{◌≡◌, ◌≤◌, ◌*◌, length, max, IfOk, Some};
 ghost use Rattle.std.specs.Arc.{arc_value};
 ghost use Rattle.clearance_rules.specs.Counters.{IsBlankOf};
 ghost use Rattle.office_turn.specs.Told.{opening_root};
@@ -35,7 +35,7 @@ pub(crate) fn open<L: Ledger>(
     requires counter { IsBlankOf L.name L.parts blank }
     requires file { IsDayFile file }
     ensures terms { IfOk result (λ o. o.desk.terms ≡ Some (file.base, file.day, o.desk.most)) }
-    ensures room { IfOk result (λ o. 17 * length file.commands ≤ o.desk.most) }
+    ensures room { IfOk result (λ o. o.desk.most ≡ max 1 (17 * length file.commands)) }
     ensures root { IfOk result (λ o. o.root ≡ opening_root o.desk) }
     ensures base { IfOk result (λ o. arc_value o.base ≡ file.base) }
     ensures count { IfOk result (λ o. length o.scripts.items ≡ length file.actors) }

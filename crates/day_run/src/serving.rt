@@ -1,6 +1,6 @@
 // An office whose actors carry out the commands of a day file.
 
-ghost use Rattle.std.specs.Prelude.{◌≡◌, ◌<◌, IfOk, OnOk};
+ghost use Rattle.std.specs.Prelude.{◌≡◌, ◌*◌, length, max, IfOk, OnOk};
 ghost use Rattle.road_graph.specs.Roads.{IsRoads};
 ghost use Rattle.clearance_rules.specs.Counters.{IsBlankOf};
 ghost use Rattle.day_text.specs.Laws.{IsDayFile};
@@ -37,6 +37,8 @@ pub fn serve<R: Threads + Wait + AllocGlobal + Sync, G: Gate + Sync, L: Ledger +
     requires file { IsDayFile file }
     ensures served { IfOk result (λ done. IsServed file done.0.history) }
     ensures base { IfOk result (λ done. done.0.base ≡ file.base) }
+    // It has room for the 17 entries that a command may make, and for no more than these, or for one.
+    ensures room { IfOk result (λ done. done.0.most ≡ max 1 (17 * length file.commands)) }
     // The counter stood at 0 when the office opened. What it shows can be parted among the entries, so that each has no
     // more than its call may cost.
     ensures counted { IfOk result (λ done. Counts file.base file.day done.0.history done.1) }

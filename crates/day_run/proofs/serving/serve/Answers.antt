@@ -1,5 +1,6 @@
-use Rattle.std.proofs.Common.{rules, arith, ap, sym, ◌∙◌, ◌≡◌, ◌≢◌, ℕ, ◌<◌, length, subst, All, Some, Option, true}
+use Rattle.std.proofs.Common.{rules, arith, ap, sym, ◌∙◌, ◌≡◌, ◌≢◌, ℕ, ◌*◌, ◌<◌, ◌≤◌, length, subst, All, Some, Option, true}
 use Rattle.std.specs.Prelude.{unwrap_or}
+use Rattle.std.proofs.Math.Nat.{le-max_right}
 use Rattle.day_text.specs.Days.{DayParts}
 use Rattle.day_text.specs.Laws.{IsDayFile}
 use Rattle.office_desk.specs.Desks.{Terms, no_terms, terms_of}
@@ -32,7 +33,7 @@ unreachable-requires g c =
     subst (λ l. All (λ r. r.worn ≡ true → length office.history ≡ l.most) root.receipts) ran.lock closes.worn in
     never_full file desk root.receipts c.in_ok-desk.field-0.scripts.items office.history opened.count opened.scripts closes.own
     (ran.run.each some) (ran.run.full full) (subst (λ (n : ℕ). All (λ e. e.caller < n) office.history) few closes.callers) worn
-    (scripts_together file is_file) opened.room
+    (scripts_together file is_file) (subst (λ (n : ℕ). 17 * length file.commands ≤ n) (sym opened.room) (le-max_right 1 (17 * length file.commands)))
 
 pub returns-in-Done-clause-served : goal.returns-in-Done-clause-served
 returns-in-Done-clause-served g c =
