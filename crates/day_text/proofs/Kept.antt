@@ -13,7 +13,7 @@ use Rattle.road_graph.specs.declared.values.What.{What}
 use Rattle.road_graph.specs.declared.segment.Span.{Span}
 use Rattle.road_graph.specs.Adding.{limited, new_segment, network_with_limit, with_node, with_segment, with_span}
 use Rattle.road_graph.specs.Roads.{IsRoads, Roads, has_name, no_segment, segment_at, segment_names, span_names, spans_of, number_of as number_named}
-use Rattle.road_graph.proofs.Growth.{roads-limit, roads-node, roads-segment, roads-span}
+use Rattle.road_graph.proofs.Growth.{defaults_in_range, roads-limit, roads-node, roads-segment, roads-span}
 use Rattle.road_graph.proofs.Places.{get-front}
 use Rattle.trip_analysis.specs.Walks.{IsWalk, every}
 use Rattle.trip_analysis.specs.Applications.{IsAskedWalk, Sound}
@@ -21,7 +21,7 @@ use Rattle.trip_analysis.specs.Bases.{BaseLists}
 use Rattle.trip_analysis.specs.declared.application.Application.{Application}
 use Rattle.day_text.specs.Causes.{demand, limit, or_bad}
 use Rattle.day_text.specs.Forms.{Limit, Name, Number, said_in}
-use Rattle.road_graph.specs.Ranges.{AreInRange, default_values, is_feet, is_inches, is_limit, is_rating}
+use Rattle.road_graph.specs.Ranges.{is_feet, is_inches, is_limit, is_rating}
 use Rattle.day_text.specs.declared.refusal.Kind.TheVariants as kind
 use Rattle.day_text.specs.Records.{Row}
 use Rattle.day_text.specs.declared.refusal.RecordCause.TheVariants as bad
@@ -106,9 +106,6 @@ node_grows roads fields =
       roads = λ h. roads-node roads said.0 h (ltb-true _ _ (was_within _ kind.Nodes b few)) (not-true _ (was_demanded _ bad.Same a new));
     }))))
 
-defaults : AreInRange default_values
-defaults = record { height = refl; width = refl; length = refl; gross = refl; allowance = refl; tridem = refl }
-
 pub segment_grows : (roads : Roads) (fields : Row) → Gives (HaveGrown roads) (with_segment_of roads fields)
 unfolding with_segment_of
 segment_grows roads fields =
@@ -129,7 +126,7 @@ segment_grows roads fields =
         to = named_within said.1.1.0 roads.nodes j (found_some (bad.Unknown 4) (number_named said.1.1.0 roads.nodes) j ends);
         some = leb-true _ _ (first_so (nat_le 1 said.1.1.1.0) (nat_le said.1.1.1.0 10000000) range);
         far = leb-true _ _ (second_so (nat_le 1 said.1.1.1.0) (nat_le said.1.1.1.0 10000000) range);
-        base = defaults;
+        base = defaults_in_range;
       }) (not-true _ (was_demanded _ bad.Same a new));
     })))))))
 

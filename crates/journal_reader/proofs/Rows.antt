@@ -175,8 +175,3 @@ one_more_fits f h e new fits fit last = subst (λ (x : List Entry). HasJournalIn
     by : (g : List Entry) → HasJournalIn f g → HasJournalIn f (g ++ (e ∷ []))
     by [] fs = (fit, tt)
     by (d ∷ g) (d', fs) = (d', by g fs)
-
-first_long : (f : Format) → length (ended (first_line f)) ≡ 17
-first_long One = refl
-first_long Two = refl
-first_long Three = refl

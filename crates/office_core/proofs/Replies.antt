@@ -44,8 +44,3 @@ none_fails base state truck (s ∷ rest) e = let both = first_or_none (limit_for
 some_fails : (base : BaseLists) (state : InForce) (truck s : ℕ) (l : Option Limit) (rest : Option Failing) (b : Bool) → limit_for base state truck s ≡ l → is_some rest ≡ b → is_some (first_or l s rest) ≡ (not (is_none l) || b)
 some_fails base state truck s (Some l) rest b e h = refl
 some_fails base state truck s None rest b e h = h
-
--- a permit fails where a first segment that fails is found
-pub found_fails : (base : BaseLists) (state : InForce) (truck : ℕ) (segments : List ℕ) → is_some (first_on base state truck segments) ≡ list_any (λ s. not (is_passable base state truck s)) segments
-found_fails base state truck [] = refl
-found_fails base state truck (s ∷ rest) = some_fails base state truck s (limit_for base state truck s) (first_on base state truck rest) _ refl (found_fails base state truck rest)

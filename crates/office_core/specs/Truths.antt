@@ -50,8 +50,7 @@ pub record TruePermit (base : BaseLists) (day : Day) (front : History) (c : Call
   pub on_time : is_before trip.first (day_after day front) ≡ false
 
 -- the limit is one of a segment that is there, and the first that fails the truck on it: it fails, with these
--- two sides, and none that comes before it does, in the order of closed, height, width, length, gross weight,
--- groups of axles, tridem groups, and the spans by moment and shear
+-- two sides, and none that comes before it in the order of limits does
 pub record IsFirstLimit (base : BaseLists) (state : InForce) (truck : ℕ) (l : Limit) : Type 0 where
   pub there : segment_of l < length base.roads.segments
   pub first : FailsFirst base.roads state (truck_of base truck).load (segment_of l) l

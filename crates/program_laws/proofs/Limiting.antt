@@ -35,7 +35,7 @@ use Rattle.road_graph.specs.declared.values.Values.{Values}
 use Rattle.road_graph.specs.Ranges.{AreInRange, default_values, is_between}
 use Rattle.road_graph.specs.Roads.{IsRoads, Roads, no_span, span_at, spans_of}
 use Rattle.road_graph.proofs.Filters.{spans_are}
-use Rattle.road_graph.proofs.Growth.{range-limit}
+use Rattle.road_graph.proofs.Growth.{defaults_in_range, range-limit}
 use Rattle.restriction_log.specs.declared.change.Change.{Change}
 use Rattle.restriction_log.specs.declared.change.Replaced.{Replaced}
 use Rattle.restriction_log.specs.declared.change.Replaced.TheVariants as replaced
@@ -58,9 +58,6 @@ at_or P xs i d all here = elim (cases_lt i (length xs)) [
   | inr past ↦ subst P (sym (get_or_past xs i d past)) here
 ]
 
-defaults : AreInRange default_values
-defaults = record { height = refl; width = refl; length = refl; gross = refl; allowance = refl; tridem = refl }
-
 abbrev AreRanged : InForce → Type 0
 AreRanged state = All AreInRange state.values
 
@@ -69,7 +66,7 @@ set_ranged state i v h fits = All-set AreInRange state.values i v fits h
 
 with_ranged : (roads : Roads) (state : InForce) (r : Replaced) → takes_replaced roads r ≡ true → AreRanged state → AreRanged (with_replaced state r)
 with_ranged roads state (replaced.Limit segment limit value) taken h =
-    set_ranged state segment _ h (range-limit (values_at state.values segment) limit value (at_or AreInRange state.values segment default_values h defaults) (both _ _ taken).1)
+    set_ranged state segment _ h (range-limit (values_at state.values segment) limit value (at_or AreInRange state.values segment default_values h defaults_in_range) (both _ _ taken).1)
 with_ranged roads state (replaced.Rating span permille) taken h = h
 
 after_ranged : (roads : Roads) (state : InForce) (c : Change) → takes roads c ≡ true → AreRanged state → AreRanged (state_after state c)
@@ -129,7 +126,7 @@ module _ (roads : Roads) (state : InForce) (load : LoadParts) (s : ℕ) (is : Is
   values = values_at state.values s
 
   in_range : AreInRange values
-  in_range = at_or AreInRange state.values s default_values ranged defaults
+  in_range = at_or AreInRange state.values s default_values ranged defaults_in_range
 
   crossed : (is_cross_section load.height ≡ true) × (is_cross_section load.width ≡ true)
   crossed = both (is_cross_section load.height) (is_cross_section load.width) (both (is_cross_section load.height && is_cross_section load.width) (is_length load.length) sizes).0

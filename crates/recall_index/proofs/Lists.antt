@@ -61,9 +61,6 @@ taken_among ns xs false among = among
 pub one_alone : (n : ℕ) (xs : List ℕ) → AreAllOrNone (n ∷ []) xs
 one_alone n xs = (is_in n xs, All-cons (λ k. is_in k xs ≡ is_in n xs) n [] refl (All-nil (λ k. is_in k xs ≡ is_in n xs)))
 
-pub one_rises : (n : ℕ) → IsStrictlyIncreasing (n ∷ [])
-one_rises n = λ k low. absurd (omega (arith, low))
-
 -- one list is another
 at_one : (lists : Lists) (at s : ℕ) (xs : List ℕ) → at ≡ s → at < length lists → using_in (set lists at xs) s ≡ xs
 at_one lists at s xs e here = ap (λ k. using_in (set lists at xs) k) (sym e) ∙ get_or-set_same lists at xs [] here

@@ -32,21 +32,6 @@ ratings_many_with state (replaced.Rating t x) = length-set state.ratings t x
 pub ratings_many_after : (state : InForce) (c : Change) → length (state_after state c).ratings ≡ length state.ratings
 ratings_many_after state c = ratings_many_with state (replaced_by c)
 
-values_many_fold : (state : InForce) (cs : List Change) → length (fold state_after state cs).values ≡ length state.values
-values_many_fold state [] = refl
-values_many_fold state (c ∷ cs) = values_many_fold (state_after state c) cs ∙ values_many_after state c
-
-ratings_many_fold : (state : InForce) (cs : List Change) → length (fold state_after state cs).ratings ≡ length state.ratings
-ratings_many_fold state [] = refl
-ratings_many_fold state (c ∷ cs) = ratings_many_fold (state_after state c) cs ∙ ratings_many_after state c
-
--- there are limits for each segment and a rating for each span
-pub values_many : (roads : Roads) (postings : List Change) → length (state_of roads postings).values ≡ length roads.segments
-values_many roads postings = values_many_fold (base_of roads) postings ∙ length-map roads.segments (λ (s : Segment). s.base)
-
-pub ratings_many : (roads : Roads) (postings : List Change) → length (state_of roads postings).ratings ≡ length roads.spans
-ratings_many roads postings = ratings_many_fold (base_of roads) postings ∙ length-map roads.spans (λ (t : Span). t.rating)
-
 -- what a state has of the numbers of segments and spans of a network
 has_by_count : (roads : Roads) (state : InForce) (r : Replaced) → length state.values ≡ length roads.segments → length state.ratings ≡ length roads.spans
     → takes_replaced roads r ≡ true → has_replaced state r ≡ true
@@ -56,11 +41,6 @@ has_by_count roads state (replaced.Rating t x) values ratings taken = ap (nat_lt
 pub named_by_count : (roads : Roads) (state : InForce) (c : Change) → length state.values ≡ length roads.segments → length state.ratings ≡ length roads.spans
     → takes roads c ≡ true → is_named state c ≡ true
 named_by_count roads state c = has_by_count roads state (replaced_by c)
-
--- what the network takes is in each of its states
-pub named_if_taken : (roads : Roads) (postings : List Change) (c : Change) → takes roads c ≡ true → is_named (state_of roads postings) c ≡ true
-named_if_taken roads postings c taken =
-    named_by_count roads (state_of roads postings) c (values_many roads postings) (ratings_many roads postings) taken
 
 -- before anything is posted
 pub base_is_of : BaseIsOf

@@ -9,12 +9,16 @@ use Rattle.road_graph.specs.declared.segment.Span.{Span}
 use Rattle.road_graph.specs.declared.values.Values.{Values}
 use Rattle.road_graph.specs.declared.values.What.{What}
 use Rattle.road_graph.specs.declared.values.What.TheVariants.{Closed, Height, Width, Length, Gross, Allowance, Tridem}
-use Rattle.road_graph.specs.Ranges.{is_between, is_feet, is_inches, is_rating, is_limit, with_value, AreInRange}
+use Rattle.road_graph.specs.Ranges.{is_between, is_feet, is_inches, is_rating, is_limit, with_value, default_values, AreInRange}
 use Rattle.road_graph.specs.Roads.{Roads, has_name, segment_names, span_names, spans_of, AreDistinct, IsSegment, IsSpan, IsRoads}
 use Rattle.road_graph.specs.Adding.{new_segment, with_node, with_segment, with_span, limited}
 use Rattle.road_graph.proofs.Places.{get-push_cases, get-set_cases, get-map}
 use Rattle.road_graph.proofs.Distinct.{distinct-push}
 use Rattle.road_graph.proofs.Filters.{spans-more, spans-same}
+
+-- the limits of a segment on which none is set are in range
+pub defaults_in_range : AreInRange default_values
+defaults_in_range = record { height = refl; width = refl; length = refl; gross = refl; allowance = refl; tridem = refl }
 
 -- a number between two others
 between-parts : (least most n : ℕ) → is_between least most n ≡ true → (least ≤ n) × (n ≤ most)
@@ -32,7 +36,7 @@ segment-fits nodes name from to feet ends long =
       to = ltb-true to nodes both.1;
       some = feet_are.0;
       far = feet_are.1;
-      base = record { height = refl; width = refl; length = refl; gross = refl; allowance = refl; tridem = refl };
+      base = defaults_in_range;
     }
 
 pub span-fits : (segments : ℕ) (name : List ℕ) (segment inches rating : ℕ) → segment < segments → is_inches inches && is_rating rating ≡ true

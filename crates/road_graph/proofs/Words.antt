@@ -7,16 +7,6 @@ use Rattle.road_graph.specs.declared.values.What.{What}
 use Rattle.road_graph.specs.declared.values.What.TheVariants.{Closed, Height, Width, Length, Gross, Allowance, Tridem}
 use Rattle.road_graph.specs.Words.{what_of, what_word}
 
--- the word of a limit is read as that limit
-pub word_is_read : (w : What) → what_of (what_word w) ≡ Some w
-word_is_read Closed = refl
-word_is_read Height = refl
-word_is_read Width = refl
-word_is_read Length = refl
-word_is_read Gross = refl
-word_is_read Allowance = refl
-word_is_read Tridem = refl
-
 -- the text is the word of the limit, or what comes after decides
 next : (text : List ℕ) (v w : What) (rest : Option What) → cond (bytes_eq text (what_word v)) (Some v) rest ≡ Some w
     → (text ≡ what_word w) ⊎ (rest ≡ Some w)

@@ -1,8 +1,7 @@
 //! The road network: nodes, directed segments between them, and the bridge spans that segments carry.
 //!
-//! The limits of a segment are those that a state posts on its roads: closure, height, width, length, gross weight, an
-//! allowance on the weight of each axle group, and the weight of a tridem group. A span has a load rating in per mille
-//! of the HS20-44 truck of the AASHTO Standard Specifications. Their ranges and the greatest size of a network are this
+//! The limits of a segment are those that a state posts on its roads ([`Values`]). A span has a load rating in per mille of
+//! the HS20-44 truck of the AASHTO Standard Specifications. Their ranges and the greatest size of a network are this
 //! project's own.
 //!
 //! To the crate above it promises that a network is the plain lists of what was added, in order and numbered from 0; that

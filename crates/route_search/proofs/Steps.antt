@@ -59,10 +59,6 @@ out_before segments (Some a) ps i s d at (b, known, far) = (
       omega (arith, k, e),
 )
 
--- a potential is below what stands for none
-pub known_small : (k d : ℕ) → d ≤ 10000000 * k → k ≤ 4096 → d < beyond
-known_small k d h few = omega (arith, h, few)
-
 -- how many are known, and that the new length is bounded by it
 known_after : (ps : List (Option ℕ)) (u d feet : ℕ) (old : Option ℕ) → u < length ps → get_or ps u None ≡ old → d + feet < weight_of old → feet ≤ 10000000 → d ≤ 10000000 * known ps
     → ((e : ℕ) → old ≡ Some e → e ≤ 10000000 * known ps) → (known ps ≤ known (set ps u (Some (d + feet)))) × (d + feet ≤ 10000000 * known (set ps u (Some (d + feet))))

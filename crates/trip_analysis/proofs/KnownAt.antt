@@ -54,9 +54,6 @@ pub record AreKnownBelow (base : BaseLists) (old new : InForce) (n : ℕ) (a : A
   pub many : length a.known.items ≡ length base.fleet
   pub each : (truck : ℕ) (d : Option Known) → truck < length base.fleet → IfSome (get_or a.known.items truck d) (IsKnownBelow base old new n truck)
 
-pub are_below_of : (base : BaseLists) (old new : InForce) (n : ℕ) (a : Analyst) → AreKnownBelow base old new n a → AreOfFleet base a
-are_below_of base old new n a are = record { many = are.many; each = λ truck d less. IfSome_then (get_or a.known.items truck d) (are.each truck d less) (λ known below. below.of_roads) }
-
 -- before the first segment all is known in the old state
 pub are_below_none : (base : BaseLists) (old new : InForce) (a : Analyst) → AreKnown base old a → AreKnownBelow base old new 0 a
 are_below_none base old new a are = record {

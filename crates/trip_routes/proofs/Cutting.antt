@@ -81,10 +81,6 @@ part_at start (end ∷ ends) segments zero within = refl
 part_at start (end ∷ ends) segments (suc zero) within = part_at end ends segments 0 (omega (arith, within))
 part_at start (end ∷ ends) segments (suc (suc i)) within = part_at end ends segments (suc i) (omega (arith, within))
 
-pub cut_at : (ends segments : List ℕ) (i : ℕ) → i < length ends
-    → get_or (parted 0 ends segments) i [] ≡ slice_range segments (begin_of 0 ends i) (get_or ends i 0)
-cut_at ends segments i within = part_at 0 ends segments i within
-
 -- a part begins where it ends or before, and ends within the list
 part_within : (start : ℕ) (ends : List ℕ) (last i : ℕ) → Rise start ends last → i < length ends
     → (begin_of start ends i ≤ get_or ends i 0) × (get_or ends i 0 ≤ last)
