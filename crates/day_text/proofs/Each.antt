@@ -35,13 +35,6 @@ module _ {A B : Type 0} (f : A → Option B) where
   abbrev pub IsSoFar : List A → ℕ → List B → Type 0
   IsSoFar xs n front = option_map (λ more. front ++ more) (of_each f (drop n xs)) ≡ of_each f xs
 
-  pub far_none : (xs : List A) → IsSoFar xs 0 []
-  far_none xs = by (of_each f xs)
-    where
-      by : (given : Option (List B)) → option_map (λ more. [] ++ more) given ≡ given
-      by None = refl
-      by (Some ys) = refl
-
   at_place : (xs : List A) (n : ℕ) (front : List B) (x : A) (o : Option B) → n < length xs → x ≡ get_or xs n x → f x ≡ o → IsSoFar xs n front
       → option_map (λ more. front ++ more) (first_and o (of_each f (drop (n + 1) xs))) ≡ of_each f xs
   at_place xs n front x o low here is so_far =
