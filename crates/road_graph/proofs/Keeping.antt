@@ -16,19 +16,19 @@ use Rattle.road_graph.proofs.Filters.{outgoing-none, incoming-none, spans-none, 
 use Rattle.road_graph.proofs.Growth.{roads-node, roads-segment, roads-span, roads-limit, names-limit}
 
 module _ (n : Inside) (h : IsNetworkKept n) where
-  pub kept-node : (m : Inside) (name : List ℕ) → length n.nodes.keys < 4096 → has_name name n.nodes.keys ≡ false
+  pub kept-node : (m : Inside) (name : List ℕ) → length n.nodes < 4096 → has_name name n.nodes ≡ false
       → roads_in m ≡ with_node (roads_in n) name
-      → m.segment_names.keys ≡ n.segment_names.keys → m.span_names.keys ≡ n.span_names.keys
+      → m.segment_names ≡ n.segment_names → m.span_names ≡ n.span_names
       → lists_of m.outgoing.items ≡ lists_of n.outgoing.items ++ [] ∷ []
       → lists_of m.incoming.items ≡ lists_of n.incoming.items ++ [] ∷ []
       → lists_of m.carried.items ≡ lists_of n.carried.items
       → IsNetworkKept m
   kept-node m name few none is names spans out incoming carried =
       let roads = roads_in n in
-      let nodes_are : m.nodes.keys ≡ n.nodes.keys ++ name ∷ [] = ap (λ (r : Roads). r.nodes) is in
+      let nodes_are : m.nodes ≡ n.nodes ++ name ∷ [] = ap (λ (r : Roads). r.nodes) is in
       let segments_are : m.segments.items ≡ n.segments.items = ap (λ (r : Roads). r.segments) is in
       let spans_are : m.spans.items ≡ n.spans.items = ap (λ (r : Roads). r.spans) is in
-      let more = length-append n.nodes.keys (name ∷ []) in
+      let more = length-append n.nodes (name ∷ []) in
       let from = λ (i : ℕ) (s : Segment) (at : slice_get n.segments.items i ≡ Some s). (h.roads.each i s at).from in
       let to = λ (i : ℕ) (s : Segment) (at : slice_get n.segments.items i ≡ Some s). (h.roads.each i s at).to in
       record {
@@ -36,17 +36,17 @@ module _ (n : Inside) (h : IsNetworkKept n) where
         segment_names = rw (names, segments_are) h.segment_names;
         span_names = rw (spans, spans_are) h.span_names;
         outgoing = rw (out, nodes_are, segments_are)
-            (lists-more (lists_of n.outgoing.items) (length n.nodes.keys) (length (n.nodes.keys ++ name ∷ [])) (outgoing_of n.segments.items) h.outgoing more
-            (outgoing-none n.segments.items (length n.nodes.keys) from));
+            (lists-more (lists_of n.outgoing.items) (length n.nodes) (length (n.nodes ++ name ∷ [])) (outgoing_of n.segments.items) h.outgoing more
+            (outgoing-none n.segments.items (length n.nodes) from));
         incoming = rw (incoming, nodes_are, segments_are)
-            (lists-more (lists_of n.incoming.items) (length n.nodes.keys) (length (n.nodes.keys ++ name ∷ [])) (incoming_of n.segments.items) h.incoming more
-            (incoming-none n.segments.items (length n.nodes.keys) to));
+            (lists-more (lists_of n.incoming.items) (length n.nodes) (length (n.nodes ++ name ∷ [])) (incoming_of n.segments.items) h.incoming more
+            (incoming-none n.segments.items (length n.nodes) to));
         carried = rw (carried, segments_are, spans_are) h.carried;
       }
 
-  pub kept-segment : (m : Inside) (s : Segment) → length n.segments.items < 16384 → IsSegment (length n.nodes.keys) s → has_name s.name n.segment_names.keys ≡ false
+  pub kept-segment : (m : Inside) (s : Segment) → length n.segments.items < 16384 → IsSegment (length n.nodes) s → has_name s.name n.segment_names ≡ false
       → roads_in m ≡ with_segment (roads_in n) s
-      → m.segment_names.keys ≡ n.segment_names.keys ++ s.name ∷ [] → m.span_names.keys ≡ n.span_names.keys
+      → m.segment_names ≡ n.segment_names ++ s.name ∷ [] → m.span_names ≡ n.span_names
       → lists_of m.outgoing.items ≡ with_appended (lists_of n.outgoing.items) s.from (length n.segments.items)
       → lists_of m.incoming.items ≡ with_appended (lists_of n.incoming.items) s.to (arrival_of (length n.segments.items, s))
       → lists_of m.carried.items ≡ lists_of n.carried.items ++ [] ∷ []
@@ -54,7 +54,7 @@ module _ (n : Inside) (h : IsNetworkKept n) where
   kept-segment m s few fits none is names spans out incoming carried =
       let roads = roads_in n in
       let segments = n.segments.items in
-      let nodes_are : m.nodes.keys ≡ n.nodes.keys = ap (λ (r : Roads). r.nodes) is in
+      let nodes_are : m.nodes ≡ n.nodes = ap (λ (r : Roads). r.nodes) is in
       let segments_are : m.segments.items ≡ segments ++ s ∷ [] = ap (λ (r : Roads). r.segments) is in
       let spans_are : m.spans.items ≡ n.spans.items = ap (λ (r : Roads). r.spans) is in
       let none2 : has_name s.name (segment_names segments) ≡ false = ap (has_name s.name) (sym h.segment_names) ∙ none in
@@ -64,19 +64,19 @@ module _ (n : Inside) (h : IsNetworkKept n) where
             ∙ sym (map_push (λ (t : Segment). t.name) segments s) ∙ ap segment_names (sym segments_are);
         span_names = rw (spans, spans_are) h.span_names;
         outgoing = rw (out, nodes_are, segments_are)
-            (lists-last (lists_of n.outgoing.items) (length n.nodes.keys) (outgoing_of segments) (outgoing_of (segments ++ s ∷ [])) s.from (length segments) h.outgoing fits.from
+            (lists-last (lists_of n.outgoing.items) (length n.nodes) (outgoing_of segments) (outgoing_of (segments ++ s ∷ [])) s.from (length segments) h.outgoing fits.from
             (outgoing-more segments s) (outgoing-same segments s));
         incoming = rw (incoming, nodes_are, segments_are)
-            (lists-last (lists_of n.incoming.items) (length n.nodes.keys) (incoming_of segments) (incoming_of (segments ++ s ∷ [])) s.to (arrival_of (length segments, s)) h.incoming fits.to
+            (lists-last (lists_of n.incoming.items) (length n.nodes) (incoming_of segments) (incoming_of (segments ++ s ∷ [])) s.to (arrival_of (length segments, s)) h.incoming fits.to
             (incoming-more segments s) (incoming-same segments s));
         carried = rw (carried, segments_are, spans_are)
             (lists-more (lists_of n.carried.items) (length segments) (length (segments ++ s ∷ [])) (spans_of n.spans.items) h.carried (length-append segments (s ∷ []))
             (spans-none n.spans.items (length segments) (λ i t at. (h.roads.each_span i t at).segment)));
       }
 
-  pub kept-span : (m : Inside) (t : Span) → length n.spans.items < 2048 → length (spans_of n.spans.items t.segment) < 16 → IsSpan (length n.segments.items) t → has_name t.name n.span_names.keys ≡ false
+  pub kept-span : (m : Inside) (t : Span) → length n.spans.items < 2048 → length (spans_of n.spans.items t.segment) < 16 → IsSpan (length n.segments.items) t → has_name t.name n.span_names ≡ false
       → roads_in m ≡ with_span (roads_in n) t
-      → m.segment_names.keys ≡ n.segment_names.keys → m.span_names.keys ≡ n.span_names.keys ++ t.name ∷ []
+      → m.segment_names ≡ n.segment_names → m.span_names ≡ n.span_names ++ t.name ∷ []
       → lists_of m.outgoing.items ≡ lists_of n.outgoing.items
       → lists_of m.incoming.items ≡ lists_of n.incoming.items
       → lists_of m.carried.items ≡ with_appended (lists_of n.carried.items) t.segment (length n.spans.items)
@@ -84,7 +84,7 @@ module _ (n : Inside) (h : IsNetworkKept n) where
   kept-span m t few few_here fits none is names names2 out incoming carried =
       let roads = roads_in n in
       let spans = n.spans.items in
-      let nodes_are : m.nodes.keys ≡ n.nodes.keys = ap (λ (r : Roads). r.nodes) is in
+      let nodes_are : m.nodes ≡ n.nodes = ap (λ (r : Roads). r.nodes) is in
       let segments_are : m.segments.items ≡ n.segments.items = ap (λ (r : Roads). r.segments) is in
       let spans_are : m.spans.items ≡ spans ++ t ∷ [] = ap (λ (r : Roads). r.spans) is in
       let none2 : has_name t.name (span_names spans) ≡ false = ap (has_name t.name) (sym h.span_names) ∙ none in
@@ -101,8 +101,8 @@ module _ (n : Inside) (h : IsNetworkKept n) where
       }
 
   pub kept-limit : (m : Inside) (i : ℕ) (s : Segment) (what : What) (value : ℕ) → slice_get n.segments.items i ≡ Some s → is_limit what value ≡ true
-      → m.nodes.keys ≡ n.nodes.keys → m.spans.items ≡ n.spans.items → m.segments.items ≡ set n.segments.items i (limited s what value)
-      → m.segment_names.keys ≡ n.segment_names.keys → m.span_names.keys ≡ n.span_names.keys
+      → m.nodes ≡ n.nodes → m.spans.items ≡ n.spans.items → m.segments.items ≡ set n.segments.items i (limited s what value)
+      → m.segment_names ≡ n.segment_names → m.span_names ≡ n.span_names
       → lists_of m.outgoing.items ≡ lists_of n.outgoing.items
       → lists_of m.incoming.items ≡ lists_of n.incoming.items
       → lists_of m.carried.items ≡ lists_of n.carried.items
@@ -117,10 +117,10 @@ module _ (n : Inside) (h : IsNetworkKept n) where
         segment_names = names ∙ h.segment_names ∙ sym (names-limit segments i s what value at) ∙ ap segment_names (sym segments_are);
         span_names = rw (names2, spans_are) h.span_names;
         outgoing = rw (out, nodes_are, segments_are)
-            (lists-same (lists_of n.outgoing.items) (length n.nodes.keys) (outgoing_of segments) (outgoing_of next) h.outgoing
+            (lists-same (lists_of n.outgoing.items) (length n.nodes) (outgoing_of segments) (outgoing_of next) h.outgoing
             (λ j. outgoing-limit segments i s what value j at));
         incoming = rw (incoming, nodes_are, segments_are)
-            (lists-same (lists_of n.incoming.items) (length n.nodes.keys) (incoming_of segments) (incoming_of next) h.incoming
+            (lists-same (lists_of n.incoming.items) (length n.nodes) (incoming_of segments) (incoming_of next) h.incoming
             (λ j. incoming-limit segments i s what value j at));
         carried = rw (carried, segments_are, length-set segments i (limited s what value), spans_are) h.carried;
       }

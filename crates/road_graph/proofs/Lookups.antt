@@ -29,12 +29,12 @@ module _ (n : Inside) (h : IsNetworkKept n) (now : Roads) (is : roads_in n ≡ n
   pub outgoing-read : (node : ℕ) → node < length now.nodes → (v : Vec ℕ Global) → v ≡ get_or n.outgoing.items node v → v.items ≡ outgoing_of now.segments node
   outgoing-read node less v e =
       subst (λ (r : Roads). v.items ≡ outgoing_of r.segments node) is
-      (list-read n.outgoing.items (length n.nodes.keys) (outgoing_of n.segments.items) h.outgoing node (subst (λ (r : Roads). node < length r.nodes) (sym is) less) v e)
+      (list-read n.outgoing.items (length n.nodes) (outgoing_of n.segments.items) h.outgoing node (subst (λ (r : Roads). node < length r.nodes) (sym is) less) v e)
 
   pub incoming-read : (node : ℕ) → node < length now.nodes → (v : Vec Arrival Global) → v ≡ get_or n.incoming.items node v → v.items ≡ incoming_of now.segments node
   incoming-read node less v e =
       subst (λ (r : Roads). v.items ≡ incoming_of r.segments node) is
-      (list-read n.incoming.items (length n.nodes.keys) (incoming_of n.segments.items) h.incoming node (subst (λ (r : Roads). node < length r.nodes) (sym is) less) v e)
+      (list-read n.incoming.items (length n.nodes) (incoming_of n.segments.items) h.incoming node (subst (λ (r : Roads). node < length r.nodes) (sym is) less) v e)
 
   pub spans-read : (segment : ℕ) → segment < length now.segments → (v : Vec ℕ Global) → v ≡ get_or n.carried.items segment v → v.items ≡ spans_of now.spans segment
   spans-read segment less v e =
@@ -73,15 +73,15 @@ no-lists {X} vectors many wanted none zero_many = record {
     nothing = subst (λ (vs : List (Vec X Global)). length vs ≡ 0) (sym none) refl
 
 -- a network with nothing in it
-pub kept-none : (n : Inside) → n.nodes.keys ≡ [] → n.segment_names.keys ≡ [] → n.segments.items ≡ [] → n.span_names.keys ≡ [] → n.spans.items ≡ []
+pub kept-none : (n : Inside) → n.nodes ≡ [] → n.segment_names ≡ [] → n.segments.items ≡ [] → n.span_names ≡ [] → n.spans.items ≡ []
     → n.outgoing.items ≡ [] → n.incoming.items ≡ [] → n.carried.items ≡ [] → IsNetworkKept n
 kept-none n nodes names segments names2 spans out incoming carried =
     let is : roads_in n ≡ no_roads = cc in record {
       roads = subst IsRoads (sym is) no_roads_fit;
       segment_names = rw (names, segments) refl;
       span_names = rw (names2, spans) refl;
-      outgoing = no-lists n.outgoing.items (length n.nodes.keys) (outgoing_of n.segments.items) out (rw nodes refl);
-      incoming = no-lists n.incoming.items (length n.nodes.keys) (incoming_of n.segments.items) incoming (rw nodes refl);
+      outgoing = no-lists n.outgoing.items (length n.nodes) (outgoing_of n.segments.items) out (rw nodes refl);
+      incoming = no-lists n.incoming.items (length n.nodes) (incoming_of n.segments.items) incoming (rw nodes refl);
       carried = no-lists n.carried.items (length n.segments.items) (spans_of n.spans.items) carried (rw segments refl);
     }
   where

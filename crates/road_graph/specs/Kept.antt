@@ -6,13 +6,13 @@ use Rattle.road_graph.specs.Lists.{lists_of, AreLists}
 
 -- the lists of the network
 abbrev pub roads_in : Inside → Roads
-roads_in n = record { nodes = n.nodes.keys; segments = n.segments.items; spans = n.spans.items }
+roads_in n = record { nodes = n.nodes; segments = n.segments.items; spans = n.spans.items }
 
 -- the names are those of the segments and spans, and the list of each node and segment is the filter that it stands for
 pub record IsNetworkKept (n : Inside) : Type 0 where
   pub roads : IsRoads (roads_in n)
-  pub segment_names : n.segment_names.keys ≡ segment_names n.segments.items
-  pub span_names : n.span_names.keys ≡ span_names n.spans.items
-  pub outgoing : AreLists (lists_of n.outgoing.items) (length n.nodes.keys) (outgoing_of n.segments.items)
-  pub incoming : AreLists (lists_of n.incoming.items) (length n.nodes.keys) (incoming_of n.segments.items)
+  pub segment_names : n.segment_names ≡ segment_names n.segments.items
+  pub span_names : n.span_names ≡ span_names n.spans.items
+  pub outgoing : AreLists (lists_of n.outgoing.items) (length n.nodes) (outgoing_of n.segments.items)
+  pub incoming : AreLists (lists_of n.incoming.items) (length n.nodes) (incoming_of n.segments.items)
   pub carried : AreLists (lists_of n.carried.items) (length n.segments.items) (spans_of n.spans.items)

@@ -7,26 +7,11 @@ ghost use Rattle.road_graph.specs.Roads.{has_name, number_of, next_arrival};
 ghost use Rattle.road_graph.specs.Adding.{segments_limited};
 
 use crate::lists::{push_at, reserve_at};
+use crate::name_index::Names;
 use crate::segment::{Arrival, Segment, Span};
 use crate::values::What;
-use indexmap::IndexSet;
 use names::Name;
 use std::alloc::{AllocError, Global};
-
-/// The number of a name.
-#[tactic(auto, using(crate::proofs::Naming::number_found))]
-pub(crate) fn numbered(names: &IndexSet<Name>, name: &Name) -> Option<u32>
-    requires { length names.now.keys ≤ 16384 }
-    ensures number { result ≡ number_of name.now names.now.keys }
-    ensures found { IfSome result (λ i. slice_get names.now.keys i ≡ Some name.now) }
-    ensures within { IfSome result (λ i. i < length names.now.keys) }
-    ensures missing { IfNone result (has_name name.now names.now.keys ≡ false) }
-{
-    match names.get_index_of(name) {
-        Some(i) => Some(i as u32),
-        None => None,
-    }
-}
 
 /// Whether both are numbers below the count.
 pub(crate) fn are_below(count: usize, from: u32, to: u32) -> bool
@@ -35,35 +20,25 @@ pub(crate) fn are_below(count: usize, from: u32, to: u32) -> bool
     (from as usize) < count && (to as usize) < count
 }
 
-/// Enters a name that is not there.
-fn enter_name(names: &mut IndexSet<Name>, name: Name) -> Result<(), AllocError>
-    requires { has_name name names.old.keys ≡ false }
-    ensures ok { OnOk result (names.new.keys ≡ names.old.keys ++ name ∷ []) }
-    ensures err { OnErr result (names.new.keys ≡ names.old.keys) }
-{
-    names.insert(name)?;
-    Ok(())
-}
-
 /// Enters a node at which no segment begins or ends.
 pub(crate) fn enter_node(
     alloc: Global,
-    names: &mut IndexSet<Name>,
+    names: &mut Names,
     outgoing: &mut Vec<Vec<u32>>,
     incoming: &mut Vec<Vec<Arrival>>,
     name: Name,
 ) -> Result<(), AllocError>
-    requires { has_name name names.old.keys ≡ false }
-    ensures name { OnOk result (names.new.keys ≡ names.old.keys ++ name ∷ []) }
+    requires { has_name name names.old ≡ false }
+    ensures name { OnOk result (names.new ≡ names.old ++ name ∷ []) }
     ensures outgoing { OnOk result (lists_of outgoing.new.items ≡ lists_of outgoing.old.items ++ [] ∷ []) }
     ensures incoming { OnOk result (lists_of incoming.new.items ≡ lists_of incoming.old.items ++ [] ∷ []) }
-    ensures name_unchanged { OnErr result (names.new.keys ≡ names.old.keys) }
+    ensures name_unchanged { OnErr result (names.new ≡ names.old) }
     ensures outgoing_unchanged { OnErr result (outgoing.new.items ≡ outgoing.old.items) }
     ensures incoming_unchanged { OnErr result (incoming.new.items ≡ incoming.old.items) }
 {
     outgoing.reserve(1)?;
     incoming.reserve(1)?;
-    enter_name(names, name)?;
+    names.enter(name)?;
     outgoing.push_reserved(Vec::new(alloc));
     incoming.push_reserved(Vec::new(alloc));
     Ok(())
@@ -72,25 +47,25 @@ pub(crate) fn enter_node(
 /// Enters a segment that carries no span, at the node where it begins and the node where it ends.
 pub(crate) fn enter_segment(
     alloc: Global,
-    names: &mut IndexSet<Name>,
+    names: &mut Names,
     segments: &mut Vec<Segment>,
     outgoing: &mut Vec<Vec<u32>>,
     incoming: &mut Vec<Vec<Arrival>>,
     carried: &mut Vec<Vec<u32>>,
     segment: Segment,
 ) -> Result<(), AllocError>
-    requires fresh { has_name segment.name names.old.keys ≡ false }
+    requires fresh { has_name segment.name names.old ≡ false }
     requires few { length segments.old.items < 16384 }
     requires from { segment.from < length outgoing.old.items }
     requires to { segment.to < length incoming.old.items }
-    ensures name { OnOk result (names.new.keys ≡ names.old.keys ++ segment.name ∷ []) }
+    ensures name { OnOk result (names.new ≡ names.old ++ segment.name ∷ []) }
     ensures segment { OnOk result (segments.new.items ≡ segments.old.items ++ segment ∷ []) }
     ensures outgoing { OnOk result
         (IsAppended outgoing.old.items outgoing.new.items segment.from (length segments.old.items)) }
     ensures incoming { OnOk result
         (IsAppended incoming.old.items incoming.new.items segment.to (next_arrival segments.old.items segment)) }
     ensures carried { OnOk result (lists_of carried.new.items ≡ lists_of carried.old.items ++ [] ∷ []) }
-    ensures name_unchanged { OnErr result (names.new.keys ≡ names.old.keys) }
+    ensures name_unchanged { OnErr result (names.new ≡ names.old) }
     ensures segments_unchanged { OnErr result (segments.new.items ≡ segments.old.items) }
     ensures outgoing_unchanged { OnErr result (lists_of outgoing.new.items ≡ lists_of outgoing.old.items) }
     ensures incoming_unchanged { OnErr result (lists_of incoming.new.items ≡ lists_of incoming.old.items) }
@@ -101,7 +76,7 @@ pub(crate) fn enter_segment(
     carried.reserve(1)?;
     reserve_at(outgoing, segment.from as usize)?;
     reserve_at(incoming, segment.to as usize)?;
-    enter_name(names, segment.name)?;
+    names.enter(segment.name)?;
     push_at(outgoing, segment.from as usize, number);
     push_at(
         incoming,
@@ -119,26 +94,26 @@ pub(crate) fn enter_segment(
 
 /// Enters a span at its segment.
 pub(crate) fn enter_span(
-    names: &mut IndexSet<Name>,
+    names: &mut Names,
     spans: &mut Vec<Span>,
     carried: &mut Vec<Vec<u32>>,
     span: Span,
 ) -> Result<(), AllocError>
-    requires fresh { has_name span.name names.old.keys ≡ false }
+    requires fresh { has_name span.name names.old ≡ false }
     requires few { length spans.old.items < 2048 }
     requires within { span.segment < length carried.old.items }
-    ensures name { OnOk result (names.new.keys ≡ names.old.keys ++ span.name ∷ []) }
+    ensures name { OnOk result (names.new ≡ names.old ++ span.name ∷ []) }
     ensures span { OnOk result (spans.new.items ≡ spans.old.items ++ span ∷ []) }
     ensures carried { OnOk result
         (IsAppended carried.old.items carried.new.items span.segment (length spans.old.items)) }
-    ensures name_unchanged { OnErr result (names.new.keys ≡ names.old.keys) }
+    ensures name_unchanged { OnErr result (names.new ≡ names.old) }
     ensures spans_unchanged { OnErr result (spans.new.items ≡ spans.old.items) }
     ensures carried_unchanged { OnErr result (lists_of carried.new.items ≡ lists_of carried.old.items) }
 {
     let number = spans.len() as u32;
     spans.reserve(1)?;
     reserve_at(carried, span.segment as usize)?;
-    enter_name(names, span.name)?;
+    names.enter(span.name)?;
     push_at(carried, span.segment as usize, number);
     spans.push_reserved(span);
     Ok(())

@@ -11,12 +11,14 @@
 
 mod entering;
 mod lists;
+mod name_index;
 mod network;
 mod numbers;
 mod refusal;
 mod segment;
 mod values;
 
+pub use name_index::Names;
 pub use names::NoMemory;
 pub use network::Network;
 pub use numbers::{Numbers, SharedNumbers};

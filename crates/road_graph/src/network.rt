@@ -1,10 +1,10 @@
 // The network: what was added, and a list for each node and each segment.
 
-use crate::entering::{are_below, enter_limit, enter_node, enter_segment, enter_span, numbered};
+use crate::entering::{are_below, enter_limit, enter_node, enter_segment, enter_span};
+use crate::name_index::Names;
 use crate::refusal::AddRefusal;
 use crate::segment::{Arrival, Segment, Span};
 use crate::values::{Values, What};
-use indexmap::IndexSet;
 use names::Name;
 use std::alloc::Global;
 use std::marker::Model;
@@ -27,10 +27,10 @@ const MOST_ON_SEGMENT: usize = 16;
 #[derive(Drop)]
 pub struct Network {
     alloc: Global,
-    nodes: IndexSet<Name>,
-    segment_names: IndexSet<Name>,
+    nodes: Names,
+    segment_names: Names,
     segments: Vec<Segment>,
-    span_names: IndexSet<Name>,
+    span_names: Names,
     spans: Vec<Span>,
     // for each node the segments that begin there, and those that end there
     outgoing: Vec<Vec<u32>>,
@@ -62,10 +62,10 @@ impl Network {
     {
         Network {
             alloc,
-            nodes: IndexSet::new(alloc),
-            segment_names: IndexSet::new(alloc),
+            nodes: Names::new(alloc),
+            segment_names: Names::new(alloc),
             segments: Vec::new(alloc),
-            span_names: IndexSet::new(alloc),
+            span_names: Names::new(alloc),
             spans: Vec::new(alloc),
             outgoing: Vec::new(alloc),
             incoming: Vec::new(alloc),
@@ -224,7 +224,7 @@ impl Network {
         ensures within { IfSome result (λ i. i < length self.now.nodes) }
         ensures missing { IfNone result (has_name name.now self.now.nodes ≡ false) }
     {
-        numbered(&self.nodes, name)
+        self.nodes.number(name)
     }
 
     /// The number of the segment of this name, where there is one. Takes no memory.
@@ -234,7 +234,7 @@ impl Network {
         ensures within { IfSome result (λ i. i < length self.now.segments) }
         ensures missing { IfNone result (has_name name.now (segment_names self.now.segments) ≡ false) }
     {
-        numbered(&self.segment_names, name)
+        self.segment_names.number(name)
     }
 
     /// The number of the span of this name, where there is one. Takes no memory.
@@ -244,7 +244,7 @@ impl Network {
         ensures within { IfSome result (λ i. i < length self.now.spans) }
         ensures missing { IfNone result (has_name name.now (span_names self.now.spans) ≡ false) }
     {
-        numbered(&self.span_names, name)
+        self.span_names.number(name)
     }
 
     /// How many nodes there are. Takes no memory.

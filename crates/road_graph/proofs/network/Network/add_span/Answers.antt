@@ -17,8 +17,8 @@ invariant_of-self-2 c =
     c.spans_of.ensures.value ∙ ap (λ (r : Roads). spans_of r.spans c.args.segment) (sym c.self.view_is) in
     let below : length c.spans_of.result.now < 16 = c.if-spans_of-ge-MOST_ON_SEGMENT.false in
     let few : length (spans_of n.spans.items c.args.segment) < 16 = subst (λ (numbers : List ℕ). length numbers < 16) value below in
-    let is : (let r : Roads = record { nodes = n.nodes.keys; segments = n.segments.items; spans = c.enter_span.new.spans.items } in r)
-    ≡ (let r : Roads = record { nodes = n.nodes.keys; segments = n.segments.items; spans = n.spans.items ++ t ∷ [] } in r) =
-    ap (λ (items : List Span). let r : Roads = record { nodes = n.nodes.keys; segments = n.segments.items; spans = items } in r) told.span in
+    let is : (let r : Roads = record { nodes = n.nodes; segments = n.segments.items; spans = c.enter_span.new.spans.items } in r)
+    ≡ (let r : Roads = record { nodes = n.nodes; segments = n.segments.items; spans = n.spans.items ++ t ∷ [] } in r) =
+    ap (λ (items : List Span). let r : Roads = record { nodes = n.nodes; segments = n.segments.items; spans = items } in r) told.span in
     kept-span n c.self.invariant _ t (omega (arith, c.if-number-ge-MOST_SPANS.false, c.len-number.ensures, n.spans.ok.0)) few fits (sym c.contains.ensures ∙ c.if-contains.false)
     is refl told.name refl refl told.carried
