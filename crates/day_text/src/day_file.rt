@@ -7,7 +7,6 @@ ghost use Rattle.day_text.specs.Laws.{IsDayFile};
 ghost use Rattle.day_text.specs.Refusals.{IsRefusedAs};
 
 use crate::day_so_far::DaySoFar;
-use crate::name_set::Names;
 use crate::orders::Order;
 use crate::progress::DayProgress;
 use crate::records::read_records;
@@ -23,7 +22,7 @@ use trip_analysis::Base;
 pub struct DayFile {
     base: Base,
     day: Day,
-    actors: Names,
+    actors: Vec<Name>,
     commands: Vec<Order>,
 }
 
@@ -32,7 +31,7 @@ impl Model for DayFile {
 
     ghost Value = { DayParts };
 
-    ghost view = { λ a. record { base = a.base; day = a.day; actors = a.actors; commands = a.commands.items } };
+    ghost view = { λ a. record { base = a.base; day = a.day; actors = a.actors.items; commands = a.commands.items } };
 }
 
 impl DayFile {
@@ -65,8 +64,8 @@ impl DayFile {
     }
 
     /// The day file of these parts. Takes no memory.
-    pub fn of_parts(base: Base, day: Day, actors: Names, commands: Vec<Order>) -> DayFile
-        ensures { result ≡ record { base = base; day = day; actors = actors; commands = commands.items } }
+    pub fn of_parts(base: Base, day: Day, actors: Vec<Name>, commands: Vec<Order>) -> DayFile
+        ensures { result ≡ record { base = base; day = day; actors = actors.items; commands = commands.items } }
     {
         DayFile {
             base,
@@ -77,10 +76,10 @@ impl DayFile {
     }
 
     /// The roads and the trucks, the opening day, the actors and the commands. Takes no memory.
-    pub fn into_parts(self) -> (Base, Day, Names, Vec<Order>)
+    pub fn into_parts(self) -> (Base, Day, Vec<Name>, Vec<Order>)
         ensures base { result.0 ≡ self.base }
         ensures day { result.1 ≡ self.day }
-        ensures actors { result.2 ≡ self.actors }
+        ensures actors { result.2.items ≡ self.actors }
         ensures commands { result.3.items ≡ self.commands }
     {
         (self.base, self.day, self.actors, self.commands)
@@ -117,7 +116,7 @@ fn finish(progress: DayProgress, row: u64) -> Result<DayFile, FileRefusal>
             Ok(DayFile {
                 base: Base::new(network, fleet.into_vec()),
                 day,
-                actors,
+                actors: actors.into_vec(),
                 commands: orders.into_vec(),
             })
         }

@@ -2,7 +2,7 @@
 
 ghost use Rattle.std.specs.Prelude.{◌≡◌};
 
-use crate::name_set::Names;
+use crate::actors::Actors;
 use crate::orders::Orders;
 use crate::trucks::Fleet;
 use permit_days::Day;
@@ -16,7 +16,7 @@ pub(crate) struct DaySoFar {
     pub network: Network,
     pub day: Day,
     pub fleet: Fleet,
-    pub actors: Names,
+    pub actors: Actors,
     pub orders: Orders,
 }
 

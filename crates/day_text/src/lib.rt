@@ -16,6 +16,7 @@
 //! day file stays as it is.
 #![tactic(auto)]
 
+mod actors;
 mod adding;
 mod applicants;
 mod asked;
@@ -29,7 +30,6 @@ mod fields;
 mod kind;
 mod laws;
 mod members;
-mod name_set;
 mod orders;
 mod posted;
 mod progress;
@@ -49,7 +49,6 @@ pub use day_file::{DayFile, read_day};
 pub use demands::{has_only, number_in};
 pub use fields::{parse_day, parse_name, parse_number};
 pub use laws::day_files_are_bounded;
-pub use name_set::Names;
 pub use office_words::Command;
 pub use orders::Order;
 pub use posted::{Posted, parse_posted};

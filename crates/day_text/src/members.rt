@@ -5,8 +5,8 @@ ghost use Rattle.csv.specs.Records.{fields_of};
 ghost use Rattle.day_text.specs.Causes.{Grows};
 ghost use Rattle.day_text.specs.Fleets.{actors_of, fleet_of, fleet_with};
 
+use crate::actors::Actors;
 use crate::demands::{demand, has_only, limit, name_in};
-use crate::name_set::Names;
 use crate::refusal::{Kind, RecordCause, RecordRefusal};
 use crate::truck::{TruckFields, load_of, parse_truck};
 use crate::trucks::Fleet;
@@ -53,7 +53,7 @@ fn add_fields(fleet: &mut Fleet, fields: &TruckFields) -> Result<(), RecordRefus
 
 /// Adds the actor of a record.
 #[tactic(auto, unfolding(crate::specs::Fleets::actors_of))]
-pub(crate) fn add_actor(actors: &mut Names, row: &StringRecord) -> Result<(), RecordRefusal>
+pub(crate) fn add_actor(actors: &mut Actors, row: &StringRecord) -> Result<(), RecordRefusal>
     ensures { Grows result actors.new (actors_of actors.old (fields_of row.now)) }
 {
     has_only(row, 2)?;

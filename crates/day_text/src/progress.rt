@@ -13,7 +13,7 @@ use crate::day_so_far::{DaySoFar, Growing};
 use crate::demands::{day_in, has_only, or_bad};
 use crate::fields::field;
 use crate::kind::{RecordKind, parse_kind};
-use crate::name_set::Names;
+use crate::actors::Actors;
 use crate::orders::Orders;
 use crate::records::Progress;
 use crate::refusal::{RecordCause, RecordRefusal};
@@ -80,7 +80,7 @@ fn take_opening(
                 network: Network::new(alloc),
                 day,
                 fleet: Fleet::new(alloc),
-                actors: Names::new(alloc),
+                actors: Actors::new(alloc),
                 orders: Orders::new(alloc),
             };
             Ok(DayProgress::Open(Growing::new(alloc, so_far)?))

@@ -5,9 +5,9 @@ ghost use Rattle.road_graph.specs.Roads.{has_name, number_of};
 ghost use Rattle.day_text.specs.Fleets.{truck_names};
 ghost use Rattle.day_text.specs.declared.refusal.RecordRefusal.TheVariants as refusal;
 
-use crate::name_set::Names;
 use crate::refusal::RecordRefusal;
 use names::Name;
+use road_graph::Names;
 use std::alloc::Global;
 use std::marker::Model;
 use trip_analysis::Truck;
@@ -53,7 +53,7 @@ impl Fleet {
     pub(crate) fn has(&self, name: &Name) -> bool
         ensures { result ≡ has_name name.now (truck_names self.now) }
     {
-        self.names.has(name)
+        self.names.contains(name)
     }
 
     /// The number of the truck of this name, where there is one.
@@ -72,7 +72,7 @@ impl Fleet {
         ensures memory { IfErr result (λ why. why ≡ refusal.NoMemory) }
     {
         self.trucks.reserve(1)?;
-        self.names.push(truck.name)?;
+        self.names.enter(truck.name)?;
         self.trucks.push_reserved(truck);
         Ok(())
     }

@@ -37,9 +37,7 @@ mod waiting;
 mod walks;
 mod width;
 
-pub use finding::{
-    potentials, search, shortest_route, shortest_route_by, shortest_walk,
-};
+pub use finding::{potentials, search, shortest_route, shortest_route_by, shortest_walk};
 pub use found::{Found, Potentials};
 pub use heights::Heights;
 pub use laws::{cuts_hold, findings_are_one, potentials_certify};
