@@ -3,6 +3,7 @@
 ghost use Rattle.std.specs.Prelude.{◌≡◌, ◌≤◌, ◌↔◌, IfErr, IfOk, IsErrOf, IsOk, None, Some};
 ghost use Rattle.influence_line.specs.Fractions.{IsSmall};
 ghost use Rattle.influence_line.specs.Peaks.{IsPeakMoment, IsPeakShear};
+ghost use Rattle.influence_line.specs.Spans.{IsSpanLength};
 ghost use Rattle.moment_peak.specs.PeakMoment.{peak_moment_of};
 ghost use Rattle.shear_peak.specs.PeakShear.{peak_shear_of};
 ghost use Rattle.convoy_moves.specs.Convoys.{IsConvoyPlaced, StandsAsConvoy, closest_axles, convoy_of};
@@ -113,8 +114,7 @@ impl Convoy {
     /// one of the closest convoy. None exceeds it, whatever the gaps are, as long as no gap is below the stated one.
     /// Takes no memory.
     pub fn moment(&self, span: u32) -> Frac
-        requires some { 1 ≤ span }
-        requires long { span ≤ 6000 }
+        requires { IsSpanLength span }
         ensures peak { IsPeakMoment (IsConvoyPlaced self.now) span result.num result.den }
         ensures closest { result ≡ peak_moment_of (closest_axles self.now) span }
         // What lets two such peaks be compared.
@@ -127,8 +127,7 @@ impl Convoy {
     /// closest convoy. None exceeds it, whatever the gaps are, as long as no gap is below the stated one. Takes no
     /// memory.
     pub fn shear(&self, span: u32) -> Frac
-        requires some { 1 ≤ span }
-        requires long { span ≤ 6000 }
+        requires { IsSpanLength span }
         ensures peak { IsPeakShear (IsConvoyPlaced self.now) span result.num result.den }
         ensures closest { result ≡ peak_shear_of (closest_axles self.now) span }
         // What lets two such peaks be compared.

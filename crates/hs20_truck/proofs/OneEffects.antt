@@ -17,8 +17,8 @@ use Rattle.hs20_truck.proofs.Ends.{shear_of_all}
 pub effects_are_the_peaks : EffectsAreThePeaks
 unfolding effects_of
 effects_are_the_peaks axles span train some long =
-    let moment = peak_moment_is axles span train some long in
-    let shear = peak_shear_is axles span train some long in
+    let moment = peak_moment_is axles span train (some, long) in
+    let shear = peak_shear_is axles span train (some, long) in
     record { moment = moment.peak; shear = shear.peak; small = record { moment = moment.small; shear = shear.small } }
 
 -- the peaks of the truck with the smallest second spacing are those of all spacings

@@ -2,6 +2,7 @@
 
 ghost use Rattle.std.specs.Prelude.{◌≡◌, ◌≤◌, List, IfOk};
 ghost use Rattle.axle_train.specs.declared.axle.Axle.{Axle};
+ghost use Rattle.influence_line.specs.Spans.{IsSpanLength};
 ghost use Rattle.hs20_truck.specs.Kept.{IsTableKept, IsNumberFor, IsTable};
 
 use crate::live::{is_carried, study_of};
@@ -55,8 +56,7 @@ impl Kept {
     /// Keeps the least rating with which spans of `inches` carry the train, unless it does so already. The first
     /// length takes the memory for all. Where no memory is found it keeps what it kept.
     pub fn keep(&mut self, alloc: Global, inches: u32) -> Result<(), AllocError>
-        requires some { 1 ≤ inches }
-        requires long { inches ≤ 6000 }
+        requires { IsSpanLength inches }
         ensures { self.new ≡ self.old }
     {
         if number_of(&self.numbers, inches) != 0 {

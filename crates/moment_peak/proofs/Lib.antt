@@ -8,7 +8,6 @@ pub mod Pointer
 pub mod Order
 pub mod Bound
 pub mod BestBounds
-pub mod Cross
 pub mod Spans
 pub mod Small
 pub mod Finer

@@ -161,7 +161,7 @@ module _ (axles : List Axle) (span : ℕ) (some : 1 ≤ span) (train : IsTrain a
       ]
 
   -- a peak moment in lowest terms has their size
-  peak_small : (f : Ratio) → span ≤ 6000 → IsLowest f → IsPeakMoment (IsTrainPlaced axles) span f.num f.den → IsSmall f
+  pub peak_small : (f : Ratio) → span ≤ 6000 → IsLowest f → IsPeakMoment (IsTrainPlaced axles) span f.num f.den → IsSmall f
   peak_small f long lowest peak =
       let r = peak.reached in
       let lead = r.5.0 in
@@ -189,14 +189,14 @@ module _ (axles : List Axle) (span : ℕ) (some : 1 ≤ span) (train : IsTrain a
 
 pub peak_moment_is : PeakMomentIsAFunction
 unfolding peak_moment_of
-peak_moment_is axles span train some long =
+peak_moment_is axles span train sized =
     let f = greatest (moments_of axles span) in
-    let whole = peak_of_places axles span some train in
+    let whole = peak_of_places axles span sized.0 train in
     let lowest = lowest_is f whole.some in
     let peak = moment_by (IsTrainPlaced axles) span f.num f.den (lowest_of f).num (lowest_of f).den lowest.some (lowest_same f whole.some) whole in
-    record { peak = peak; small = peak_small axles span some train (lowest_of f) long lowest peak }
+    record { peak = peak; small = peak_small axles span sized.0 train (lowest_of f) sized.1 lowest peak }
 
 pub peak_moment_alone : NoOtherIsThePeakMoment
-peak_moment_alone axles span f train some long lowest peak =
-    let is = peak_moment_is axles span train some long in
-    moment_unique (IsTrainPlaced axles) span f (peak_moment_of axles span) some lowest is.small.lowest peak is.peak
+peak_moment_alone axles span f train sized lowest peak =
+    let is = peak_moment_is axles span train sized in
+    moment_unique (IsTrainPlaced axles) span f (peak_moment_of axles span) sized.0 lowest is.small.lowest peak is.peak

@@ -9,6 +9,7 @@ use Rattle.axle_train.specs.Trains.{axle_at}
 use Rattle.axle_train.proofs.Places.{place_rises, axle_fits}
 use Rattle.influence_line.specs.Peaks.{IsPeakMoment, IsTrainPlaced}
 use Rattle.influence_line.specs.Placed.{moment_sum, placed}
+use Rattle.influence_line.specs.Spans.{IsSpanLength}
 use Rattle.influence_line.proofs.Totals.{total, total_is}
 use Rattle.moment_peak.specs.declared.best.Candidate.{Candidate}
 use Rattle.moment_peak.specs.declared.run.Sums.{Sums}
@@ -19,7 +20,7 @@ use Rattle.moment_peak.specs.PeakMoment.{peak_moment_of}
 use Rattle.moment_peak.specs.Runs.{run, vertex_value, front_in, back_in, run_weight, run_moment, run_value, weight_in, moment_in, IsRunWith, CanBeOnSpan}
 use Rattle.moment_peak.proofs.Bound.{BelowVertex, SomeVertex, below_some_vertex}
 use Rattle.moment_peak.proofs.BestBounds.{below_value, run_loaded, first_value, alone_some}
-use Rattle.moment_peak.proofs.Cross.{cross_trans}
+use Rattle.influence_line.proofs.Cross.{cross_trans}
 use Rattle.moment_peak.proofs.BySums.{value_is, balance_in}
 use Rattle.moment_peak.proofs.Exchange.{shear_to, shear_from}
 use Rattle.moment_peak.proofs.PeakOfPlaces.{value_under, same_value, peak_moment_is}
@@ -248,15 +249,15 @@ under_peak : (V R U W num den L : ℕ) → 0 < den → V * den ≤ num * (4 * R 
 under_peak V R U W num den L some most exact = le_of_mul-le-mul_right {m = V * W} {n = U * R} {k = den} (omega (arith, mul-le-mul_left W most, ap (λ t. R * t) exact)) some
 
 -- what no tight pair is better than is the best of all
-pub best_of_tight : (span : ℕ) (axles : List Axle) (best : Candidate) → 1 ≤ span → span ≤ 6000 → IsTrain axles → IsFirstBestPair span axles best → IsBest span axles best
-best_of_tight span axles best some long train is_first = λ k first last is_run can.
+pub best_of_tight : (span : ℕ) (axles : List Axle) (best : Candidate) → IsSpanLength span → IsTrain axles → IsFirstBestPair span axles best → IsBest span axles best
+best_of_tight span axles best sized train is_first = λ k first last is_run can.
     let moment = peak_moment_of axles span in
-    let peak = (peak_moment_is axles span train some long).peak in
-    let there = peak_pair axles span moment.num moment.den some train peak in
+    let peak = (peak_moment_is axles span train sized).peak in
+    let there = peak_pair axles span moment.num moment.den sized.0 train peak in
     let V = run_value span axles k first last in
     let R = run_weight axles first last in
     let U = run_value span axles there.k there.first there.last in
     let W = run_weight axles there.first there.last in
     cross_trans V R U W best.value best.run.sums.weight
-    (under_peak V R U W moment.num moment.den span peak.some (value_peak axles span moment.num moment.den some train peak k first last is_run) there.exact)
+    (under_peak V R U W moment.num moment.den span peak.some (value_peak axles span moment.num moment.den sized.0 train peak k first last is_run) there.exact)
     (is_first there.k there.first there.last there.tight).most (run_loaded axles there.k there.first there.last train.each there.tight.is_run)

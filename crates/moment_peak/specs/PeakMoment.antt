@@ -1,5 +1,5 @@
 -- The peak moment of a train on a span as a function of the two.
-use Rattle.std.specs.Prelude.{◌≡◌, ℕ, ◌+◌, ◌*◌, ◌≤◌, List, map, ℤ}
+use Rattle.std.specs.Prelude.{◌≡◌, ℕ, ◌+◌, ◌*◌, List, map, ℤ}
 use Rattle.std.specs.List.{flat_map, range_with_len}
 use Rattle.axle_train.specs.declared.axle.Axle.{Axle}
 use Rattle.axle_train.specs.Bounds.{IsTrain}
@@ -7,6 +7,7 @@ use Rattle.influence_line.specs.Fractions.{Ratio, IsLowest, IsSmall}
 use Rattle.influence_line.specs.Greatest.{greatest, lowest_of}
 use Rattle.influence_line.specs.Placed.{moment_sum, placed}
 use Rattle.influence_line.specs.Places.{leads}
+use Rattle.influence_line.specs.Spans.{IsSpanLength}
 use Rattle.influence_line.specs.Peaks.{IsPeakMoment, IsTrainPlaced}
 use Rattle.moment_peak.specs.Runs.{weight_in}
 
@@ -38,11 +39,11 @@ pub record IsPeakMomentOf (axles : List Axle) (span : ℕ) (moment : Ratio) : Ty
 -- what `peak_moment_of` gives is the peak moment
 abbrev pub PeakMomentIsAFunction : Type 0
 PeakMomentIsAFunction =
-    (axles : List Axle) (span : ℕ) → IsTrain axles → 1 ≤ span → span ≤ 6000
+    (axles : List Axle) (span : ℕ) → IsTrain axles → IsSpanLength span
     → IsPeakMomentOf axles span (peak_moment_of axles span)
 
 -- no other fraction in lowest terms is
 abbrev pub NoOtherIsThePeakMoment : Type 0
 NoOtherIsThePeakMoment =
-    (axles : List Axle) (span : ℕ) (moment : Ratio) → IsTrain axles → 1 ≤ span → span ≤ 6000 → IsLowest moment
+    (axles : List Axle) (span : ℕ) (moment : Ratio) → IsTrain axles → IsSpanLength span → IsLowest moment
     → IsPeakMoment (IsTrainPlaced axles) span moment.num moment.den → moment ≡ peak_moment_of axles span

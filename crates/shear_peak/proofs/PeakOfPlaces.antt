@@ -145,14 +145,14 @@ module _ (axles : List Axle) (span : ℕ) (some : 1 ≤ span) (train : IsTrain a
 
 pub peak_shear_is : PeakShearIsAFunction
 unfolding peak_shear_of
-peak_shear_is axles span train some long =
+peak_shear_is axles span train sized =
     let f = greatest (shears_of axles span) in
-    let whole = peak_of_places axles span some train in
+    let whole = peak_of_places axles span sized.0 train in
     let lowest = lowest_is f whole.some in
     let peak = shear_by (IsTrainPlaced axles) span f.num f.den (lowest_of f).num (lowest_of f).den lowest.some (lowest_same f whole.some) whole in
-    record { peak = peak; small = peak_small axles span some train (lowest_of f) long lowest peak }
+    record { peak = peak; small = peak_small axles span sized.0 train (lowest_of f) sized.1 lowest peak }
 
 pub peak_shear_alone : NoOtherIsThePeakShear
-peak_shear_alone axles span f train some long lowest peak =
-    let is = peak_shear_is axles span train some long in
-    shear_unique (IsTrainPlaced axles) span f (peak_shear_of axles span) some lowest is.small.lowest peak is.peak
+peak_shear_alone axles span f train sized lowest peak =
+    let is = peak_shear_is axles span train sized in
+    shear_unique (IsTrainPlaced axles) span f (peak_shear_of axles span) sized.0 lowest is.small.lowest peak is.peak

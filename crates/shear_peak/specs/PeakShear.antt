@@ -1,5 +1,5 @@
 -- The peak end shear of a train on a span as a function of the two.
-use Rattle.std.specs.Prelude.{◌≡◌, ℕ, ◌≤◌, List, [], ◌∷◌, map, ℤ}
+use Rattle.std.specs.Prelude.{◌≡◌, ℕ, List, [], ◌∷◌, map, ℤ}
 use Rattle.std.specs.List.{flat_map}
 use Rattle.axle_train.specs.declared.axle.Axle.{Axle}
 use Rattle.axle_train.specs.Bounds.{IsTrain}
@@ -7,6 +7,7 @@ use Rattle.influence_line.specs.Fractions.{Ratio, IsLowest, IsSmall}
 use Rattle.influence_line.specs.Greatest.{greatest, lowest_of}
 use Rattle.influence_line.specs.Placed.{placed}
 use Rattle.influence_line.specs.Places.{leads}
+use Rattle.influence_line.specs.Spans.{IsSpanLength}
 use Rattle.influence_line.specs.Peaks.{IsPeakShear, IsTrainPlaced}
 use Rattle.influence_line.specs.Reactions.{reaction_sum}
 use Rattle.influence_line.specs.declared.placing.End.{End}
@@ -34,11 +35,11 @@ pub record IsPeakShearOf (axles : List Axle) (span : ℕ) (shear : Ratio) : Type
 -- what `peak_shear_of` gives is the peak end shear
 abbrev pub PeakShearIsAFunction : Type 0
 PeakShearIsAFunction =
-    (axles : List Axle) (span : ℕ) → IsTrain axles → 1 ≤ span → span ≤ 6000
+    (axles : List Axle) (span : ℕ) → IsTrain axles → IsSpanLength span
     → IsPeakShearOf axles span (peak_shear_of axles span)
 
 -- no other fraction in lowest terms is
 abbrev pub NoOtherIsThePeakShear : Type 0
 NoOtherIsThePeakShear =
-    (axles : List Axle) (span : ℕ) (shear : Ratio) → IsTrain axles → 1 ≤ span → span ≤ 6000 → IsLowest shear
+    (axles : List Axle) (span : ℕ) (shear : Ratio) → IsTrain axles → IsSpanLength span → IsLowest shear
     → IsPeakShear (IsTrainPlaced axles) span shear.num shear.den → shear ≡ peak_shear_of axles span
