@@ -1,8 +1,8 @@
 -- Among some fractions, at least one, there is one that none exceeds, and `greatest` finds such a one.
 use Rattle.std.proofs.Common.{◌≡◌, zero, suc, ◌*◌, ◌<◌, ◌≤◌, List, [], ◌∷◌, length, Bool, true, Some, arith, refl, ◌∙◌, inl, inr}
-use Rattle.std.specs.List.{find, list_all, AllByRecursion, Contains}
+use Rattle.std.specs.List.{All, find, list_all, AllByRecursion, Contains}
 use Rattle.std.proofs.lemmas.Bool.{cases_Bool, cases_lt, and_parts, and_from, leb-true, le-leb, cond-true, cond-false}
-use Rattle.std.proofs.lemmas.List.Elements.{All-contains, All-from_recursion, Contains-append_right}
+use Rattle.std.proofs.lemmas.List.Elements.{All-contains, All-from_recursion, All-weaker, recursion_from_All, Contains-append_right}
 use Rattle.influence_line.specs.Fractions.{Ratio}
 use Rattle.influence_line.specs.Greatest.{greatest, ratio_le}
 use Rattle.influence_line.proofs.Cross.{cross_trans}
@@ -72,3 +72,9 @@ greatest_is [] any dens = absurd (omega arith)
 greatest_is (f ∷ rest) any dens =
     let best = has_greatest f rest dens.0 dens.1 in
     greatest_found (f ∷ rest) best.0 best.1
+
+-- so it has what each of them has
+pub greatest_has : (P : Ratio → Type 0) (values : List Ratio) → ((f : Ratio) → P f → 1 ≤ f.den) → 0 < length values → All P values → P (greatest values) × All (λ g. IsNoMore g (greatest values)) values
+greatest_has P values some any each =
+    let best = greatest_is values any (recursion_from_All (λ f. 1 ≤ f.den) values (All-weaker P (λ f. 1 ≤ f.den) some values each)) in
+    (All-contains P values (greatest values) each best.among, All-from_recursion (λ g. IsNoMore g (greatest values)) values best.most)

@@ -252,7 +252,7 @@ under_peak V R U W num den L some most exact = le_of_mul-le-mul_right {m = V * W
 pub best_of_tight : (span : ℕ) (axles : List Axle) (best : Candidate) → IsSpanLength span → IsTrain axles → IsFirstBestPair span axles best → IsBest span axles best
 best_of_tight span axles best sized train is_first = λ k first last is_run can.
     let moment = peak_moment_of axles span in
-    let peak = (peak_moment_is axles span train sized).peak in
+    let peak = (peak_moment_is axles span train sized).0 in
     let there = peak_pair axles span moment.num moment.den sized.0 train peak in
     let V = run_value span axles k first last in
     let R = run_weight axles first last in
