@@ -30,17 +30,17 @@ pub(crate) fn closed_up(truck: &Train, trucks: u32, gap: u32) -> Train
     }
 }
 
-/// Writes the axles of a truck behind the first `front` axles, its own first axle `inches` behind the very first one. Of 16
+/// Writes the axles of a truck behind the first `front` axles, its own first axle moved back `by` so many inches. Of 16
 /// trucks the last is at most 15 times 6,000 inches behind the first.
-fn put_truck(axles: &mut [Axle; 32], front: usize, truck: &Train, inches: u32)
+fn put_truck(axles: &mut [Axle; 32], front: usize, truck: &Train, by: u32)
     requires room { front + length truck.now ≤ 32 }
-    requires near { inches ≤ 90000 }
-    ensures { take (front + length truck.now) axles.new ≡ take front axles.old ++ moved_back inches truck.now }
+    requires near { by ≤ 90000 }
+    ensures { take (front + length truck.now) axles.new ≡ take front axles.old ++ moved_back by truck.now }
 {
     for i in 0..truck.len() {
         let axle = truck.axle(i);
         axles[front + i] = Axle {
-            place: inches + axle.place,
+            place: by + axle.place,
             weight: axle.weight,
         };
     }

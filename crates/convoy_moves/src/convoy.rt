@@ -6,6 +6,7 @@ ghost use Rattle.influence_line.specs.Peaks.{IsPeakMoment, IsPeakShear};
 ghost use Rattle.influence_line.specs.Spans.{IsSpanLength};
 ghost use Rattle.moment_peak.specs.PeakMoment.{peak_moment_of};
 ghost use Rattle.shear_peak.specs.PeakShear.{peak_shear_of};
+ghost use Rattle.convoy_moves.specs.declared.refusal.ConvoyRefusal.TheVariants.{TooManyAxles, TooLong, Gross};
 ghost use Rattle.convoy_moves.specs.Convoys.{IsConvoyPlaced, StandsAsConvoy, closest_axles, convoy_of};
 ghost use Rattle.convoy_moves.specs.Refusals.{FitsTogether, HasTooManyAxles, IsTooHeavy, IsConvoyTooLong, axles_together, first_refusal, gross_together};
 
@@ -51,11 +52,11 @@ impl Convoy {
         requires near { gap ≤ 3000 }
         ensures ok { IfOk result (λ convoy. convoy ≡ convoy_of train.now trucks gap) }
         ensures accepted { IsOk result ↔ FitsTogether (convoy_of train.now trucks gap) }
-        ensures too_many_axles { IsErrOf result ConvoyRefusal.TooManyAxles ↔ HasTooManyAxles (convoy_of train.now trucks gap) }
-        ensures too_long { IsErrOf result ConvoyRefusal.TooLong ↔ IsConvoyTooLong (convoy_of train.now trucks gap) }
-        ensures gross { IsErrOf result ConvoyRefusal.Gross ↔ IsTooHeavy (convoy_of train.now trucks gap) }
+        ensures axles { IsErrOf result TooManyAxles ↔ HasTooManyAxles (convoy_of train.now trucks gap) }
+        ensures too_long { IsErrOf result TooLong ↔ IsConvoyTooLong (convoy_of train.now trucks gap) }
+        ensures gross { IsErrOf result Gross ↔ IsTooHeavy (convoy_of train.now trucks gap) }
         ensures unrefused { IfOk result (λ convoy. first_refusal (convoy_of train.now trucks gap) ≡ None) }
-        ensures first { IfErr result (λ refusal. first_refusal (convoy_of train.now trucks gap) ≡ Some refusal) }
+        ensures first { IfErr result (λ why. first_refusal (convoy_of train.now trucks gap) ≡ Some why) }
     {
         if have_too_many_axles(train, trucks) {
             return Err(ConvoyRefusal::TooManyAxles);

@@ -3,7 +3,7 @@
 ghost use Rattle.std.specs.Prelude.{◌≡◌, ◌≤◌, List, IfOk};
 ghost use Rattle.axle_train.specs.declared.axle.Axle.{Axle};
 ghost use Rattle.influence_line.specs.Spans.{IsSpanLength};
-ghost use Rattle.hs20_truck.specs.Kept.{IsTableKept, IsNumberFor, IsTable};
+ghost use Rattle.hs20_truck.specs.Kept.{IsTableKept, IsNumberFor, SaysAllOf};
 
 use crate::live::{is_carried, study_of};
 use axle_train::Train;
@@ -102,7 +102,7 @@ fn number_of(numbers: &Option<Vec<u32>>, inches: u32) -> u32
 
 // The table of what is kept, or one of nothing.
 fn table_of(alloc: Global, numbers: Option<Vec<u32>>) -> Result<Vec<u32>, AllocError>
-    ensures { IfOk result (λ t. (axles : List Axle) → IsTableKept axles numbers → IsTable axles t.items) }
+    ensures { IfOk result (λ table. SaysAllOf numbers table.items) }
 {
     match numbers {
         Some(numbers) => Ok(numbers),
