@@ -20,5 +20,4 @@ pub mod OneCentre
 pub mod Ties
 pub mod BestSoFar
 pub mod SamePlace
-pub mod PeakOfBest
 pub mod OnlyThere

@@ -1,7 +1,7 @@
 -- The greatest of the moments at the places in units of 1/q inch, for each q up to twice the train's weight, is the peak moment: the vertex of each run of axles is among these places.
 use Rattle.std.proofs.Common.{◌≡◌, ℕ, ◌+◌, ◌-◌, ◌*◌, ◌<◌, ◌≤◌, ◌^◌, List, length, map, get_or, arith, refl, ap, sym, ℤ, inl, inr}
 use Rattle.std.specs.List.{All, Contains, range_with_len}
-use Rattle.std.proofs.Math.Nat.{mul-le-mul, mul-le-mul_left, mul-le-mul_right, le_of_mul-le-mul_right, le_antisymm, mul-pos}
+use Rattle.std.proofs.Math.Nat.{mul-le-mul, mul-le-mul_left, mul-le-mul_right, le_of_mul-le-mul_right, le_antisymm, eq_of_mul-eq-mul_right, mul-pos}
 use Rattle.std.proofs.lemmas.Bool.{cases_lt}
 use Rattle.std.proofs.lemmas.Int.{ints}
 use Rattle.std.proofs.lemmas.List.Elements.{All-map, All-contains}
@@ -13,10 +13,11 @@ use Rattle.influence_line.specs.Fractions.{Ratio, IsLowest, IsSmall}
 use Rattle.influence_line.specs.Greatest.{greatest, lowest_of}
 use Rattle.influence_line.specs.Placed.{moment_sum, placed}
 use Rattle.influence_line.specs.Places.{leads}
+use Rattle.influence_line.specs.Spans.{IsSpanLength}
 use Rattle.influence_line.specs.Peaks.{IsPeakMoment, IsTrainPlaced}
 use Rattle.influence_line.proofs.Greatest.{IsNoMore, greatest_has}
 use Rattle.influence_line.proofs.Leads.{among_leads}
-use Rattle.influence_line.proofs.Lowest.{lowest_least}
+use Rattle.influence_line.proofs.Lowest.{lowest_least, lowest_unique}
 use Rattle.influence_line.proofs.LowestTerms.{lowest_is, lowest_same}
 use Rattle.influence_line.proofs.Members.{All-range, All-flat_map, Contains-range, Contains-map, Contains-flat_map}
 use Rattle.influence_line.proofs.Unique.{moment_unique}
@@ -154,7 +155,7 @@ module _ (axles : List Axle) (span : ℕ) (some : 1 ≤ span) (train : IsTrain a
       ]
 
   -- a peak moment in lowest terms has their size
-  pub peak_small : (f : Ratio) → span ≤ 6000 → IsLowest f → IsPeakMoment (IsTrainPlaced axles) span f.num f.den → IsSmall f
+  peak_small : (f : Ratio) → span ≤ 6000 → IsLowest f → IsPeakMoment (IsTrainPlaced axles) span f.num f.den → IsSmall f
   peak_small f long lowest peak =
       let r = peak.reached in
       let lead = r.5.0 in
@@ -193,3 +194,10 @@ pub peak_moment_alone : NoOtherIsThePeakMoment
 peak_moment_alone axles span f train sized lowest peak =
     let is = peak_moment_is axles span train sized in
     moment_unique (IsTrainPlaced axles) span f (peak_moment_of axles span) sized.0 lowest is.1.lowest peak is.0
+
+-- so a fraction in lowest terms with a value that the peak moment has is that one
+pub peak_by_value : (axles : List Axle) (span value weight : ℕ) (f : Ratio) → IsTrain axles → IsSpanLength span → 0 < weight → IsLowest f → f.num * weight ≡ value * f.den → (peak_moment_of axles span).num * weight ≡ value * (peak_moment_of axles span).den → f ≡ peak_moment_of axles span
+peak_by_value axles span value weight f train sized some lowest is at_peak =
+    let peak = peak_moment_of axles span in
+    lowest_unique f peak lowest (peak_moment_is axles span train sized).1.lowest
+    (eq_of_mul-eq-mul_right weight some (f.num * peak.den) (peak.num * f.den) (omega (arith, ap (λ t. peak.den * t) is, ap (λ t. f.den * t) at_peak)))

@@ -3,7 +3,7 @@
 ghost use Rattle.std.specs.Prelude.{◌≡◌, ◌+◌, ◌-◌, ◌*◌, ◌<◌, ◌≤◌, ◌^◌, ◌⊎◌, IsTrue, false};
 ghost use Rattle.axle_train.specs.Bounds.{IsTrain};
 ghost use Rattle.influence_line.specs.Spans.{IsSpanLength};
-ghost use Rattle.moment_peak.specs.Candidates.{IsAttained, IsBest, value_by_sums};
+ghost use Rattle.moment_peak.specs.Candidates.{IsAtPeak, IsAttained};
 ghost use Rattle.moment_peak.specs.Centres.{HasEarlierRun, IsFirstBestPair, IsNoWorse, KeepsAll};
 ghost use Rattle.moment_peak.specs.Sweeps.{IsSummed};
 
@@ -26,7 +26,7 @@ pub struct Candidate {
 pub fn best_pair(train: &Train, span: u32) -> Candidate
     requires { IsSpanLength span }
     ensures attained { IsAttained span train.now result }
-    ensures best { IsBest span train.now result }
+    ensures peak { IsAtPeak span train.now result }
     ensures first { IsFirstBestPair span train.now result }
     ensures bounds { IsTrain train.now }
 {

@@ -2,15 +2,15 @@ use Rattle.std.proofs.Common.{◌<◌, arith, inl, inr}
 use Rattle.moment_peak.proofs.BestSoFar.{attained_of, best_more, best_start, on_summed, start_some, value_summed}
 use Rattle.moment_peak.proofs.OneCentre.{summed_loaded}
 use Rattle.moment_peak.proofs.Ties.{still_some}
-use Rattle.moment_peak.proofs.Tight.{best_of_tight}
+use Rattle.moment_peak.proofs.Tight.{best_at_peak}
 use Rattle.moment_peak.proofs.best.best_pair.Goals as goal
 
 pub returns-clause-first : goal.returns-clause-first
 returns-clause-first c = λ k first last t. c.pairs.invariant.first k first last t (c.in_default.ensures.last k first last t)
 
-pub returns-clause-best : goal.returns-clause-best
-returns-clause-best c =
-    best_of_tight c.args.span c.args.train.now c.pairs.best c.requires c.start-pair.ensures.bounds (returns-clause-first c)
+pub returns-clause-peak : goal.returns-clause-peak
+returns-clause-peak c =
+    best_at_peak c.args.span c.args.train.now c.pairs.best c.requires c.start-pair.ensures.bounds c.pairs.invariant.attained (returns-clause-first c)
 
 pub pairs-init : goal.pairs-init
 pairs-init c =
