@@ -1,6 +1,6 @@
 // Which of the three design loads gives the most.
 
-ghost use Rattle.std.specs.Prelude.{◌≡◌, ◌≤◌};
+ghost use Rattle.std.specs.Prelude.{◌≡◌};
 ghost use Rattle.influence_line.specs.Fractions.{IsSmall};
 ghost use Rattle.influence_line.specs.Spans.{IsSpanLength};
 ghost use Rattle.design_loads.specs.Greatest.{AreGreatest};

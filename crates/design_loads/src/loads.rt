@@ -1,6 +1,6 @@
 // The lane load and the alternate military loading.
 
-ghost use Rattle.std.specs.Prelude.{◌≡◌, ◌≤◌};
+ghost use Rattle.std.specs.Prelude.{◌≡◌};
 ghost use Rattle.influence_line.specs.Spans.{IsSpanLength};
 ghost use Rattle.design_loads.specs.LanePeaks.{AreLaneEffects};
 ghost use Rattle.design_loads.specs.Military.{military_axles};

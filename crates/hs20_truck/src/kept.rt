@@ -1,6 +1,6 @@
 // A study that keeps what is asked of it most.
 
-ghost use Rattle.std.specs.Prelude.{◌≡◌, ◌≤◌, List, IfOk};
+ghost use Rattle.std.specs.Prelude.{◌≡◌, List, IfOk};
 ghost use Rattle.axle_train.specs.declared.axle.Axle.{Axle};
 ghost use Rattle.influence_line.specs.Spans.{IsSpanLength};
 ghost use Rattle.hs20_truck.specs.Kept.{IsTableKept, IsNumberFor, SaysAllOf};

@@ -9,7 +9,7 @@
 //! the least ratings that it found, answer for their own train and for the design truck.
 #![tactic(auto)]
 
-ghost use Rattle.std.specs.Prelude.{◌≡◌, ◌≤◌};
+ghost use Rattle.std.specs.Prelude.{◌≡◌};
 ghost use Rattle.influence_line.specs.Peaks.{IsTrainPlaced, IsHs20Placed};
 ghost use Rattle.influence_line.specs.Spans.{IsSpanLength};
 ghost use Rattle.span_rating.specs.Loading.{AreEffects, AreEffectsOfSomeTrain};

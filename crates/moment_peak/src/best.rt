@@ -1,6 +1,6 @@
 // The axle and the run with the greatest moment.
 
-ghost use Rattle.std.specs.Prelude.{◌≡◌, ◌+◌, ◌-◌, ◌*◌, ◌<◌, ◌≤◌, ◌^◌, ◌⊎◌, IsTrue, false};
+ghost use Rattle.std.specs.Prelude.{◌≡◌, ◌<◌, ◌≤◌, ◌^◌, ◌⊎◌, IsTrue, false};
 ghost use Rattle.axle_train.specs.Bounds.{IsTrain};
 ghost use Rattle.influence_line.specs.Spans.{IsSpanLength};
 ghost use Rattle.moment_peak.specs.Candidates.{IsAtPeak, IsAttained};
