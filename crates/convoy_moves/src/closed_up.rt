@@ -1,17 +1,14 @@
 // All trucks of a convoy as one train.
 
 ghost use Rattle.std.specs.Prelude.{◌≡◌, ◌+◌, ◌≤◌, ◌++◌, length, take};
-ghost use Rattle.convoy_moves.specs.Convoys.{closest_axles, convoy_of, moved_back};
+ghost use Rattle.convoy_moves.specs.Convoys.{IsConvoySize, closest_axles, convoy_of, moved_back};
 ghost use Rattle.convoy_moves.specs.Refusals.{FitsTogether};
 
 use axle_train::{Axle, Train};
 
 /// The trucks with exactly this gap between two of them. As they fit together, they are a train.
 pub(crate) fn closed_up(truck: &Train, trucks: u32, gap: u32) -> Train
-    requires several { 2 ≤ trucks }
-    requires few { trucks ≤ 16 }
-    requires apart { 1 ≤ gap }
-    requires near { gap ≤ 3000 }
+    requires size { IsConvoySize trucks gap }
     requires fits { FitsTogether (convoy_of truck.now trucks gap) }
     ensures { result ≡ closest_axles (convoy_of truck.now trucks gap) }
 {

@@ -7,7 +7,7 @@ ghost use Rattle.influence_line.specs.Spans.{IsSpanLength};
 ghost use Rattle.moment_peak.specs.PeakMoment.{peak_moment_of};
 ghost use Rattle.shear_peak.specs.PeakShear.{peak_shear_of};
 ghost use Rattle.convoy_moves.specs.declared.refusal.ConvoyRefusal.TheVariants.{TooManyAxles, TooLong, Gross};
-ghost use Rattle.convoy_moves.specs.Convoys.{IsConvoyPlaced, StandsAsConvoy, closest_axles, convoy_of};
+ghost use Rattle.convoy_moves.specs.Convoys.{IsConvoyPlaced, IsConvoySize, StandsAsConvoy, closest_axles, convoy_of};
 ghost use Rattle.convoy_moves.specs.Refusals.{FitsTogether, HasTooManyAxles, IsTooHeavy, IsConvoyTooLong, axles_together, first_refusal, gross_together};
 
 use crate::closed_up::closed_up;
@@ -46,10 +46,7 @@ impl Convoy {
     /// more than 32 axles; more than 3,000 in from the first axle to the last, with just the gap between two trucks; more
     /// than 2,000,000 lb. Where none is passed it is a convoy.
     pub fn new(train: &Train, trucks: u32, gap: u32) -> Result<Convoy, ConvoyRefusal>
-        requires several { 2 ≤ trucks }
-        requires few { trucks ≤ 16 }
-        requires apart { 1 ≤ gap }
-        requires near { gap ≤ 3000 }
+        requires { IsConvoySize trucks gap }
         ensures ok { IfOk result (λ convoy. convoy ≡ convoy_of train.now trucks gap) }
         ensures accepted { IsOk result ↔ FitsTogether (convoy_of train.now trucks gap) }
         ensures axles { IsErrOf result TooManyAxles ↔ HasTooManyAxles (convoy_of train.now trucks gap) }
