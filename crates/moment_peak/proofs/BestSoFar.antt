@@ -29,8 +29,7 @@ value_summed span axles pair found p v = rw v.run (record { ordered = p.on.can_b
 pub attained_of : (span : ℕ) (axles : List Axle) (pair : Pair) (found : Candidate) → IsTrain axles → IsPair span axles pair → IsValueOf span axles pair found → found.value < 2 ^ 72 → 0 < found.value → IsAttained span axles found
 attained_of span axles pair found train p v small some = record {
   on = rw v.run p.on;
-  from = rw (v.run, v.axle) p.from;
-  to = rw (v.run, v.axle) p.to;
+  is_run = rw (v.run, v.axle) (record { from = p.from; to = p.to; within = p.on.can_be.within });
   value = rw (v.run, v.axle) v.value;
   some = some;
   loaded = summed_loaded axles found.run train (value_summed span axles pair found p v);

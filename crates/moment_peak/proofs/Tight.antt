@@ -252,8 +252,7 @@ best_at_peak span axles best sized train a is_first =
     let there = peak_pair axles span moment.num moment.den sized.0 train peak in
     let W = run_weight axles there.first there.last in
     let R = best.run.sums.weight in
-    let is_run : IsRunWith axles best.axle best.run.first best.run.last = record { from = a.from; to = a.to; within = a.on.can_be.within } in
-    let most : best.value * moment.den ≤ moment.num * (4 * R * span) = rw (a.value, a.on.sums.weight) (value_peak axles span moment.num moment.den sized.0 train peak best.axle best.run.first best.run.last is_run) in
+    let most : best.value * moment.den ≤ moment.num * (4 * R * span) = rw (a.value, a.on.sums.weight) (value_peak axles span moment.num moment.den sized.0 train peak best.axle best.run.first best.run.last a.is_run) in
     let no_more = (is_first there.k there.first there.last there.tight).most in
     let least : moment.num * (4 * R * span) ≤ best.value * moment.den = le_of_mul-le-mul_right {m = moment.num * (4 * R * span)} {n = best.value * moment.den} {k = W} (omega (arith, ap (λ t. R * t) there.exact, mul-le-mul_right moment.den no_more)) (run_loaded axles there.k there.first there.last train.each there.tight.is_run) in
     le_antisymm least most
