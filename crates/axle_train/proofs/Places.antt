@@ -1,6 +1,6 @@
 -- Places of a train's axles.
-use Rattle.std.proofs.Common.{◌≡◌, ℕ, zero, suc, ◌+◌, ◌-◌, ◌≤◌, List, [], ◌∷◌, length, take, drop, sum_by, arith, length-drop, get_or-drop, get_or-take, ◌<◌, refl}
-use Rattle.std.proofs.lemmas.List.Sums.{sum_by_more, sum_by-take-le, sum_by-take-drop}
+use Rattle.std.proofs.Common.{◌≡◌, ℕ, zero, suc, ◌+◌, ◌≤◌, List, [], ◌∷◌, length, take, drop, sum_by, arith, get_or-take, ◌<◌}
+use Rattle.std.proofs.lemmas.List.Sums.{sum_by-take-le, sum_by-take-drop}
 use Rattle.axle_train.specs.declared.axle.Axle.{Axle}
 use Rattle.axle_train.specs.Bounds.{RisesFrom, EachFits}
 use Rattle.axle_train.specs.Trains.{no_axle, axle_at}
@@ -26,14 +26,6 @@ axle_fits (a ∷ rest) (suc i) each within = axle_fits rest i each.3 (omega arit
 
 abbrev weight_of : Axle → ℕ
 weight_of a = a.weight
-
--- one more axle in a group
-pub group_more : (axles : List Axle) (i k : ℕ) → i ≤ k → k < length axles → sum_by (λ a. a.weight) (take (k + 1 - i) (drop i axles)) ≡ sum_by (λ a. a.weight) (take (k - i) (drop i axles)) + (axle_at axles k).weight
-group_more axles i k ordered within =
-    let n : k + 1 - i ≡ (k - i) + 1 = omega arith in
-    let at : i + (k - i) ≡ k = omega arith in
-    let h : k - i < length (drop i axles) = omega (arith, length-drop i axles) in
-    rw (n, sum_by_more weight_of (drop i axles) (k - i) no_axle h, get_or-drop, at) refl
 
 -- a group weighs no more than the whole train
 pub group_light : (axles : List Axle) (i n : ℕ) → sum_by (λ a. a.weight) (take n (drop i axles)) ≤ sum_by (λ a. a.weight) axles

@@ -1,7 +1,7 @@
 -- The weight of a group is a difference of running weights.
 use Rattle.std.proofs.Common.{◌≡◌, ℕ, ◌+◌, ◌-◌, ◌≤◌, ◌<◌, List, length, take, drop, sum_by, arith, slice_index, ap, sym, ◌∙◌}
-use Rattle.std.proofs.Math.Seq.{take-add, take-length}
-use Rattle.std.proofs.lemmas.List.Sums.{sum_by-append, sum_by-take-le}
+use Rattle.std.proofs.Math.Seq.{take-add}
+use Rattle.std.proofs.lemmas.List.Sums.{sum_by-append}
 use Rattle.axle_train.specs.declared.axle.Axle.{Axle}
 use Rattle.axle_train.specs.Trains.{group_weight, weight_before, AreWeightsBefore}
 
@@ -14,14 +14,6 @@ weight_before-group axles i j ordered =
     let n : i + (j + 1 - i) ≡ j + 1 = omega arith in
     let split = ap (sum_by weight_of) (take-add i (j + 1 - i) axles) ∙ sum_by-append weight_of (take i axles) (take (j + 1 - i) (drop i axles)) in
     sym split ∙ ap (weight_before axles) n
-
--- the axles before the end are all
-pub weight_before-length : (axles : List Axle) → weight_before axles (length axles) ≡ sum_by (λ a. a.weight) axles
-weight_before-length axles = ap (sum_by weight_of) (take-length axles)
-
--- no more than all
-pub weight_before-le : (axles : List Axle) (i : ℕ) → weight_before axles i ≤ sum_by (λ a. a.weight) axles
-weight_before-le axles i = sum_by-take-le weight_of axles i
 
 -- the weight of a group by two running weights
 pub group-difference : (axles : List Axle) (before : List ℕ) (i j : ℕ) → AreWeightsBefore axles before → i ≤ j → j < length axles → (slice_index before i ≤ slice_index before (j + 1)) × (slice_index before (j + 1) - slice_index before i ≡ group_weight axles i j)

@@ -1,14 +1,10 @@
-use crate::fixtures::same;
+use crate::fixtures::{axle, same};
 use axle_train::{Axle, Train};
 use convoy_moves::Convoy;
 use hs20_truck::truck;
 use influence_line::{peak_moment_is_one, peak_shear_is_one};
 use std::process::Abort;
 use std::test::Fail;
-
-fn axle(place: u32, weight: u32) -> Axle {
-    Axle { place, weight }
-}
 
 // That so many trucks with this gap are a convoy, or the number of the refusal.
 fn refused(rt: &impl Abort, row: usize, axles: &[Axle], convoy: (u32, u32), wanted: Option<u32>) {

@@ -1,5 +1,5 @@
-use crate::fixtures::same;
-use axle_train::{Axle, Train};
+use crate::fixtures::{heavy, same};
+use axle_train::Train;
 use hs20_truck::{Kept, Live, effects, effects_are_the_peaks, effects_of, truck};
 use span_rating::{Effects, Fit, SpanStudy, fits};
 use std::alloc::Global;
@@ -132,18 +132,6 @@ fn a_kept_study_answers_as_the_tables_do(rt: HostRuntime) -> Result<(), Fail> {
     kept
 }
 
-// 32 axles of 62,500 lb, 96 inches apart but for the last one, which stands at 3,000.
-fn heavy(rt: &impl Abort) -> Train {
-    let mut axles = [Axle {
-        place: 3000,
-        weight: 62500,
-    }; 32];
-    for i in 0..31 {
-        axles[i].place = 96 * i as u32;
-    }
-    Train::new(&axles).expect(rt, "a train")
-}
-
 // The train's moment is 21,323.08 thousandths of the design's.
 fn judge(rt: &impl Abort, study: &impl SpanStudy) {
     let wanted = (
@@ -167,7 +155,7 @@ fn judge_kept(rt: &impl Abort, alloc: Global, mut study: Kept) -> Result<(), Fai
 
 #[test]
 fn a_study_has_the_truck_and_the_design(rt: HostRuntime) -> Result<(), Fail> {
-    let train = heavy(&rt);
+    let train = Train::new(&heavy())?;
     judge(&rt, &Live { train: &train });
     judge_kept(&rt, rt.alloc(), Kept::new(train.clone()?))
 }

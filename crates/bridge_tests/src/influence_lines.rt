@@ -1,43 +1,17 @@
 ghost use Rattle.std.specs.Prelude.{◌*◌, ◌≤◌};
 ghost use Rattle.influence_line.specs.Places.{IsLead};
+ghost use Rattle.influence_line.specs.Spans.{IsSpanLength};
 
-use crate::fixtures::same;
-use axle_train::{Axle, Train};
+use crate::fixtures::{axle, same};
+use axle_train::Train;
+use hs20_truck::truck;
 use influence_line::{End, Place, moment_at, reaction_at};
 use std::process::Abort;
 use std::test::Fail;
 
-// The HS20-44 truck with its second spacing of 14 feet.
-const DESIGN: [Axle; 3] = [
-    Axle {
-        place: 0,
-        weight: 8000,
-    },
-    Axle {
-        place: 168,
-        weight: 32000,
-    },
-    Axle {
-        place: 336,
-        weight: 32000,
-    },
-];
-
-const SHORT: [Axle; 2] = [
-    Axle {
-        place: 0,
-        weight: 1000,
-    },
-    Axle {
-        place: 48,
-        weight: 2000,
-    },
-];
-
 // A place that the calls allow, tested as their conditions say.
 fn assert_place(rt: &impl Abort, span: u32, place: Place)
-    ensures some { 1 ≤ span }
-    ensures long { span ≤ 6000 }
+    ensures span { IsSpanLength span }
     ensures lead { IsLead span place.q place.lead }
     ensures within { place.section ≤ place.q * span }
 {
@@ -64,7 +38,7 @@ fn moments(rt: &impl Abort, train: &Train, cases: &[Moment]) {
 fn moments_by_hand(rt: HostRuntime) -> Result<(), Fail> {
     moments(
         &rt,
-        &Train::new(&DESIGN)?,
+        &truck(),
         &[
             // Only the middle axle, at 120: 32000 * 120 * 120 / 240.
             (240, 1, -48, 120, (1920000, 1)),
@@ -76,7 +50,7 @@ fn moments_by_hand(rt: HostRuntime) -> Result<(), Fail> {
     );
     moments(
         &rt,
-        &Train::new(&SHORT)?,
+        &Train::new(&[axle(0, 1000), axle(48, 2000)])?,
         &[
             // At 20 and 68: (1000 * 20 * 50 + 2000 * 50 * 32) / 100.
             (100, 1, 20, 50, (42000, 1)),
@@ -118,12 +92,12 @@ fn reactions_by_hand(rt: HostRuntime) -> Result<(), Fail> {
     // The middle axle on the left support: 32000 * (240 + 72) / 240, and 32000 * 168 / 240.
     reactions(
         &rt,
-        &Train::new(&DESIGN)?,
+        &truck(),
         &[(240, 1, -168, (41600, 1), (22400, 1))],
     );
     reactions(
         &rt,
-        &Train::new(&SHORT)?,
+        &Train::new(&[axle(0, 1000), axle(48, 2000)])?,
         &[
             // At 20 and 68: (1000 * 80 + 2000 * 32) / 100, and (1000 * 20 + 2000 * 68) / 100.
             (100, 1, 20, (1440, 1), (1560, 1)),

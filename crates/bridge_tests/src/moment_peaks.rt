@@ -1,4 +1,4 @@
-use crate::fixtures::same;
+use crate::fixtures::{axle, heavy, same};
 use axle_train::{Axle, Train};
 use influence_line::moment_at;
 use moment_peak::{MomentPeak, peak, peak_is_one, peak_moment_is_a_function, value};
@@ -27,10 +27,6 @@ fn row(peak: &MomentPeak) -> Row {
         first.wrapping_add(1),
         last.wrapping_add(1),
     )
-}
-
-fn axle(place: u32, weight: u32) -> Axle {
-    Axle { place, weight }
 }
 
 fn assert_peak(rt: &impl Abort, train: &Train, span: u32, want: Row) {
@@ -89,13 +85,9 @@ fn worked_peaks_of_a_truck(rt: HostRuntime) -> Result<(), Fail> {
 /// A train of 32 axles.
 #[test]
 fn worked_peaks_of_a_full_train(rt: HostRuntime) -> Result<(), Fail> {
-    let mut full = [axle(3000, 62500); 32];
-    for i in 0..31 {
-        full[i] = axle(96 * i as u32, 62500);
-    }
     assert_peaks(
         &rt,
-        &full,
+        &heavy(),
         &[
             (6000, (17851584375, 8, 8, 12285, 23805, 16, 1, 32)),
             (1, (15625, 1, 2, 1, 1, 1, 1, 1)),

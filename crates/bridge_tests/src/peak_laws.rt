@@ -1,4 +1,5 @@
-use axle_train::{Axle, Train};
+use crate::fixtures::axle;
+use axle_train::Train;
 use influence_line::{
     Frac, Hs20Placements, equal_fractions_are_one, nearer_is_no_less, peak_moment_is_one,
     peak_shear_is_one, small_fractions_compare,
@@ -22,17 +23,7 @@ fn fractions_of_the_size_of_peaks_compare_without_a_test(rt: HostRuntime) -> Res
 fn a_peak_is_one_of_a_train_and_of_the_placements_of_the_design_truck(
     _rt: HostRuntime,
 ) -> Result<(), Fail> {
-    let axles = [
-        Axle {
-            place: 0,
-            weight: 1000,
-        },
-        Axle {
-            place: 48,
-            weight: 2000,
-        },
-    ];
-    let train = Train::new(&axles)?;
+    let train = Train::new(&[axle(0, 1000), axle(48, 2000)])?;
     peak_moment_is_one(&train);
     peak_shear_is_one(&train);
     peak_moment_is_one(&Hs20Placements);

@@ -1,53 +1,14 @@
-use crate::fixtures::same;
+use crate::fixtures::{axle, heavy, same};
 use axle_train::{Axle, Train};
+use hs20_truck::truck;
 use influence_line::{End, reaction_at};
 use shear_peak::{peak, peak_is_one, peak_shear_is_a_function};
 use std::process::Abort;
 use std::test::Fail;
 
-// The HS20-44 truck with its second spacing of 14 feet.
-const DESIGN: [Axle; 3] = [
-    Axle {
-        place: 0,
-        weight: 8000,
-    },
-    Axle {
-        place: 168,
-        weight: 32000,
-    },
-    Axle {
-        place: 336,
-        weight: 32000,
-    },
-];
-
 // Two axles, 48 inches apart.
-const fn pair(front: u32, rear: u32) -> [Axle; 2] {
-    [
-        Axle {
-            place: 0,
-            weight: front,
-        },
-        Axle {
-            place: 48,
-            weight: rear,
-        },
-    ]
-}
-
-// 32 axles of 62,500 lb, 96 inches apart but for the last one, which stands at 3,000.
-fn heavy() -> [Axle; 32] {
-    let mut axles = [Axle {
-        place: 3000,
-        weight: 62500,
-    }; 32];
-    for i in 0..31 {
-        axles[i] = Axle {
-            place: 96 * i as u32,
-            weight: 62500,
-        };
-    }
-    axles
+fn pair(front: u32, rear: u32) -> [Axle; 2] {
+    [axle(0, front), axle(48, rear)]
 }
 
 fn assert_peak(rt: &impl Abort, train: &Train, span: u32, value: (u128, u128), place: (i64, End)) {
@@ -68,7 +29,7 @@ fn assert_peak(rt: &impl Abort, train: &Train, span: u32, value: (u128, u128), p
 fn peaks_by_hand(rt: HostRuntime) -> Result<(), Fail> {
     peak_is_one();
     peak_shear_is_a_function();
-    let design = Train::new(&DESIGN)?;
+    let design = truck();
     let short = Train::new(&pair(1000, 2000))?;
     let even = Train::new(&pair(1000, 1000))?;
     let heavy = Train::new(&heavy())?;
@@ -120,10 +81,9 @@ fn is_printed(rt: &impl Abort, design: &Train, feet: u32, tenths: u128) {
 }
 
 #[test]
-fn end_shears_of_hs20_as_aashto_prints_them(rt: HostRuntime) -> Result<(), Fail> {
-    let design = Train::new(&DESIGN)?;
+fn end_shears_of_hs20_as_aashto_prints_them(rt: HostRuntime) {
+    let design = truck();
     for (feet, tenths) in PRINTED {
         is_printed(&rt, &design, feet, tenths);
     }
-    Ok(())
 }

@@ -1,5 +1,5 @@
 -- Equal trucks that follow each other over a span, where they may stand, and the closest of these placements as one train.
-use Rattle.std.specs.Prelude.{◌≡◌, ℕ, ◌+◌, ◌-◌, ◌*◌, List, [], ◌∷◌, length, map, flat_map, ℤ, pos, ◌+ℤ◌, ◌≤ℤ◌}
+use Rattle.std.specs.Prelude.{◌≡◌, ℕ, ◌+◌, ◌-◌, ◌*◌, ◌≤◌, List, [], ◌∷◌, length, map, flat_map, ℤ, pos, ◌+ℤ◌, ◌≤ℤ◌}
 use Rattle.std.specs.List.{range_with_len}
 use Rattle.axle_train.specs.declared.axle.Axle.{Axle}
 use Rattle.axle_train.specs.Bounds.{IsTrain}
@@ -16,6 +16,10 @@ pub record EqualTrucks : Type 0 where
 -- so many trucks with these axles, and this gap between two
 abbrev pub convoy_of : List Axle → ℕ → ℕ → EqualTrucks
 convoy_of axles trucks gap = record { axles = axles; trucks = trucks; gap = gap }
+
+-- what may be asked about: 2 to 16 trucks and a gap of 1 to 3,000 inches
+abbrev pub IsConvoySize : ℕ → ℕ → Type 0
+IsConvoySize trucks gap = (2 ≤ trucks) × (trucks ≤ 16) × (1 ≤ gap) × (gap ≤ 3000)
 
 -- how many inches the last axle of a truck stands behind its first
 abbrev pub last_place : List Axle → ℕ

@@ -3,9 +3,11 @@
 ghost use Rattle.std.specs.Prelude.{◌≡◌, ◌≤◌, ◌↔◌, IfErr, IfOk, IsErrOf, IsOk, None, Some};
 ghost use Rattle.influence_line.specs.Fractions.{IsSmall};
 ghost use Rattle.influence_line.specs.Peaks.{IsPeakMoment, IsPeakShear};
+ghost use Rattle.influence_line.specs.Spans.{IsSpanLength};
 ghost use Rattle.moment_peak.specs.PeakMoment.{peak_moment_of};
 ghost use Rattle.shear_peak.specs.PeakShear.{peak_shear_of};
-ghost use Rattle.convoy_moves.specs.Convoys.{IsConvoyPlaced, StandsAsConvoy, closest_axles, convoy_of};
+ghost use Rattle.convoy_moves.specs.declared.refusal.ConvoyRefusal.TheVariants.{TooManyAxles, TooLong, Gross};
+ghost use Rattle.convoy_moves.specs.Convoys.{IsConvoyPlaced, IsConvoySize, StandsAsConvoy, closest_axles, convoy_of};
 ghost use Rattle.convoy_moves.specs.Refusals.{FitsTogether, HasTooManyAxles, IsTooHeavy, IsConvoyTooLong, axles_together, first_refusal, gross_together};
 
 use crate::closed_up::closed_up;
@@ -44,17 +46,14 @@ impl Convoy {
     /// more than 32 axles; more than 3,000 in from the first axle to the last, with just the gap between two trucks; more
     /// than 2,000,000 lb. Where none is passed it is a convoy.
     pub fn new(train: &Train, trucks: u32, gap: u32) -> Result<Convoy, ConvoyRefusal>
-        requires several { 2 ≤ trucks }
-        requires few { trucks ≤ 16 }
-        requires apart { 1 ≤ gap }
-        requires near { gap ≤ 3000 }
+        requires { IsConvoySize trucks gap }
         ensures ok { IfOk result (λ convoy. convoy ≡ convoy_of train.now trucks gap) }
         ensures accepted { IsOk result ↔ FitsTogether (convoy_of train.now trucks gap) }
-        ensures too_many_axles { IsErrOf result ConvoyRefusal.TooManyAxles ↔ HasTooManyAxles (convoy_of train.now trucks gap) }
-        ensures too_long { IsErrOf result ConvoyRefusal.TooLong ↔ IsConvoyTooLong (convoy_of train.now trucks gap) }
-        ensures gross { IsErrOf result ConvoyRefusal.Gross ↔ IsTooHeavy (convoy_of train.now trucks gap) }
+        ensures axles { IsErrOf result TooManyAxles ↔ HasTooManyAxles (convoy_of train.now trucks gap) }
+        ensures too_long { IsErrOf result TooLong ↔ IsConvoyTooLong (convoy_of train.now trucks gap) }
+        ensures gross { IsErrOf result Gross ↔ IsTooHeavy (convoy_of train.now trucks gap) }
         ensures unrefused { IfOk result (λ convoy. first_refusal (convoy_of train.now trucks gap) ≡ None) }
-        ensures first { IfErr result (λ refusal. first_refusal (convoy_of train.now trucks gap) ≡ Some refusal) }
+        ensures first { IfErr result (λ why. first_refusal (convoy_of train.now trucks gap) ≡ Some why) }
     {
         if have_too_many_axles(train, trucks) {
             return Err(ConvoyRefusal::TooManyAxles);
@@ -113,8 +112,7 @@ impl Convoy {
     /// one of the closest convoy. None exceeds it, whatever the gaps are, as long as no gap is below the stated one.
     /// Takes no memory.
     pub fn moment(&self, span: u32) -> Frac
-        requires some { 1 ≤ span }
-        requires long { span ≤ 6000 }
+        requires { IsSpanLength span }
         ensures peak { IsPeakMoment (IsConvoyPlaced self.now) span result.num result.den }
         ensures closest { result ≡ peak_moment_of (closest_axles self.now) span }
         // What lets two such peaks be compared.
@@ -127,8 +125,7 @@ impl Convoy {
     /// closest convoy. None exceeds it, whatever the gaps are, as long as no gap is below the stated one. Takes no
     /// memory.
     pub fn shear(&self, span: u32) -> Frac
-        requires some { 1 ≤ span }
-        requires long { span ≤ 6000 }
+        requires { IsSpanLength span }
         ensures peak { IsPeakShear (IsConvoyPlaced self.now) span result.num result.den }
         ensures closest { result ≡ peak_shear_of (closest_axles self.now) span }
         // What lets two such peaks be compared.

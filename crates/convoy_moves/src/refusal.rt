@@ -1,6 +1,7 @@
 // Why trucks are no convoy.
 
 ghost use Rattle.std.specs.Prelude.{◌≡◌, ◌<◌, ◌≤◌, ◌↔◌, IsTrue};
+ghost use Rattle.convoy_moves.specs.Convoys.{IsConvoySize};
 ghost use Rattle.convoy_moves.specs.Refusals.{axles_together, closest_length, gross_together, refusal_number};
 
 use axle_train::Train;
@@ -43,9 +44,7 @@ pub(crate) fn have_too_many_axles(truck: &Train, trucks: u32) -> bool
 
 /// Whether so many trucks, with just this gap between two of them, are more than 3,000 in from the first axle to the last.
 pub(crate) fn are_too_long(truck: &Train, trucks: u32, gap: u32) -> bool
-    requires some { 1 ≤ trucks }
-    requires few { trucks ≤ 16 }
-    requires near { gap ≤ 3000 }
+    requires { IsConvoySize trucks gap }
     ensures { IsTrue result ↔ 3000 < closest_length truck.now trucks gap }
 {
     let len = truck.len();

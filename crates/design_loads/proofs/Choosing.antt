@@ -4,7 +4,7 @@ use Rattle.std.proofs.lemmas.Bool.{cases_lt}
 use Rattle.std.proofs.lemmas.Bool.Decides.{nat_tests}
 use Rattle.axle_train.specs.Bounds.{IsTrain}
 use Rattle.influence_line.specs.Fractions.{Ratio, IsSmall}
-use Rattle.moment_peak.proofs.Cross.{cross_trans}
+use Rattle.influence_line.proofs.Cross.{cross_trans}
 use Rattle.hs20_truck.specs.Effects.{effects_of, design_of}
 use Rattle.hs20_truck.proofs.OneEffects.{effects_are_the_peaks, design_is_the_peaks}
 use Rattle.span_rating.specs.declared.loading.Effects.{Effects}

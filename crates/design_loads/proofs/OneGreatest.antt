@@ -1,12 +1,11 @@
 -- The greatest of the peaks of the three design loads, and the first load that reaches it, are one.
-use Rattle.std.proofs.Common.{◌≡◌, ℕ, ◌*◌, ◌≤◌, List, arith, refl}
+use Rattle.std.proofs.Common.{◌≡◌, ℕ, ◌*◌, ◌≤◌, arith, refl}
 use Rattle.std.proofs.Math.Nat.{le_antisymm}
 use Rattle.influence_line.specs.Fractions.{Ratio}
-use Rattle.influence_line.specs.Placed.{Load}
-use Rattle.influence_line.specs.Peaks.{IsPeakMoment, IsPeakShear, IsTrainPlaced, IsHs20Placed}
+use Rattle.influence_line.specs.Peaks.{IsTrainPlaced, IsHs20Placed}
 use Rattle.influence_line.proofs.Lowest.{lowest_unique}
-use Rattle.influence_line.proofs.Unique.{moment_same, shear_same}
-use Rattle.moment_peak.proofs.Cross.{cross_trans}
+use Rattle.influence_line.proofs.Unique.{HasOneValue, moment_has_one, shear_has_one}
+use Rattle.influence_line.proofs.Cross.{cross_trans}
 use Rattle.design_loads.specs.LanePeaks.{IsPeakLaneMoment, IsPeakLaneShear}
 use Rattle.design_loads.specs.Military.{military_axles}
 use Rattle.design_loads.specs.Greatest.{LoadComesBefore, IsPeakMomentBy, IsPeakShearBy, IsGreatest, AreGreatest}
@@ -14,25 +13,6 @@ use Rattle.design_loads.specs.declared.governing.By.{By}
 use Rattle.design_loads.specs.declared.governing.By.TheVariants.{Truck, Lane, Military}
 use Rattle.design_loads.specs.declared.governing.GreatestEffects.{GreatestEffects}
 use Rattle.design_loads.proofs.OneLane.{lane_moment_same, lane_shear_same}
-
--- whatever fractions meet this, they are fractions, and have one value
-pub record HasOneValue (IsPeak : Ratio → Type 0) : Type 0 where
-  pub some : (f : Ratio) → IsPeak f → 1 ≤ f.den
-  pub same : (f g : Ratio) → IsPeak f → IsPeak g → f.num * g.den ≡ g.num * f.den
-
-pub moment_has_one : (Allowed : ℕ → List Load → Type 0) (span : ℕ) → 1 ≤ span
-    → HasOneValue (λ f. IsPeakMoment Allowed span f.num f.den)
-moment_has_one Allowed span some = record {
-  some = λ f is. is.some;
-  same = λ f g a b. moment_same Allowed span f.num f.den g.num g.den some a b;
-}
-
-pub shear_has_one : (Allowed : ℕ → List Load → Type 0) (span : ℕ) → 1 ≤ span
-    → HasOneValue (λ f. IsPeakShear Allowed span f.num f.den)
-shear_has_one Allowed span some = record {
-  some = λ f is. is.some;
-  same = λ f g a b. shear_same Allowed span f.num f.den g.num g.den some a b;
-}
 
 lane_moment_has_one : (span : ℕ) → 1 ≤ span → HasOneValue (λ f. IsPeakLaneMoment span f.num f.den)
 lane_moment_has_one span some = record {

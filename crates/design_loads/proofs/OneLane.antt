@@ -5,7 +5,7 @@ use Rattle.influence_line.specs.Fractions.{Ratio, IsLowest, IsRatio, IsSmall}
 use Rattle.influence_line.proofs.Lowest.{lowest_least, lowest_unique}
 use Rattle.influence_line.proofs.LowestTerms.{lowest_is, lowest_same}
 use Rattle.influence_line.specs.Greatest.{lowest_of}
-use Rattle.moment_peak.proofs.Cross.{cross_trans}
+use Rattle.influence_line.proofs.Cross.{cross_trans}
 use Rattle.design_loads.specs.LanePeaks.{IsPeakLaneMoment, IsPeakLaneShear, AreLaneEffects}
 use Rattle.design_loads.specs.SpanEffects.{lane_of}
 use Rattle.design_loads.specs.Laws.{LaneIsOne, LaneIsThePeaks}

@@ -1,7 +1,8 @@
 // Which of the three design loads gives the most.
 
-ghost use Rattle.std.specs.Prelude.{◌≡◌, ◌≤◌};
+ghost use Rattle.std.specs.Prelude.{◌≡◌};
 ghost use Rattle.influence_line.specs.Fractions.{IsSmall};
+ghost use Rattle.influence_line.specs.Spans.{IsSpanLength};
 ghost use Rattle.design_loads.specs.Greatest.{AreGreatest};
 ghost use Rattle.design_loads.specs.SpanEffects.{greater_of, governing_of, greatest_of};
 
@@ -31,8 +32,7 @@ pub struct GreatestEffects {
 /// The greatest effects of the three design loads on a span of `span` inches, over all of their placements.
 /// Of loads with equal effects the first in the order of `By` is named. Takes no memory.
 pub fn greatest(span: u32) -> GreatestEffects
-    requires some { 1 ≤ span }
-    requires long { span ≤ 6000 }
+    requires { IsSpanLength span }
     ensures greatest { AreGreatest span result }
     ensures value { result ≡ greatest_of span }
 {

@@ -1,6 +1,7 @@
 // The lane load and the alternate military loading.
 
-ghost use Rattle.std.specs.Prelude.{◌≡◌, ◌≤◌};
+ghost use Rattle.std.specs.Prelude.{◌≡◌};
+ghost use Rattle.influence_line.specs.Spans.{IsSpanLength};
 ghost use Rattle.design_loads.specs.LanePeaks.{AreLaneEffects};
 ghost use Rattle.design_loads.specs.Military.{military_axles};
 ghost use Rattle.design_loads.specs.SpanEffects.{lane_of};
@@ -32,8 +33,7 @@ pub fn military() -> Train
 /// The peak moment and the peak end shear of the lane load on a span of `span` inches, over all of its
 /// placements: every place of the concentrated load, and any intervals that are loaded. Takes no memory.
 pub fn lane(span: u32) -> Effects
-    requires some { 1 ≤ span }
-    requires long { span ≤ 6000 }
+    requires { IsSpanLength span }
     ensures peaks { AreLaneEffects span result }
     ensures value { result ≡ lane_of span }
 {

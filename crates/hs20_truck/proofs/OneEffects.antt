@@ -17,9 +17,9 @@ use Rattle.hs20_truck.proofs.Ends.{shear_of_all}
 pub effects_are_the_peaks : EffectsAreThePeaks
 unfolding effects_of
 effects_are_the_peaks axles span train some long =
-    let moment = peak_moment_is axles span train some long in
-    let shear = peak_shear_is axles span train some long in
-    record { moment = moment.peak; shear = shear.peak; small = record { moment = moment.small; shear = shear.small } }
+    let moment = peak_moment_is axles span train (some, long) in
+    let shear = peak_shear_is axles span train (some, long) in
+    record { moment = moment.0; shear = shear.0; small = record { moment = moment.1; shear = shear.1 } }
 
 -- the peaks of the truck with the smallest second spacing are those of all spacings
 pub of_all_spacings : (span : ℕ) (e : Effects) → AreEffects (IsTrainPlaced design_axles) span e → AreEffects IsHs20Placed span e

@@ -26,3 +26,7 @@ pub record IsTable (axles : List Axle) (numbers : List ℕ) : Type 0 where
 -- a study keeps such a table, or nothing
 abbrev pub IsTableKept : List Axle → Option (Vec ℕ Global) → Type 0
 IsTableKept axles numbers = IfSome numbers (λ table. IsTable axles table.items)
+
+-- a table says all that is kept, whose train ever it is
+abbrev pub SaysAllOf : Option (Vec ℕ Global) → List ℕ → Type 0
+SaysAllOf numbers table = (axles : List Axle) → IsTableKept axles numbers → IsTable axles table

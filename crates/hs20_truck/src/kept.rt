@@ -1,8 +1,9 @@
 // A study that keeps what is asked of it most.
 
-ghost use Rattle.std.specs.Prelude.{◌≡◌, ◌≤◌, List, IfOk};
+ghost use Rattle.std.specs.Prelude.{◌≡◌, List, IfOk};
 ghost use Rattle.axle_train.specs.declared.axle.Axle.{Axle};
-ghost use Rattle.hs20_truck.specs.Kept.{IsTableKept, IsNumberFor, IsTable};
+ghost use Rattle.influence_line.specs.Spans.{IsSpanLength};
+ghost use Rattle.hs20_truck.specs.Kept.{IsTableKept, IsNumberFor, SaysAllOf};
 
 use crate::live::{is_carried, study_of};
 use axle_train::Train;
@@ -55,8 +56,7 @@ impl Kept {
     /// Keeps the least rating with which spans of `inches` carry the train, unless it does so already. The first
     /// length takes the memory for all. Where no memory is found it keeps what it kept.
     pub fn keep(&mut self, alloc: Global, inches: u32) -> Result<(), AllocError>
-        requires some { 1 ≤ inches }
-        requires long { inches ≤ 6000 }
+        requires { IsSpanLength inches }
         ensures { self.new ≡ self.old }
     {
         if number_of(&self.numbers, inches) != 0 {
@@ -102,7 +102,7 @@ fn number_of(numbers: &Option<Vec<u32>>, inches: u32) -> u32
 
 // The table of what is kept, or one of nothing.
 fn table_of(alloc: Global, numbers: Option<Vec<u32>>) -> Result<Vec<u32>, AllocError>
-    ensures { IfOk result (λ t. (axles : List Axle) → IsTableKept axles numbers → IsTable axles t.items) }
+    ensures { IfOk result (λ table. SaysAllOf numbers table.items) }
 {
     match numbers {
         Some(numbers) => Ok(numbers),

@@ -9,8 +9,9 @@
 //! the least ratings that it found, answer for their own train and for the design truck.
 #![tactic(auto)]
 
-ghost use Rattle.std.specs.Prelude.{◌≡◌, ◌≤◌};
+ghost use Rattle.std.specs.Prelude.{◌≡◌};
 ghost use Rattle.influence_line.specs.Peaks.{IsTrainPlaced, IsHs20Placed};
+ghost use Rattle.influence_line.specs.Spans.{IsSpanLength};
 ghost use Rattle.span_rating.specs.Loading.{AreEffects, AreEffectsOfSomeTrain};
 ghost use Rattle.hs20_truck.specs.Design.{design_axles};
 ghost use Rattle.hs20_truck.specs.Effects.{effects_of, design_of};
@@ -51,8 +52,7 @@ pub fn truck() -> Train
 
 /// The peak moment and the peak end shear of a train on a span of `span` inches, over all of its placements.
 pub fn effects_of(train: &Train, span: u32) -> Effects
-    requires some { 1 ≤ span }
-    requires long { span ≤ 6000 }
+    requires { IsSpanLength span }
     ensures peaks { AreEffects (IsTrainPlaced train.now) span result }
     ensures value { result ≡ effects_of train.now span }
 {
@@ -66,8 +66,7 @@ pub fn effects_of(train: &Train, span: u32) -> Effects
 /// placements and every second spacing. They are those of [`truck`] too, since the smallest spacing is the
 /// worst.
 pub fn effects(span: u32) -> Effects
-    requires some { 1 ≤ span }
-    requires long { span ≤ 6000 }
+    requires { IsSpanLength span }
     ensures all { AreEffects IsHs20Placed span result }
     ensures closest { AreEffects (IsTrainPlaced design_axles) span result }
     ensures train { AreEffectsOfSomeTrain span result }

@@ -1,6 +1,7 @@
 // A study that computes the effects whenever it is asked.
 
 ghost use Rattle.std.specs.Prelude.{◌≡◌, ◌≤◌, ◌↔◌, IsTrue};
+ghost use Rattle.influence_line.specs.Spans.{IsSpanLength};
 ghost use Rattle.span_rating.specs.Carrying.{Carries};
 ghost use Rattle.hs20_truck.specs.Kept.{IsStudyOf};
 
@@ -27,8 +28,7 @@ impl SpanStudy for Live<'_> {
 
 // Whether a span of this length with this rating carries the train, by the effects there.
 pub(crate) fn is_carried(train: &Train, inches: u32, rating: u32) -> bool
-    requires some { 1 ≤ inches }
-    requires long { inches ≤ 6000 }
+    requires span { IsSpanLength inches }
     requires rating { rating ≤ 100000 }
     ensures { IsTrue result ↔ Carries train.now inches rating }
 {
@@ -38,8 +38,7 @@ pub(crate) fn is_carried(train: &Train, inches: u32, rating: u32) -> bool
 
 // The effects of the train and those of the design truck on spans of this length.
 pub(crate) fn study_of(train: &Train, inches: u32) -> Study
-    requires some { 1 ≤ inches }
-    requires long { inches ≤ 6000 }
+    requires { IsSpanLength inches }
     ensures { IsStudyOf train.now inches result }
 {
     Study {

@@ -1,11 +1,11 @@
 -- Among some fractions, at least one, there is one that none exceeds, and `greatest` finds such a one.
 use Rattle.std.proofs.Common.{◌≡◌, zero, suc, ◌*◌, ◌<◌, ◌≤◌, List, [], ◌∷◌, length, Bool, true, Some, arith, refl, ◌∙◌, inl, inr}
-use Rattle.std.specs.List.{find, list_all, AllByRecursion, Contains}
-use Rattle.std.proofs.Math.Nat.{mul-le-mul_left, le_of_mul-le-mul_right}
+use Rattle.std.specs.List.{All, find, list_all, AllByRecursion, Contains}
 use Rattle.std.proofs.lemmas.Bool.{cases_Bool, cases_lt, and_parts, and_from, leb-true, le-leb, cond-true, cond-false}
-use Rattle.std.proofs.lemmas.List.Elements.{All-contains, All-from_recursion, Contains-append_right}
+use Rattle.std.proofs.lemmas.List.Elements.{All-contains, All-from_recursion, All-weaker, recursion_from_All, Contains-append_right}
 use Rattle.influence_line.specs.Fractions.{Ratio}
 use Rattle.influence_line.specs.Greatest.{greatest, ratio_le}
+use Rattle.influence_line.proofs.Cross.{cross_trans}
 
 -- a fraction is no more than another
 abbrev pub IsNoMore : Ratio → Ratio → Type 0
@@ -16,13 +16,9 @@ pub record IsGreatest (values : List Ratio) (f : Ratio) : Type 0 where
   pub among : Contains values f
   pub most : AllByRecursion (λ g. IsNoMore g f) values
 
-no_more_trans : (f g h : Ratio) → 1 ≤ g.den → IsNoMore f g → IsNoMore g h → IsNoMore f h
-no_more_trans f g h some a b =
-    le_of_mul-le-mul_right {m = f.num * h.den} {n = h.num * f.den} {k = g.den} (omega (arith, mul-le-mul_left h.den a, mul-le-mul_left f.den b)) some
-
 most_above : (f g : Ratio) (values : List Ratio) → 1 ≤ f.den → IsNoMore f g → AllByRecursion (λ h. IsNoMore h f) values → AllByRecursion (λ h. IsNoMore h g) values
 most_above f g [] some le most = tt
-most_above f g (h ∷ rest) some le most = (no_more_trans h f g some most.0 le, most_above f g rest some le most.1)
+most_above f g (h ∷ rest) some le most = (cross_trans h.num h.den f.num f.den g.num g.den most.0 le some, most_above f g rest some le most.1)
 
 has_greatest : (f : Ratio) (rest : List Ratio) → 1 ≤ f.den → AllByRecursion (λ g. 1 ≤ g.den) rest → (g : Ratio) × IsGreatest (f ∷ rest) g
 has_greatest f [] some dens = (f, record { among = (0, omega arith, refl); most = (omega arith, tt) })
@@ -76,3 +72,9 @@ greatest_is [] any dens = absurd (omega arith)
 greatest_is (f ∷ rest) any dens =
     let best = has_greatest f rest dens.0 dens.1 in
     greatest_found (f ∷ rest) best.0 best.1
+
+-- so it has what each of them has
+pub greatest_has : (P : Ratio → Type 0) (values : List Ratio) → ((f : Ratio) → P f → 1 ≤ f.den) → 0 < length values → All P values → P (greatest values) × All (λ g. IsNoMore g (greatest values)) values
+greatest_has P values some any each =
+    let best = greatest_is values any (recursion_from_All (λ f. 1 ≤ f.den) values (All-weaker P (λ f. 1 ≤ f.den) some values each)) in
+    (All-contains P values (greatest values) each best.among, All-from_recursion (λ g. IsNoMore g (greatest values)) values best.most)

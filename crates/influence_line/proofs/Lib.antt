@@ -3,6 +3,7 @@ pub mod Lines
 pub mod Sections
 pub mod Lowest
 pub mod Binary
+pub mod Cross
 pub mod Products
 pub mod Unique
 pub mod Moves

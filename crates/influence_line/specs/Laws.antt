@@ -1,8 +1,11 @@
 -- Laws of fractions, of peaks and of a load that moves, in the subject's own words.
 use Rattle.std.specs.Prelude.{◌≡◌, ℕ, ◌*◌, ◌≤◌, List, ◌∷◌, ◌++◌, ℤ, pos, ◌≤ℤ◌, ◌⊎◌}
+use Rattle.axle_train.specs.declared.axle.Axle.{Axle}
+use Rattle.axle_train.specs.Bounds.{IsTrain}
 use Rattle.influence_line.specs.Fractions.{Ratio, IsLowest, IsSmall, IsComparable}
 use Rattle.influence_line.specs.Placed.{Load, moment_sum}
 use Rattle.influence_line.specs.Peaks.{IsPeakMoment, IsPeakShear}
+use Rattle.influence_line.specs.Spans.{IsSpanLength}
 
 -- two fractions in lowest terms that have one value are one fraction
 abbrev pub EqualFractionsAreOne : Type 0
@@ -19,6 +22,14 @@ PeakMomentIsOne Allowed = (span : ℕ) (f g : Ratio) → 1 ≤ span → IsLowest
 -- the same of the peak end shear
 abbrev pub PeakShearIsOne : (ℕ → List Load → Type 0) → Type 0
 PeakShearIsOne Allowed = (span : ℕ) (f g : Ratio) → 1 ≤ span → IsLowest f → IsLowest g → IsPeakShear Allowed span f.num f.den → IsPeakShear Allowed span g.num g.den → f ≡ g
+
+-- a function of a train and a span gives this peak, in lowest terms and of the size that peaks have
+abbrev pub GivesThePeak : (List Axle → ℕ → Ratio → Type 0) → (List Axle → ℕ → Ratio) → Type 0
+GivesThePeak IsPeak peak_of = (axles : List Axle) (span : ℕ) → IsTrain axles → IsSpanLength span → IsPeak axles span (peak_of axles span) × IsSmall (peak_of axles span)
+
+-- and no other fraction in lowest terms is this peak
+abbrev pub GivesTheOnlyPeak : (List Axle → ℕ → Ratio → Type 0) → (List Axle → ℕ → Ratio) → Type 0
+GivesTheOnlyPeak IsPeak peak_of = (axles : List Axle) (span : ℕ) (f : Ratio) → IsTrain axles → IsSpanLength span → IsLowest f → IsPeak axles span f → f ≡ peak_of axles span
 
 -- from x to y is towards z, and not past it
 abbrev pub IsTowards : ℤ → ℤ → ℤ → Type 0

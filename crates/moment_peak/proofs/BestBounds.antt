@@ -1,21 +1,19 @@
--- No placement exceeds the best run, and at its own vertex each run has at least its value.
+-- At its own vertex each run has at least its value.
 use Rattle.std.proofs.Common.{◌≡◌, ℕ, ◌+◌, ◌-◌, ◌*◌, ◌<◌, ◌≤◌, List, [], ◌∷◌, length, take, drop, arith, refl, ap, ◌∙◌, ℤ, pos, ◌+ℤ◌, ◌-ℤ◌, inl, inr, length-drop, length-take, get_or-drop, get_or-take}
-use Rattle.std.proofs.Math.Nat.{mul-le-mul_left, le_of_mul-le-mul_right, mul-sub, mul-pos, add-zero, sub-zero, mul_comm}
+use Rattle.std.proofs.Math.Nat.{mul-sub, mul-pos, add-zero, sub-zero, mul_comm}
 use Rattle.std.proofs.lemmas.Bool.{cases_lt}
 use Rattle.std.proofs.lemmas.Int.{ints}
 use Rattle.std.proofs.lemmas.List.Sums.{sum_by-take-le, sum_by-take-drop, get_or-le-sum_by}
 use Rattle.axle_train.specs.declared.axle.Axle.{Axle}
-use Rattle.axle_train.specs.Bounds.{EachFits, IsTrain}
+use Rattle.axle_train.specs.Bounds.{EachFits}
 use Rattle.axle_train.specs.Trains.{axle_at, no_axle}
 use Rattle.axle_train.proofs.Places.{axle_fits}
 use Rattle.influence_line.specs.Placed.{moment_sum, placed}
-use Rattle.moment_peak.specs.declared.best.Candidate.{Candidate}
 use Rattle.moment_peak.specs.Runs.{run, weight_in, front_in, back_in, run_weight, run_value, vertex_value, IsRunWith}
-use Rattle.moment_peak.specs.Candidates.{IsBest}
 use Rattle.influence_line.proofs.Totals.{total, total_is, under_of}
 use Rattle.moment_peak.proofs.Runs.{weight_of, front_of, back_of, share_all}
 use Rattle.influence_line.proofs.Lines.{moment_under}
-use Rattle.moment_peak.proofs.Bound.{BelowVertex, below_some_vertex}
+use Rattle.moment_peak.proofs.Bound.{BelowVertex}
 
 -- a run has weight
 pub run_loaded : (axles : List Axle) (k first last : ℕ) → EachFits axles → IsRunWith axles k first last → 0 < run_weight axles first last
@@ -35,21 +33,6 @@ value_by_sums span middle place = rw (total_is weight_of middle, total_is (front
 pub below_value : (q span m x place : ℕ) (middle : List Axle) → BelowVertex q span m x place middle → 4 * weight_in middle * m ≤ q * q * vertex_value span (weight_in middle) (front_in place middle) (back_in place middle)
 unfolding vertex_value
 below_value q span m x place middle b = rw (value_by_sums span middle place, ← total_is weight_of middle) (b.bound _ _ (omega (arith, b.left_in)) (omega (arith, b.right_in)))
-
-cancel_run : (R w L q m rv v : ℕ) → 4 * R * m ≤ q * q * rv → rv * w ≤ v * R → 0 < R → m * (4 * w * L) ≤ v * (q * q * L)
-cancel_run R w L q m rv v h k p =
-    le_of_mul-le-mul_right {m = m * (4 * w * L)} {n = v * (q * q * L)} {k = R} (omega (arith, mul-le-mul_left (w * L) h, mul-le-mul_left (q * q * L) k)) p
-
--- no placement is above the best
-pub greatest : (span : ℕ) (axles : List Axle) (best : Candidate) → IsTrain axles → IsBest span axles best → (q section : ℕ) (lead : ℤ) → 1 ≤ q → section ≤ q * span → moment_sum (q * span) section (placed q lead axles) * (4 * best.run.sums.weight * span) ≤ best.value * (q * q * span)
-greatest span axles best train is_best q section lead some h =
-    elim (below_some_vertex q span section lead axles some train.rising h) [
-      | inl none ↦ rw none (omega arith)
-      | inr found ↦
-          let s = found.1 in
-          let m = moment_sum (q * span) section (placed q lead axles) in
-          cancel_run (run_weight axles s.first s.last) best.run.sums.weight span q m (run_value span axles s.k s.first s.last) best.value (below_value q span m found.0 (axle_at axles s.k).place (run axles s.first s.last) s.below) (is_best s.k s.first s.last s.is_run s.can_be) (run_loaded axles s.k s.first s.last train.each s.is_run)
-    ]
 
 -- a run gives no more than the train
 under_run : (f : Axle → ℕ) (axles : List Axle) (first n : ℕ) → total f (take n (drop first axles)) ≤ total f axles

@@ -29,8 +29,7 @@ value_summed span axles pair found p v = rw v.run (record { ordered = p.on.can_b
 pub attained_of : (span : ℕ) (axles : List Axle) (pair : Pair) (found : Candidate) → IsTrain axles → IsPair span axles pair → IsValueOf span axles pair found → found.value < 2 ^ 72 → 0 < found.value → IsAttained span axles found
 attained_of span axles pair found train p v small some = record {
   on = rw v.run p.on;
-  from = rw (v.run, v.axle) p.from;
-  to = rw (v.run, v.axle) p.to;
+  is_run = rw (v.run, v.axle) (record { from = p.from; to = p.to; within = p.on.can_be.within });
   value = rw (v.run, v.axle) v.value;
   some = some;
   loaded = summed_loaded axles found.run train (value_summed span axles pair found p v);
@@ -47,11 +46,11 @@ best_start span axles pair found train p v is_first k first last t upto =
     itself span axles pair found found k first last p v (met_by_itself axles found train (value_summed span axles pair found p v)) (is_first k first last t upto)
 
 -- the next pair joins those before
-pub best_more : (span : ℕ) (axles : List Axle) (pair next : Pair) (best found result : Candidate) → IsTrain axles → IsPair span axles next → IsNextPair span axles pair next → ((k first last : ℕ) → IsTight span axles k first last → IsUpToPair pair k first last → IsNoBetter axles best (run_value span axles k first last) (run_weight axles first last) k first last) → ((v w k first last : ℕ) → 0 < w → IsNoBetter axles best v w k first last → IsNoBetter axles result v w k first last) → IsValueOf span axles next found → IsNoBetter axles result found.value found.run.sums.weight found.axle found.run.first found.run.last → (k first last : ℕ) → IsTight span axles k first last → IsUpToPair next k first last → IsNoBetter axles result (run_value span axles k first last) (run_weight axles first last) k first last
-best_more span axles pair next best found result train p is_next before kept v met k first last t upto =
-    elim (is_next k first last t upto) [
+pub best_more : (span : ℕ) (axles : List Axle) (pair next : Pair) (best found result : Candidate) → IsTrain axles → IsNextPair span axles pair next → ((k first last : ℕ) → IsTight span axles k first last → IsUpToPair pair k first last → IsNoBetter axles best (run_value span axles k first last) (run_weight axles first last) k first last) → ((v w k first last : ℕ) → 0 < w → IsNoBetter axles best v w k first last → IsNoBetter axles result v w k first last) → IsValueOf span axles next found → IsNoBetter axles result found.value found.run.sums.weight found.axle found.run.first found.run.last → (k first last : ℕ) → IsTight span axles k first last → IsUpToPair next k first last → IsNoBetter axles result (run_value span axles k first last) (run_weight axles first last) k first last
+best_more span axles pair next best found result train is_next before kept v met k first last t upto =
+    elim (is_next.none_between k first last t upto) [
       | inl earlier ↦ kept (run_value span axles k first last) (run_weight axles first last) k first last (run_loaded axles k first last train.each t.is_run) (before k first last t earlier)
-      | inr there ↦ itself span axles next found result k first last p v met there
+      | inr there ↦ itself span axles next found result k first last is_next.is_pair v met there
     ]
 
 square_some : (R L p S a F T V : ℕ) → 0 < R → S ≤ R * p → 2 * p < L → R * L ≤ a + S → F + T ≡ 0 → a * a ≤ V + 4 * (R * L) * F → 0 < V

@@ -5,10 +5,12 @@ use Rattle.axle_train.specs.Bounds.{IsTrain}
 use Rattle.axle_train.specs.Trains.{axle_at}
 use Rattle.axle_train.proofs.Places.{place_ordered}
 use Rattle.influence_line.proofs.Totals.{total, total_is, total-append}
+use Rattle.moment_peak.specs.declared.pair.Pair.{Pair}
 use Rattle.moment_peak.specs.declared.run.Sums.{Sums}
 use Rattle.moment_peak.specs.Runs.{run, weight_in, moment_in, front_in, back_in, run_weight, run_moment, run_value, vertex_value, IsRunWith, CanBeOnSpan}
 use Rattle.moment_peak.specs.Sweeps.{AreSums}
 use Rattle.moment_peak.specs.Candidates.{value_by_sums}
+use Rattle.moment_peak.specs.Pairs.{IsPair}
 use Rattle.moment_peak.proofs.Runs.{weight_of, moment_of, front_of, back_of, balance}
 use Rattle.moment_peak.proofs.Between.{rises_on, all_from, all_up_to, all_take, no_front, no_back, front_most, back_most, run_parts, IsFrom}
 
@@ -90,3 +92,7 @@ value_is span axles k first last whole before train is_run can w b =
       front = rw (b.moment, b.weight) (omega (arith, front));
       value = rw (w.moment, w.weight, b.moment, b.weight) (sym (by_sums (run_weight axles first last) span (front_in p middle) (back_in p middle) (run_moment axles first last) p (weight_in (take (k - first) (drop first axles))) (moment_in (take (k - first) (drop first axles))) balanced front (omega (arith, near.back)) (omega (arith, near.front))));
     }
+
+pub by_pair : (span : ℕ) (axles : List Axle) (pair : Pair) → IsTrain axles → IsPair span axles pair → BySums span axles pair.axle pair.run.first pair.run.last pair.run.sums pair.before
+by_pair span axles pair train p =
+    value_is span axles pair.axle pair.run.first pair.run.last pair.run.sums pair.before train (record { from = p.from; to = p.to; within = p.on.can_be.within }) p.on.can_be p.on.sums p.before

@@ -8,7 +8,6 @@ pub mod Pointer
 pub mod Order
 pub mod Bound
 pub mod BestBounds
-pub mod Cross
 pub mod Spans
 pub mod Small
 pub mod Finer
@@ -21,5 +20,4 @@ pub mod OneCentre
 pub mod Ties
 pub mod BestSoFar
 pub mod SamePlace
-pub mod PeakOfBest
 pub mod OnlyThere

@@ -13,17 +13,6 @@ use Rattle.moment_peak.proofs.BestBounds.{run_loaded}
 use Rattle.moment_peak.proofs.Pointer.{centre_to}
 use Rattle.moment_peak.proofs.Sweep.{one_run}
 
--- the axle behind, under the same run
-pub raised_next : (span : ℕ) (axles : List Axle) (pair next : Pair) → next.run ≡ pair.run → next.axle ≡ pair.axle + 1 → IsNextPair span axles pair next
-raised_next span axles pair next same axle = λ k first last t upto.
-    elim (rw same at upto) [
-      | inl earlier ↦ inl (inl earlier)
-      | inr there ↦ elim (cases_lt pair.axle k) [
-        | inl behind ↦ inr (record { at_axle = omega (arith, there.0, axle); at_first = rw same there.1; at_last = rw same there.2 })
-        | inr rest ↦ inl (inr (rest, there.1, there.2))
-      ]
-    ]
-
 -- a tight pair whose run is no later than this pair's, or is its run
 run_up_to : (span : ℕ) (axles : List Axle) (pair : Pair) (k first last : ℕ) → IsTrain axles → IsPair span axles pair → IsLastOfRun span axles pair → IsTight span axles k first last → first + last ≤ pair.run.first + pair.run.last → IsUpToPair pair k first last
 run_up_to span axles pair k first last train p over t h =
@@ -37,17 +26,22 @@ run_up_to span axles pair k first last train p over t h =
     ]
 
 -- the next run, where none that can be on the span is between the two
-pub run_next : (span : ℕ) (axles : List Axle) (pair next : Pair) → IsTrain axles → IsPair span axles pair → IsLastOfRun span axles pair → ((first last : ℕ) → CanBeOnSpan span axles first last → pair.run.first + pair.run.last + 1 ≤ first + last → next.run.first + next.run.last ≤ first + last) → ((k : ℕ) → IsTight span axles k next.run.first next.run.last → next.axle ≤ k) → IsNextPair span axles pair next
-run_next span axles pair next train p over none fresh = λ k first last t upto.
-    elim upto [
-      | inl earlier ↦ elim (cases_lt (pair.run.first + pair.run.last) (first + last)) [
-        | inl later ↦ absurd (omega (arith, none first last t.can_be (omega arith)))
-        | inr rest ↦ inl (run_up_to span axles pair k first last train p over t rest)
-      ]
-      | inr there ↦
-          let from = fresh k (rw (there.1, there.2) at t) in
-          inr (record { at_axle = omega (arith, there.0); at_first = there.1; at_last = there.2 })
-    ]
+pub run_next : (span : ℕ) (axles : List Axle) (pair next : Pair) → IsTrain axles → IsPair span axles pair → IsLastOfRun span axles pair → IsPair span axles next → pair.axle ≤ next.axle → pair.run.first + pair.run.last < next.run.first + next.run.last → ((first last : ℕ) → CanBeOnSpan span axles first last → pair.run.first + pair.run.last + 1 ≤ first + last → next.run.first + next.run.last ≤ first + last) → ((k : ℕ) → IsTight span axles k next.run.first next.run.last → next.axle ≤ k) → IsNextPair span axles pair next
+run_next span axles pair next train p over n no_earlier later none fresh = record {
+  is_pair = n;
+  axle = no_earlier;
+  later = omega arith;
+  none_between = λ k first last t upto.
+      elim upto [
+        | inl earlier ↦ elim (cases_lt (pair.run.first + pair.run.last) (first + last)) [
+          | inl later ↦ absurd (omega (arith, none first last t.can_be (omega arith)))
+          | inr rest ↦ inl (run_up_to span axles pair k first last train p over t rest)
+        ]
+        | inr there ↦
+            let from = fresh k (rw (there.1, there.2) at t) in
+            inr (record { at_axle = omega (arith, there.0); at_first = there.1; at_last = there.2 })
+      ];
+}
 
 loaded : (span : ℕ) (axles : List Axle) (k first last : ℕ) → IsTrain axles → IsTight span axles k first last → 0 < run_weight axles first last
 loaded span axles k first last train t = run_loaded axles k first last train.each t.is_run

@@ -1,10 +1,10 @@
 -- The greatest of the moments at the places in units of 1/q inch, for each q up to twice the train's weight, is the peak moment: the vertex of each run of axles is among these places.
 use Rattle.std.proofs.Common.{◌≡◌, ℕ, ◌+◌, ◌-◌, ◌*◌, ◌<◌, ◌≤◌, ◌^◌, List, length, map, get_or, arith, refl, ap, sym, ℤ, inl, inr}
 use Rattle.std.specs.List.{All, Contains, range_with_len}
-use Rattle.std.proofs.Math.Nat.{mul-le-mul, mul-le-mul_left, mul-le-mul_right, le_of_mul-le-mul_right, le_antisymm, mul-pos}
+use Rattle.std.proofs.Math.Nat.{mul-le-mul, mul-le-mul_left, mul-le-mul_right, le_of_mul-le-mul_right, le_antisymm, eq_of_mul-eq-mul_right, mul-pos}
 use Rattle.std.proofs.lemmas.Bool.{cases_lt}
 use Rattle.std.proofs.lemmas.Int.{ints}
-use Rattle.std.proofs.lemmas.List.Elements.{All-map, All-contains, All-weaker, recursion_from_All, All-from_recursion}
+use Rattle.std.proofs.lemmas.List.Elements.{All-map, All-contains}
 use Rattle.axle_train.specs.declared.axle.Axle.{Axle}
 use Rattle.axle_train.specs.Bounds.{IsTrain}
 use Rattle.axle_train.specs.Trains.{axle_at}
@@ -13,15 +13,16 @@ use Rattle.influence_line.specs.Fractions.{Ratio, IsLowest, IsSmall}
 use Rattle.influence_line.specs.Greatest.{greatest, lowest_of}
 use Rattle.influence_line.specs.Placed.{moment_sum, placed}
 use Rattle.influence_line.specs.Places.{leads}
+use Rattle.influence_line.specs.Spans.{IsSpanLength}
 use Rattle.influence_line.specs.Peaks.{IsPeakMoment, IsTrainPlaced}
-use Rattle.influence_line.proofs.Greatest.{IsGreatest, IsNoMore, greatest_is}
+use Rattle.influence_line.proofs.Greatest.{IsNoMore, greatest_has}
 use Rattle.influence_line.proofs.Leads.{among_leads}
-use Rattle.influence_line.proofs.Lowest.{lowest_least}
+use Rattle.influence_line.proofs.Lowest.{lowest_least, lowest_unique}
 use Rattle.influence_line.proofs.LowestTerms.{lowest_is, lowest_same}
 use Rattle.influence_line.proofs.Members.{All-range, All-flat_map, Contains-range, Contains-map, Contains-flat_map}
 use Rattle.influence_line.proofs.Unique.{moment_unique}
 use Rattle.influence_line.proofs.Values.{moment_by}
-use Rattle.moment_peak.specs.PeakMoment.{moment_at, moments_in, moments_of, peak_moment_of, PeakMomentIsAFunction, NoOtherIsThePeakMoment}
+use Rattle.moment_peak.specs.PeakMoment.{moment_at, moments_in, moments_of, peak_moment_of, IsPeakMomentOf, PeakMomentIsAFunction, NoOtherIsThePeakMoment}
 use Rattle.moment_peak.specs.Runs.{run, run_value, run_weight, front_in, back_in, weight_in, IsRunWith}
 use Rattle.moment_peak.proofs.BestBounds.{below_value, lead_at, run_loaded, vertex_reaches}
 use Rattle.moment_peak.proofs.Bound.{below_some_vertex}
@@ -128,12 +129,6 @@ module _ (axles : List Axle) (span : ℕ) (some : 1 ≤ span) (train : IsTrain a
       let there = vertex_among 0 0 0 0 is_run (omega arith) in
       omega (arith, there.1)
 
-  greatest_moment : IsGreatest (moments_of axles span) (greatest (moments_of axles span))
-  greatest_moment =
-      let values = moments_of axles span in
-      let dens = All-weaker (IsMoment axles span) (λ f. 1 ≤ f.den) (λ f m. rw m.same (mul-pos (mul-pos m.scale m.scale) some)) values (each_moment axles span) in
-      greatest_is values any_moment (recursion_from_All (λ f. 1 ≤ f.den) values dens)
-
   -- a moment that none of them exceeds is the peak
   peak_at : (f : Ratio) (q section : ℕ) (lead : ℤ) → 1 ≤ q → section ≤ q * span → f ≡ moment_at axles span q section lead → All (λ g. IsNoMore g f) (moments_of axles span) → IsPeakMoment (IsTrainPlaced axles) span f.num f.den
   peak_at f q section lead scale on same most = record {
@@ -142,13 +137,12 @@ module _ (axles : List Axle) (span : ℕ) (some : 1 ≤ span) (train : IsTrain a
     greatest = λ p r loads a b is_placed. rw is_placed.1 (not_more f.num f.den (λ i s x _ _ there. All-contains (λ g. IsNoMore g f) (moments_of axles span) (moment_at axles span i s x) most there) p r is_placed.0 a b);
   }
 
-  peak_of_places : IsPeakMoment (IsTrainPlaced axles) span (greatest (moments_of axles span)).num (greatest (moments_of axles span)).den
+  peak_of_places : IsPeakMomentOf axles span (greatest (moments_of axles span))
   peak_of_places =
       let values = moments_of axles span in
-      let f = greatest values in
-      let best = greatest_moment in
-      let at = All-contains (IsMoment axles span) values f (each_moment axles span) best.among in
-      peak_at f at.q at.section at.lead at.scale at.on at.same (All-from_recursion (λ g. IsNoMore g f) values best.most)
+      let best = greatest_has (IsMoment axles span) values (λ f m. rw m.same (mul-pos (mul-pos m.scale m.scale) some)) any_moment (each_moment axles span) in
+      let at = best.0 in
+      peak_at (greatest values) at.q at.section at.lead at.scale at.on at.same best.1
 
   value_small : (k first last : ℕ) → span ≤ 6000 → run_value span axles k first last < 2 ^ 68
   value_small k first last long =
@@ -189,14 +183,21 @@ module _ (axles : List Axle) (span : ℕ) (some : 1 ≤ span) (train : IsTrain a
 
 pub peak_moment_is : PeakMomentIsAFunction
 unfolding peak_moment_of
-peak_moment_is axles span train some long =
+peak_moment_is axles span train sized =
     let f = greatest (moments_of axles span) in
-    let whole = peak_of_places axles span some train in
+    let whole = peak_of_places axles span sized.0 train in
     let lowest = lowest_is f whole.some in
     let peak = moment_by (IsTrainPlaced axles) span f.num f.den (lowest_of f).num (lowest_of f).den lowest.some (lowest_same f whole.some) whole in
-    record { peak = peak; small = peak_small axles span some train (lowest_of f) long lowest peak }
+    (peak, peak_small axles span sized.0 train (lowest_of f) sized.1 lowest peak)
 
 pub peak_moment_alone : NoOtherIsThePeakMoment
-peak_moment_alone axles span f train some long lowest peak =
-    let is = peak_moment_is axles span train some long in
-    moment_unique (IsTrainPlaced axles) span f (peak_moment_of axles span) some lowest is.small.lowest peak is.peak
+peak_moment_alone axles span f train sized lowest peak =
+    let is = peak_moment_is axles span train sized in
+    moment_unique (IsTrainPlaced axles) span f (peak_moment_of axles span) sized.0 lowest is.1.lowest peak is.0
+
+-- so a fraction in lowest terms with a value that the peak moment has is that one
+pub peak_by_value : (axles : List Axle) (span value weight : ℕ) (f : Ratio) → IsTrain axles → IsSpanLength span → 0 < weight → IsLowest f → f.num * weight ≡ value * f.den → (peak_moment_of axles span).num * weight ≡ value * (peak_moment_of axles span).den → f ≡ peak_moment_of axles span
+peak_by_value axles span value weight f train sized some lowest is at_peak =
+    let peak = peak_moment_of axles span in
+    lowest_unique f peak lowest (peak_moment_is axles span train sized).1.lowest
+    (eq_of_mul-eq-mul_right weight some (f.num * peak.den) (peak.num * f.den) (omega (arith, ap (λ t. peak.den * t) is, ap (λ t. f.den * t) at_peak)))

@@ -12,7 +12,7 @@ use Rattle.moment_peak.specs.declared.run.Run.{Run}
 use Rattle.moment_peak.specs.declared.run.Sums.{Sums}
 use Rattle.moment_peak.specs.Pairs.{far_support, weight_to, IsTight, IsShearFrom, IsPair, IsRunEnd, IsLastOfRun}
 use Rattle.moment_peak.specs.Runs.{run, run_weight, run_moment}
-use Rattle.moment_peak.specs.Sweeps.{AreSums, IsSummed, IsOnSpan, IsFullRun}
+use Rattle.moment_peak.specs.Sweeps.{AreSums, IsMore, IsSummed, IsOnSpan, IsFullRun}
 use Rattle.moment_peak.proofs.Runs.{weight_of, moment_of, balance}
 use Rattle.moment_peak.proofs.Between.{rises_on, all_from, all_up_to, all_take, no_front, no_back, IsFrom}
 use Rattle.moment_peak.proofs.Sweep.{can_be-longer, can_be-shorter, can_be-alone}
@@ -111,11 +111,11 @@ shorter_on span axles run next train on full longer s first last = record {
 }
 
 -- the axle behind comes on
-pub longer_pair : (span : ℕ) (axles : List Axle) (pair next : Pair) → IsTrain axles → IsPair span axles pair → pair.run.last + 1 < length axles → spread axles pair.run.first (pair.run.last + 1) ≤ span → IsSummed axles next.run → next.run.first ≡ pair.run.first → next.run.last ≡ pair.run.last + 1 → next.axle ≡ pair.axle → next.before ≡ pair.before → next.run.sums.weight ≡ pair.run.sums.weight + (axle_at axles (pair.run.last + 1)).weight → next.run.sums.moment ≡ pair.run.sums.moment + (axle_at axles (pair.run.last + 1)).weight * (axle_at axles (pair.run.last + 1)).place → IsPair span axles next
-longer_pair span axles pair next train p more fits summed first last axle before weight moment =
+pub longer_pair : (span : ℕ) (axles : List Axle) (pair next : Pair) → IsTrain axles → IsPair span axles pair → pair.run.last + 1 < length axles → spread axles pair.run.first (pair.run.last + 1) ≤ span → IsSummed axles next.run → next.run.first ≡ pair.run.first → next.run.last ≡ pair.run.last + 1 → next.axle ≡ pair.axle → next.before ≡ pair.before → IsMore pair.run.sums next.run.sums (axle_at axles (pair.run.last + 1)) → IsPair span axles next
+longer_pair span axles pair next train p within fits summed first last axle before more =
     let end = axle_at axles (pair.run.last + 1) in
-    let can = can_be-longer span axles pair.run.first pair.run.last train p.on.can_be more fits in
-    let shear : IsShearFrom span next end.place = rw (before, weight, moment) (omega (arith, p.to_next more)) in
+    let can = can_be-longer span axles pair.run.first pair.run.last train p.on.can_be within fits in
+    let shear : IsShearFrom span next end.place = rw (before, more.weight, more.moment) (omega (arith, p.to_next within)) in
     let near : end.place ≤ (axle_at axles pair.run.first).place + span = omega (arith, fits) in
     record {
       on = record { can_be = rw (first, last) can; sums = summed.sums };
@@ -140,21 +140,21 @@ fresh span axles next place n shear on k t =
     ]
 
 -- no tight pair of the longer run is in front
-pub longer_fresh : (span : ℕ) (axles : List Axle) (pair next : Pair) → IsPair span axles pair → IsPair span axles next → pair.run.last + 1 < length axles → next.run.last ≡ pair.run.last + 1 → next.axle ≡ pair.axle → next.before ≡ pair.before → next.run.sums.weight ≡ pair.run.sums.weight + (axle_at axles (pair.run.last + 1)).weight → next.run.sums.moment ≡ pair.run.sums.moment + (axle_at axles (pair.run.last + 1)).weight * (axle_at axles (pair.run.last + 1)).place → (k : ℕ) → IsTight span axles k next.run.first next.run.last → next.axle ≤ k
-longer_fresh span axles pair next p n more last axle before weight moment =
+pub longer_fresh : (span : ℕ) (axles : List Axle) (pair next : Pair) → IsPair span axles pair → IsPair span axles next → pair.run.last + 1 < length axles → next.run.last ≡ pair.run.last + 1 → next.axle ≡ pair.axle → next.before ≡ pair.before → IsMore pair.run.sums next.run.sums (axle_at axles (pair.run.last + 1)) → (k : ℕ) → IsTight span axles k next.run.first next.run.last → next.axle ≤ k
+longer_fresh span axles pair next p n within last axle before more =
     let end = (axle_at axles (pair.run.last + 1)).place in
-    fresh span axles next end n (rw (before, weight, moment) (omega (arith, p.to_next more)))
+    fresh span axles next end n (rw (before, more.weight, more.moment) (omega (arith, p.to_next within)))
     (λ k t. omega (arith, t.last_on, ap (λ (i : ℕ). run_weight axles next.run.first next.run.last * (axle_at axles i).place) last))
 
 -- what the shear loses with the first axle, the run loses too
-shear_without : (span B' B R' R S' S w p : ℕ) → B' + w ≡ B → R' + w ≡ R → S' + w * p ≡ S → span * B + S ≤ R * (p + span) → span * B' + S' ≤ R' * (p + span)
+shear_without : (span B' B R' R S' S w p : ℕ) → B ≡ B' + w → R ≡ R' + w → S ≡ S' + w * p → span * B + S ≤ R * (p + span) → span * B' + S' ≤ R' * (p + span)
 shear_without span B' B R' R S' S w p b r s h = omega (arith, h, s, ap (λ t. span * t) b, ap (λ t. t * (p + span)) r)
 
 -- the first axle goes off, and the pair's axle is another
-pub shorter_pair : (span : ℕ) (axles : List Axle) (pair next : Pair) → IsTrain axles → IsPair span axles pair → pair.run.first < pair.axle → IsFullRun span axles pair.run → IsSummed axles next.run → next.run.first ≡ pair.run.first + 1 → next.run.last ≡ pair.run.last → next.axle ≡ pair.axle → AreSums axles (pair.run.first + 1) pair.axle next.before → next.before.weight + (axle_at axles pair.run.first).weight ≡ pair.before.weight → next.run.sums.weight + (axle_at axles pair.run.first).weight ≡ pair.run.sums.weight → next.run.sums.moment + (axle_at axles pair.run.first).weight * (axle_at axles pair.run.first).place ≡ pair.run.sums.moment → IsShearFrom span next ((axle_at axles pair.run.first).place + span) × IsPair span axles next
-shorter_pair span axles pair next train p behind full summed first last axle before front weight moment =
+pub shorter_pair : (span : ℕ) (axles : List Axle) (pair next : Pair) → IsTrain axles → IsPair span axles pair → pair.run.first < pair.axle → IsFullRun span axles pair.run → IsSummed axles next.run → next.run.first ≡ pair.run.first + 1 → next.run.last ≡ pair.run.last → next.axle ≡ pair.axle → AreSums axles (pair.run.first + 1) pair.axle next.before → IsMore next.before pair.before (axle_at axles pair.run.first) → IsMore next.run.sums pair.run.sums (axle_at axles pair.run.first) → IsShearFrom span next ((axle_at axles pair.run.first).place + span) × IsPair span axles next
+shorter_pair span axles pair next train p behind full summed first last axle before front more =
     let off = axle_at axles pair.run.first in
-    let shear : IsShearFrom span next (off.place + span) = shear_without span next.before.weight pair.before.weight next.run.sums.weight pair.run.sums.weight next.run.sums.moment pair.run.sums.moment off.weight off.place front weight moment p.to_first in
+    let shear : IsShearFrom span next (off.place + span) = shear_without span next.before.weight pair.before.weight next.run.sums.weight pair.run.sums.weight next.run.sums.moment pair.run.sums.moment off.weight off.place front.weight more.weight more.moment p.to_first in
     let near : off.place ≤ (axle_at axles (pair.run.first + 1)).place = place_ordered axles 0 pair.run.first (pair.run.first + 1) train.rising (omega arith) (omega (arith, p.on.can_be.within)) in
     let near_span : off.place + span ≤ (axle_at axles (pair.run.first + 1)).place + span = omega arith in (
       shear,

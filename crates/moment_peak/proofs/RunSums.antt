@@ -1,5 +1,5 @@
 -- The sums of neighbouring axles, one axle more or less at a time.
-use Rattle.std.proofs.Common.{◌≡◌, ℕ, suc, ◌+◌, ◌-◌, ◌*◌, ◌<◌, ◌≤◌, List, [], ◌∷◌, length, take, drop, sum_by, arith, length-drop, get_or-drop, refl, ap}
+use Rattle.std.proofs.Common.{◌≡◌, ℕ, suc, ◌+◌, ◌-◌, ◌*◌, ◌<◌, ◌≤◌, List, [], ◌∷◌, length, take, drop, sum_by, arith, length-drop, get_or-drop, refl}
 use Rattle.std.proofs.Math.Nat.{sub_self, mul-le-mul_left}
 use Rattle.std.proofs.Math.Seq.{drop-cons}
 use Rattle.std.proofs.lemmas.List.Sums.{sum_by_more, sum_by-take-le, sum_by-take-drop, sum_by-cons}
@@ -11,7 +11,7 @@ use Rattle.moment_peak.proofs.Runs.{weight_of, moment_of}
 use Rattle.moment_peak.specs.declared.run.Run.{Run}
 use Rattle.moment_peak.specs.declared.run.Sums.{Sums}
 use Rattle.moment_peak.specs.Runs.{weight_in, moment_in}
-use Rattle.moment_peak.specs.Sweeps.{AreSums, IsSummed}
+use Rattle.moment_peak.specs.Sweeps.{AreSums, IsMore, IsSummed}
 
 -- one axle more at the end
 pub sum_more : (f : Axle → ℕ) (axles : List Axle) (first last : ℕ) → first ≤ last → last < length axles → sum_by f (take (last + 1 - first) (drop first axles)) ≡ sum_by f (take (last - first) (drop first axles)) + f (axle_at axles last)
@@ -24,10 +24,6 @@ sum_more f axles first last ordered within =
 -- no axle
 pub sum_none : (f : Axle → ℕ) (axles : List Axle) (first : ℕ) → sum_by f (take (first - first) (drop first axles)) ≡ 0
 sum_none f axles first = rw (sub_self first) refl
-
--- one axle alone
-pub sum_alone : (f : Axle → ℕ) (axles : List Axle) (i : ℕ) → i < length axles → sum_by f (take (i + 1 - i) (drop i axles)) ≡ f (axle_at axles i)
-sum_alone f axles i within = omega (arith, sum_more f axles i i (omega arith) within, sum_none f axles i)
 
 -- one axle less at the front
 pub sum_less : (f : Axle → ℕ) (axles : List Axle) (first end : ℕ) → first < end → end ≤ length axles → sum_by f (take (end - first) (drop first axles)) ≡ f (axle_at axles first) + sum_by f (take (end - (first + 1)) (drop (first + 1) axles))
@@ -54,58 +50,54 @@ are_sums axles first end sums train weight moment = record {
 }
 
 -- the sums with one axle more
-pub sums_with : (axles : List Axle) (first k : ℕ) (before after : Sums) (axle : Axle) → IsTrain axles → first ≤ k → k < length axles → axle ≡ axle_at axles k → AreSums axles first k before → after.weight ≡ before.weight + axle.weight → after.moment ≡ before.moment + axle.weight * axle.place → AreSums axles first (k + 1) after
-sums_with axles first k before after axle train from within here b weight moment =
+pub sums_with : (axles : List Axle) (first k : ℕ) (before after : Sums) → IsTrain axles → first ≤ k → k < length axles → AreSums axles first k before → IsMore before after (axle_at axles k) → AreSums axles first (k + 1) after
+sums_with axles first k before after train from within b more =
     are_sums axles first (k + 1) after train
-    (omega (arith, weight, b.weight, ap weight_of here, sum_more weight_of axles first k from within))
-    (omega (arith, moment, b.moment, ap moment_of here, sum_more moment_of axles first k from within))
+    (omega (arith, more.weight, b.weight, sum_more weight_of axles first k from within))
+    (omega (arith, more.moment, b.moment, sum_more moment_of axles first k from within))
 
 -- and without the first of them
-pub sums_without : (axles : List Axle) (first k : ℕ) (before next : Sums) (axle : Axle) → IsTrain axles → first < k → k ≤ length axles → AreSums axles first k before → axle ≡ axle_at axles first → next.weight + axle.weight ≡ before.weight → next.moment + axle.weight * axle.place ≡ before.moment → AreSums axles (first + 1) k next
-sums_without axles first k before next axle train behind within b here weight moment =
+pub sums_without : (axles : List Axle) (first k : ℕ) (before next : Sums) → IsTrain axles → first < k → k ≤ length axles → AreSums axles first k before → IsMore next before (axle_at axles first) → AreSums axles (first + 1) k next
+sums_without axles first k before next train behind within b more =
     are_sums axles (first + 1) k next train
-    (omega (arith, b.weight, weight, ap weight_of here, sum_less weight_of axles first k behind within))
-    (omega (arith, b.moment, moment, ap moment_of here, sum_less moment_of axles first k behind within))
+    (omega (arith, b.weight, more.weight, sum_less weight_of axles first k behind within))
+    (omega (arith, b.moment, more.moment, sum_less moment_of axles first k behind within))
 
 -- no axle
 pub sums_none : (axles : List Axle) (first : ℕ) (sums : Sums) → IsTrain axles → sums.weight ≡ 0 → sums.moment ≡ 0 → AreSums axles first first sums
 sums_none axles first sums train weight moment = are_sums axles first first sums train (omega (arith, weight, sum_none weight_of axles first)) (omega (arith, moment, sum_none moment_of axles first))
 
 -- a run with the axle behind it
-pub summed_with : (axles : List Axle) (run next : Run) (axle : Axle) → IsTrain axles → IsSummed axles run → run.last + 1 < length axles → axle ≡ axle_at axles (run.last + 1) → next.first ≡ run.first → next.last ≡ run.last + 1 → next.sums.weight ≡ run.sums.weight + axle.weight → next.sums.moment ≡ run.sums.moment + axle.weight * axle.place → IsSummed axles next
-summed_with axles run next axle train s more here first last weight moment = record {
+pub summed_with : (axles : List Axle) (run next : Run) → IsTrain axles → IsSummed axles run → run.last + 1 < length axles → next.first ≡ run.first → next.last ≡ run.last + 1 → IsMore run.sums next.sums (axle_at axles (run.last + 1)) → IsSummed axles next
+summed_with axles run next train s within first last more = record {
   ordered = omega (arith, s.ordered, first, last);
   within = omega (arith, last);
-  sums = rw (first, last) (sums_with axles run.first (run.last + 1) run.sums next.sums axle train (omega (arith, s.ordered)) more here s.sums weight moment);
+  sums = rw (first, last) (sums_with axles run.first (run.last + 1) run.sums next.sums train (omega (arith, s.ordered)) within s.sums more);
 }
 
 -- a run without its first axle
-pub summed_without_first : (axles : List Axle) (run next : Run) (axle : Axle) → IsTrain axles → IsSummed axles run → run.first < run.last → axle ≡ axle_at axles run.first → next.first ≡ run.first + 1 → next.last ≡ run.last → next.sums.weight + axle.weight ≡ run.sums.weight → next.sums.moment + axle.weight * axle.place ≡ run.sums.moment → IsSummed axles next
-summed_without_first axles run next axle train s longer here first last weight moment = record {
+pub summed_without_first : (axles : List Axle) (run next : Run) → IsTrain axles → IsSummed axles run → run.first < run.last → next.first ≡ run.first + 1 → next.last ≡ run.last → IsMore next.sums run.sums (axle_at axles run.first) → IsSummed axles next
+summed_without_first axles run next train s longer first last more = record {
   ordered = omega (arith, first, last);
   within = omega (arith, last, s.within);
-  sums = rw (first, last) (sums_without axles run.first (run.last + 1) run.sums next.sums axle train (omega arith) (omega (arith, s.within)) s.sums here weight moment);
+  sums = rw (first, last) (sums_without axles run.first (run.last + 1) run.sums next.sums train (omega arith) (omega (arith, s.within)) s.sums more);
 }
 
 -- a run without its last axle
-pub summed_without_last : (axles : List Axle) (run next : Run) (axle : Axle) → IsTrain axles → IsSummed axles run → run.first < run.last → axle ≡ axle_at axles run.last → next.first ≡ run.first → next.last + 1 ≡ run.last → next.sums.weight + axle.weight ≡ run.sums.weight → next.sums.moment + axle.weight * axle.place ≡ run.sums.moment → IsSummed axles next
-summed_without_last axles run next axle train s longer here first last weight moment = record {
+pub summed_without_last : (axles : List Axle) (run next : Run) → IsTrain axles → IsSummed axles run → run.first < run.last → next.first ≡ run.first → next.last + 1 ≡ run.last → IsMore next.sums run.sums (axle_at axles run.last) → IsSummed axles next
+summed_without_last axles run next train s longer first last more = record {
   ordered = omega (arith, first, last);
   within = omega (arith, last, s.within);
   sums = rw (first, last) (are_sums axles run.first run.last next.sums train
-      (omega (arith, s.sums.weight, weight, ap weight_of here, sum_more weight_of axles run.first run.last s.ordered s.within))
-      (omega (arith, s.sums.moment, moment, ap moment_of here, sum_more moment_of axles run.first run.last s.ordered s.within)));
+      (omega (arith, s.sums.weight, more.weight, sum_more weight_of axles run.first run.last s.ordered s.within))
+      (omega (arith, s.sums.moment, more.moment, sum_more moment_of axles run.first run.last s.ordered s.within)));
 }
 
 -- the first axle is part of the sums of those before a later one, and the last one of a run of its sums
-pub front_part : (axles : List Axle) (first k : ℕ) (before : Sums) (axle : Axle) → first < k → k ≤ length axles → AreSums axles first k before → axle ≡ axle_at axles first → (axle.weight ≤ before.weight) × (axle.weight * axle.place ≤ before.moment)
-front_part axles first k before axle behind within b here = (
-  omega (arith, b.weight, ap weight_of here, sum_less weight_of axles first k behind within),
-  omega (arith, b.moment, ap moment_of here, sum_less moment_of axles first k behind within),
-)
+pub front_part : (axles : List Axle) (first k : ℕ) (before : Sums) → first < k → k ≤ length axles → AreSums axles first k before → ((axle_at axles first).weight ≤ before.weight) × ((axle_at axles first).weight * (axle_at axles first).place ≤ before.moment)
+front_part axles first k before behind within b =
+    (omega (arith, b.weight, sum_less weight_of axles first k behind within), omega (arith, b.moment, sum_less moment_of axles first k behind within))
 
-pub last_part : (axles : List Axle) (run : Run) (axle : Axle) → IsSummed axles run → axle ≡ axle_at axles run.last → (axle.weight ≤ run.sums.weight) × (axle.weight * axle.place ≤ run.sums.moment)
-last_part axles run axle s here = (
-  omega (arith, s.sums.weight, ap weight_of here, sum_more weight_of axles run.first run.last s.ordered s.within),
-  omega (arith, s.sums.moment, ap moment_of here, sum_more moment_of axles run.first run.last s.ordered s.within),
-)
+pub last_part : (axles : List Axle) (run : Run) → IsSummed axles run → ((axle_at axles run.last).weight ≤ run.sums.weight) × ((axle_at axles run.last).weight * (axle_at axles run.last).place ≤ run.sums.moment)
+last_part axles run s =
+    (omega (arith, s.sums.weight, sum_more weight_of axles run.first run.last s.ordered s.within), omega (arith, s.sums.moment, sum_more moment_of axles run.first run.last s.ordered s.within))

@@ -38,23 +38,27 @@ pub record PeakPlace (span : ℕ) (axles : List Axle) (num den k first last : �
   pub on : v ≤ 2 * run_weight axles first last * span
   pub reaches : moment_sum (2 * run_weight axles first last * span) v (placed (2 * run_weight axles first last) (lead_at (2 * run_weight axles first last) (axle_at axles k).place v) axles) * den ≡ num * (2 * run_weight axles first last * (2 * run_weight axles first last) * span)
 
-pub peak_place : (span : ℕ) (axles : List Axle) (num den k first last : ℕ) → IsTrain axles → ((q section : ℕ) (lead : ℤ) → 1 ≤ q → section ≤ q * span → moment_sum (q * span) section (placed q lead axles) * den ≤ num * (q * q * span)) → IsRunWith axles k first last → num * (4 * run_weight axles first last * span) ≡ run_value span axles k first last * den → 0 < run_value span axles k first last → PeakPlace span axles num den k first last
-peak_place span axles num den k first last train most is_run exact value =
-    let p = (axle_at axles k).place in
-    let R = run_weight axles first last in
-    let D = front_in p (run axles first last) in
-    let E = back_in p (run axles first last) in
+-- the best run is at the peak
+best_place : (span : ℕ) (axles : List Axle) (best : Candidate) (num den : ℕ) → IsTrain axles → IsAttained span axles best → IsPeakMoment (IsTrainPlaced axles) span num den → num * (4 * best.run.sums.weight * span) ≡ best.value * den → PeakPlace span axles num den best.axle best.run.first best.run.last
+best_place span axles best num den train a peak e =
+    let p = (axle_at axles best.axle).place in
+    let middle = run axles best.run.first best.run.last in
+    let R = run_weight axles best.run.first best.run.last in
+    let D = front_in p middle in
+    let E = back_in p middle in
     let v = R * span + D - E in
-    let loaded : 0 < R = run_loaded axles k first last train.each is_run in
+    let loaded : 0 < R = run_loaded axles best.axle best.run.first best.run.last train.each a.is_run in
+    let value = rw a.value at a.some in
     let left = inside_left span R D E value in
-    let reaches = vertex_reaches span axles k first last value in
-    let above = most (2 * R) v (lead_at (2 * R) p v) (omega arith) reaches.0 in
-    let m = moment_sum (2 * R * span) v (placed (2 * R) (lead_at (2 * R) p v) axles) in
+    let reaches = vertex_reaches span axles best.axle best.run.first best.run.last value in
+    let lead = lead_at (2 * R) p v in
+    let above = peak.greatest (2 * R) v (placed (2 * R) lead axles) (omega arith) reaches.0 (lead, refl) in
+    let m = moment_sum (2 * R * span) v (placed (2 * R) lead axles) in
     record {
       v = v;
-      section = section_from R span D E (run_moment axles first last) p v (omega arith) (balance_in p (run axles first last));
+      section = section_from R span D E (run_moment axles best.run.first best.run.last) p v (omega arith) (balance_in p middle);
       on = reaches.0;
-      reaches = exact_from R span (run_value span axles k first last) m num den above reaches.1 exact;
+      reaches = exact_from R span (run_value span axles best.axle best.run.first best.run.last) m num den above reaches.1 (rw (a.value, a.on.sums.weight) at e);
     }
 
 -- the place of a vertex with that centre is the same place, at another scale
@@ -102,17 +106,8 @@ vertex_at_peak span axles num den k first last first' last' at train peak_run pl
       reaches = rw scale (cancel_scale g R _ _ num den span some loaded moments place.reaches);
     }
 
--- the best run is at the peak
-pub best_place : (span : ℕ) (axles : List Axle) (best : Candidate) (num den : ℕ) → IsTrain axles → IsAttained span axles best → IsPeakMoment (IsTrainPlaced axles) span num den → num * (4 * best.run.sums.weight * span) ≡ best.value * den → PeakPlace span axles num den best.axle best.run.first best.run.last
-best_place span axles best num den train a peak e =
-    let is_run : IsRunWith axles best.axle best.run.first best.run.last = record { from = a.from; to = a.to; within = a.on.can_be.within } in
-    peak_place span axles num den best.axle best.run.first best.run.last train (λ q section lead scale on. peak.greatest q section (placed q lead axles) scale on (lead, refl)) is_run (rw (a.value, a.on.sums.weight) at e) (rw a.value at a.some)
-
 -- the vertex that the program found, by the sums that it carries: its run is the widest with the centre of the best
 module _ (span : ℕ) (axles : List Axle) (best : Candidate) (num den : ℕ) (found : Run) (axle : Axle) (train : IsTrain axles) (a : IsAttained span axles best) (peak : IsPeakMoment (IsTrainPlaced axles) span num den) (e : num * (4 * best.run.sums.weight * span) ≡ best.value * den) (w : IsWidest axles best.run.sums found) (here : axle ≡ axle_at axles best.axle) where
-  best_is_run : IsRunWith axles best.axle best.run.first best.run.last
-  best_is_run = record { from = a.from; to = a.to; within = a.on.can_be.within }
-
   found_centre : HaveOneCentre axles found.first found.last best.run.first best.run.last
   found_centre = rw (a.on.sums.weight, a.on.sums.moment) at w.same_centre
 
@@ -120,11 +115,11 @@ module _ (span : ℕ) (axles : List Axle) (best : Candidate) (num den : ℕ) (fo
   pub found_is_run : IsRunWith axles best.axle found.first found.last
   found_is_run =
       let inside = w.inside best.run.first best.run.last a.on.can_be.ordered a.on.can_be.within (rw (a.on.sums.weight, a.on.sums.moment) refl) in
-      record { from = omega (arith, inside.0, a.from); to = omega (arith, inside.1, a.to); within = w.summed.within }
+      record { from = omega (arith, inside.0, a.is_run.from); to = omega (arith, inside.1, a.is_run.to); within = w.summed.within }
 
   pub found_at : (at : Place) → at.q ≡ 2 * found.sums.weight → at.section + found.sums.moment ≡ found.sums.weight * span + found.sums.weight * axle.place → at.lead +ℤ pos (found.sums.moment + found.sums.weight * axle.place) ≡ pos (found.sums.weight * span) → VertexAtPeak span axles num den best.axle found.first found.last at
   found_at at scale section lead =
-      vertex_at_peak span axles num den best.axle found.first found.last best.run.first best.run.last at train best_is_run (best_place span axles best num den train a peak e) found_is_run found_centre
+      vertex_at_peak span axles num den best.axle found.first found.last best.run.first best.run.last at train a.is_run (best_place span axles best num den train a peak e) found_is_run found_centre
       (rw w.summed.sums.weight at scale)
       (rw (here, w.summed.sums.moment, w.summed.sums.weight) at section)
       (rw (here, w.summed.sums.moment, w.summed.sums.weight) at lead)
@@ -133,5 +128,5 @@ module _ (span : ℕ) (axles : List Axle) (best : Candidate) (num den : ℕ) (fo
   pub found_left : found.sums.moment ≤ found.sums.weight * span + found.sums.weight * axle.place
   found_left =
       let place = best_place span axles best num den train a peak e in
-      let loaded = run_loaded axles best.axle best.run.first best.run.last train.each best_is_run in
+      let loaded = run_loaded axles best.axle best.run.first best.run.last train.each a.is_run in
       rw (here, w.summed.sums.moment, w.summed.sums.weight) (left_from (run_weight axles best.run.first best.run.last) (run_weight axles found.first found.last) span (run_moment axles found.first found.last) (axle_at axles best.axle).place (run_moment axles best.run.first best.run.last) place.v loaded place.section found_centre)

@@ -7,9 +7,7 @@ use Rattle.axle_train.specs.Bounds.{IsTrain}
 use Rattle.axle_train.specs.Trains.{axle_at}
 use Rattle.influence_line.specs.declared.placing.Place.{Place}
 use Rattle.influence_line.proofs.Products.{product_most}
-use Rattle.moment_peak.specs.declared.best.Candidate.{Candidate}
 use Rattle.moment_peak.specs.Runs.{run_weight, run_moment, vertex_value}
-use Rattle.moment_peak.specs.Candidates.{IsAttained}
 use Rattle.moment_peak.specs.Vertices.{IsVertex}
 use Rattle.moment_peak.proofs.Runs.{weight_of}
 use Rattle.moment_peak.proofs.RunSums.{sum_part}
@@ -29,16 +27,6 @@ value_most span R D E h =
 
 pub run_light : (axles : List Axle) (first last : ℕ) → IsTrain axles → run_weight axles first last ≤ 2000000
 run_light axles first last train = omega (arith, sum_part weight_of axles first (last + 1 - first), train.gross)
-
--- the best run's value is below 2 ^ 68
-pub best_small : (span : ℕ) (axles : List Axle) (best : Candidate) → span ≤ 6000 → IsTrain axles → IsAttained span axles best → best.value < 2 ^ 68
-best_small span axles best long train a =
-    let R = run_weight axles best.run.first best.run.last in
-    let most = value_most span R _ _ (rw a.value at a.some) in
-    let light : R ≤ 2000000 = run_light axles best.run.first best.run.last train in
-    let half = mul-le-mul light long in
-    let whole = mul-le-mul half half in
-    rw a.value (omega (arith, most, whole))
 
 -- the numbers of a vertex
 pub record VertexBounds (span place : ℕ) (at : Place) : Type 0 where

@@ -6,7 +6,7 @@ use Rattle.axle_train.specs.Bounds.{IsTrain}
 use Rattle.moment_peak.specs.declared.best.Candidate.{Candidate}
 use Rattle.moment_peak.specs.Centres.{IsFirstTo, IsNoBetter, HasEarlierRun}
 use Rattle.moment_peak.specs.Sweeps.{IsSummed}
-use Rattle.moment_peak.proofs.Cross.{cross_trans}
+use Rattle.influence_line.proofs.Cross.{cross_trans}
 use Rattle.moment_peak.proofs.OneCentre.{inside_later, one_widest, summed_loaded, centre_of}
 
 -- what is at most the one is below the other, where that one is greater
@@ -29,16 +29,6 @@ own_first axles next train s = λ wide w first last ordered within same.
 
 pub met_by_itself : (axles : List Axle) (next : Candidate) → IsTrain axles → IsSummed axles next.run → IsNoBetter axles next next.value next.run.sums.weight next.axle next.run.first next.run.last
 met_by_itself axles next train s = record { most = omega arith; order = λ _. own_first axles next train s }
-
--- one that is less, or as much under a later axle
-pub met_by_less : (axles : List Axle) (best next : Candidate) → next.value * best.run.sums.weight < best.value * next.run.sums.weight → IsNoBetter axles best next.value next.run.sums.weight next.axle next.run.first next.run.last
-met_by_less axles best next less = record { most = omega arith; order = λ same. absurd (omega (arith, same, less)) }
-
-pub met_by_axle : (axles : List Axle) (best next : Candidate) → next.value * best.run.sums.weight ≤ best.value * next.run.sums.weight → best.axle < next.axle → IsNoBetter axles best next.value next.run.sums.weight next.axle next.run.first next.run.last
-met_by_axle axles best next most less = record {
-  most = most;
-  order = λ _ wide w first last ordered within centre. record { by_axle = omega arith; by_first = λ same. absurd (omega (arith, same, less)); by_last = λ same begin. absurd (omega (arith, same, less)) };
-}
 
 -- the earlier one of two is first to the run of the other
 earlier_first : (axles : List Axle) (best next : Candidate) → IsTrain axles → IsSummed axles next.run → best.axle ≡ next.axle → HasEarlierRun axles best.run.sums next.run.sums → IsFirstTo axles best next.axle next.run.first next.run.last

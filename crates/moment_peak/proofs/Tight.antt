@@ -1,6 +1,6 @@
 -- A peak moment is that of a tight pair, and each vertex that reaches it is of one.
 use Rattle.std.proofs.Common.{◌≡◌, ℕ, ◌+◌, ◌-◌, ◌*◌, ◌<◌, ◌≤◌, List, length, take, drop, arith, ap, refl, ℤ, inl, inr}
-use Rattle.std.proofs.Math.Nat.{mul-le-mul_left, le_of_mul-le-mul_left, le_of_mul-le-mul_right, eq_of_mul-eq-mul_right, mul-pos}
+use Rattle.std.proofs.Math.Nat.{mul-le-mul_left, mul-le-mul_right, le_of_mul-le-mul_left, le_of_mul-le-mul_right, le_antisymm, eq_of_mul-eq-mul_right, mul-pos}
 use Rattle.std.proofs.lemmas.Bool.{cases_lt}
 use Rattle.std.proofs.lemmas.Int.{ints}
 use Rattle.axle_train.specs.declared.axle.Axle.{Axle}
@@ -9,17 +9,17 @@ use Rattle.axle_train.specs.Trains.{axle_at}
 use Rattle.axle_train.proofs.Places.{place_rises, axle_fits}
 use Rattle.influence_line.specs.Peaks.{IsPeakMoment, IsTrainPlaced}
 use Rattle.influence_line.specs.Placed.{moment_sum, placed}
+use Rattle.influence_line.specs.Spans.{IsSpanLength}
 use Rattle.influence_line.proofs.Totals.{total, total_is}
 use Rattle.moment_peak.specs.declared.best.Candidate.{Candidate}
 use Rattle.moment_peak.specs.declared.run.Sums.{Sums}
-use Rattle.moment_peak.specs.Candidates.{IsBest}
+use Rattle.moment_peak.specs.Candidates.{IsAtPeak, IsAttained}
 use Rattle.moment_peak.specs.Centres.{IsFirstBestPair}
 use Rattle.moment_peak.specs.Pairs.{far_support, weight_to, IsTight}
 use Rattle.moment_peak.specs.PeakMoment.{peak_moment_of}
 use Rattle.moment_peak.specs.Runs.{run, vertex_value, front_in, back_in, run_weight, run_moment, run_value, weight_in, moment_in, IsRunWith, CanBeOnSpan}
 use Rattle.moment_peak.proofs.Bound.{BelowVertex, SomeVertex, below_some_vertex}
 use Rattle.moment_peak.proofs.BestBounds.{below_value, run_loaded, first_value, alone_some}
-use Rattle.moment_peak.proofs.Cross.{cross_trans}
 use Rattle.moment_peak.proofs.BySums.{value_is, balance_in}
 use Rattle.moment_peak.proofs.Exchange.{shear_to, shear_from}
 use Rattle.moment_peak.proofs.PeakOfPlaces.{value_under, same_value, peak_moment_is}
@@ -244,19 +244,15 @@ peak_pair axles span num den some train peak =
           record { k = s.k; first = s.first; last = s.last; tight = p.tight; exact = p.exact }
     ]
 
-under_peak : (V R U W num den L : ℕ) → 0 < den → V * den ≤ num * (4 * R * L) → num * (4 * W * L) ≡ U * den → V * W ≤ U * R
-under_peak V R U W num den L some most exact = le_of_mul-le-mul_right {m = V * W} {n = U * R} {k = den} (omega (arith, mul-le-mul_left W most, ap (λ t. R * t) exact)) some
-
--- what no tight pair is better than is the best of all
-pub best_of_tight : (span : ℕ) (axles : List Axle) (best : Candidate) → 1 ≤ span → span ≤ 6000 → IsTrain axles → IsFirstBestPair span axles best → IsBest span axles best
-best_of_tight span axles best some long train is_first = λ k first last is_run can.
+-- what no tight pair is better than is at the peak
+pub best_at_peak : (span : ℕ) (axles : List Axle) (best : Candidate) → IsSpanLength span → IsTrain axles → IsAttained span axles best → IsFirstBestPair span axles best → IsAtPeak span axles best
+best_at_peak span axles best sized train a is_first =
     let moment = peak_moment_of axles span in
-    let peak = (peak_moment_is axles span train some long).peak in
-    let there = peak_pair axles span moment.num moment.den some train peak in
-    let V = run_value span axles k first last in
-    let R = run_weight axles first last in
-    let U = run_value span axles there.k there.first there.last in
+    let peak = (peak_moment_is axles span train sized).0 in
+    let there = peak_pair axles span moment.num moment.den sized.0 train peak in
     let W = run_weight axles there.first there.last in
-    cross_trans V R U W best.value best.run.sums.weight
-    (under_peak V R U W moment.num moment.den span peak.some (value_peak axles span moment.num moment.den some train peak k first last is_run) there.exact)
-    (is_first there.k there.first there.last there.tight).most (run_loaded axles there.k there.first there.last train.each there.tight.is_run)
+    let R = best.run.sums.weight in
+    let most : best.value * moment.den ≤ moment.num * (4 * R * span) = rw (a.value, a.on.sums.weight) (value_peak axles span moment.num moment.den sized.0 train peak best.axle best.run.first best.run.last a.is_run) in
+    let no_more = (is_first there.k there.first there.last there.tight).most in
+    let least : moment.num * (4 * R * span) ≤ best.value * moment.den = le_of_mul-le-mul_right {m = moment.num * (4 * R * span)} {n = best.value * moment.den} {k = W} (omega (arith, ap (λ t. R * t) there.exact, mul-le-mul_right moment.den no_more)) (run_loaded axles there.k there.first there.last train.each there.tight.is_run) in
+    le_antisymm least most

@@ -4,7 +4,6 @@ use Rattle.axle_train.specs.declared.axle.Axle.{Axle}
 use Rattle.moment_peak.specs.declared.best.Candidate.{Candidate}
 use Rattle.moment_peak.specs.declared.run.Run.{Run}
 use Rattle.moment_peak.specs.declared.run.Sums.{Sums}
-use Rattle.moment_peak.specs.Candidates.{IsAtMost}
 use Rattle.moment_peak.specs.Pairs.{IsTight}
 use Rattle.moment_peak.specs.Runs.{run_weight, run_moment, run_value}
 use Rattle.moment_peak.specs.Sweeps.{IsSummed}
@@ -39,7 +38,7 @@ IsFirstTo axles best k first' last' = (wide : Run) → IsWidest axles best.run.s
 
 -- a value over a weight, of axle k with these axles, is no more than the candidate's; where it is as much, the candidate comes first
 pub record IsNoBetter (axles : List Axle) (best : Candidate) (value weight k first last : ℕ) : Type 0 where
-  pub most : IsAtMost value weight best
+  pub most : value * best.run.sums.weight ≤ best.value * weight
   pub order : value * best.run.sums.weight ≡ best.value * weight → IsFirstTo axles best k first last
 
 -- the next candidate is no better than the result

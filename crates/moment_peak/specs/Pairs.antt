@@ -49,17 +49,16 @@ pub record IsThisPair (pair : Pair) (k first last : ℕ) : Type 0 where
 abbrev pub IsUpToPair : Pair → ℕ → ℕ → ℕ → Type 0
 IsUpToPair pair k first last = (first + last < pair.run.first + pair.run.last) ⊎ ((k ≤ pair.axle) × (first ≡ pair.run.first) × (last ≡ pair.run.last))
 
--- the one pair comes after the other in the sweep: the places of its three axles in the train have a greater sum
-abbrev pub IsAfter : Pair → Pair → Type 0
-IsAfter pair next = pair.run.first + pair.run.last + pair.axle < next.run.first + next.run.last + next.axle
-
 -- the pair is the first of the tight ones, if it is one
 abbrev pub IsFirstPair : ℕ → List Axle → Pair → Type 0
 IsFirstPair span axles pair = (k first last : ℕ) → IsTight span axles k first last → IsUpToPair pair k first last → IsThisPair pair k first last
 
--- no tight pair is between the two
-abbrev pub IsNextPair : ℕ → List Axle → Pair → Pair → Type 0
-IsNextPair span axles pair next = (k first last : ℕ) → IsTight span axles k first last → IsUpToPair next k first last → IsUpToPair pair k first last ⊎ IsThisPair next k first last
+-- the next pair of the sweep: its axle is no earlier, and no tight pair is between the two; that the places of its three axles have a greater sum ends the sweep
+pub record IsNextPair (span : ℕ) (axles : List Axle) (pair next : Pair) : Type 0 where
+  pub is_pair : IsPair span axles next
+  pub axle : pair.axle ≤ next.axle
+  pub later : pair.run.first + pair.run.last + pair.axle < next.run.first + next.run.last + next.axle
+  pub none_between : (k first last : ℕ) → IsTight span axles k first last → IsUpToPair next k first last → IsUpToPair pair k first last ⊎ IsThisPair next k first last
 
 -- no tight pair is after this one
 abbrev pub IsLastPair : ℕ → List Axle → Pair → Type 0

@@ -1,10 +1,10 @@
 -- The peak moment of a train on a span as a function of the two.
-use Rattle.std.specs.Prelude.{◌≡◌, ℕ, ◌+◌, ◌*◌, ◌≤◌, List, map, ℤ}
+use Rattle.std.specs.Prelude.{ℕ, ◌+◌, ◌*◌, List, map, ℤ}
 use Rattle.std.specs.List.{flat_map, range_with_len}
 use Rattle.axle_train.specs.declared.axle.Axle.{Axle}
-use Rattle.axle_train.specs.Bounds.{IsTrain}
-use Rattle.influence_line.specs.Fractions.{Ratio, IsLowest, IsSmall}
+use Rattle.influence_line.specs.Fractions.{Ratio}
 use Rattle.influence_line.specs.Greatest.{greatest, lowest_of}
+use Rattle.influence_line.specs.Laws.{GivesThePeak, GivesTheOnlyPeak}
 use Rattle.influence_line.specs.Placed.{moment_sum, placed}
 use Rattle.influence_line.specs.Places.{leads}
 use Rattle.influence_line.specs.Peaks.{IsPeakMoment, IsTrainPlaced}
@@ -29,20 +29,14 @@ moments_of axles span = flat_map (moments_in axles span) (range_with_len 1 (2 * 
 unfoldable pub peak_moment_of : List Axle → ℕ → Ratio
 peak_moment_of axles span = lowest_of (greatest (moments_of axles span))
 
--- this is the peak moment of a train on a span over all of its placements, fractions of an inch among them, in
--- lowest terms and of the size that peaks have
-pub record IsPeakMomentOf (axles : List Axle) (span : ℕ) (moment : Ratio) : Type 0 where
-  pub peak : IsPeakMoment (IsTrainPlaced axles) span moment.num moment.den
-  pub small : IsSmall moment
+-- this is the peak moment of a train on a span over all of its placements, fractions of an inch among them
+abbrev pub IsPeakMomentOf : List Axle → ℕ → Ratio → Type 0
+IsPeakMomentOf axles span moment = IsPeakMoment (IsTrainPlaced axles) span moment.num moment.den
 
 -- what `peak_moment_of` gives is the peak moment
 abbrev pub PeakMomentIsAFunction : Type 0
-PeakMomentIsAFunction =
-    (axles : List Axle) (span : ℕ) → IsTrain axles → 1 ≤ span → span ≤ 6000
-    → IsPeakMomentOf axles span (peak_moment_of axles span)
+PeakMomentIsAFunction = GivesThePeak IsPeakMomentOf peak_moment_of
 
 -- no other fraction in lowest terms is
 abbrev pub NoOtherIsThePeakMoment : Type 0
-NoOtherIsThePeakMoment =
-    (axles : List Axle) (span : ℕ) (moment : Ratio) → IsTrain axles → 1 ≤ span → span ≤ 6000 → IsLowest moment
-    → IsPeakMoment (IsTrainPlaced axles) span moment.num moment.den → moment ≡ peak_moment_of axles span
+NoOtherIsThePeakMoment = GivesTheOnlyPeak IsPeakMomentOf peak_moment_of

@@ -1,13 +1,14 @@
 // The axle and the run with the greatest moment.
 
-ghost use Rattle.std.specs.Prelude.{◌≡◌, ◌+◌, ◌-◌, ◌*◌, ◌<◌, ◌≤◌, ◌^◌, ◌⊎◌, IsTrue, false};
+ghost use Rattle.std.specs.Prelude.{◌≡◌, ◌<◌, ◌≤◌, ◌^◌, ◌⊎◌, IsTrue, false};
 ghost use Rattle.axle_train.specs.Bounds.{IsTrain};
-ghost use Rattle.moment_peak.specs.Candidates.{IsAttained, IsBest, value_by_sums};
+ghost use Rattle.influence_line.specs.Spans.{IsSpanLength};
+ghost use Rattle.moment_peak.specs.Candidates.{IsAtPeak, IsAttained};
 ghost use Rattle.moment_peak.specs.Centres.{HasEarlierRun, IsFirstBestPair, IsNoWorse, KeepsAll};
 ghost use Rattle.moment_peak.specs.Sweeps.{IsSummed};
 
 use crate::pair::Pair;
-use crate::run::{Run, Sums};
+use crate::run::Run;
 use crate::widest::widest;
 use axle_train::Train;
 
@@ -23,10 +24,9 @@ pub struct Candidate {
 /// The axle and the run with the greatest moment. Of several it is the least axle, and the run whose widest one with the
 /// same centre of weight comes first.
 pub fn best_pair(train: &Train, span: u32) -> Candidate
-    requires some { 1 ≤ span }
-    requires long { span ≤ 6000 }
+    requires { IsSpanLength span }
     ensures attained { IsAttained span train.now result }
-    ensures best { IsBest span train.now result }
+    ensures peak { IsAtPeak span train.now result }
     ensures first { IsFirstBestPair span train.now result }
     ensures bounds { IsTrain train.now }
 {
@@ -79,23 +79,4 @@ fn comes_first(train: &Train, one: Run, other: Run) -> bool
         return one.first < other.first;
     }
     one.last < other.last
-}
-
-/// The value of a run at one of its axles, by its sums, those of its axles before that one, and that one's place. At its
-/// vertex the axle stands `at` units of 1 / (2 * weight) inch from the left support. The moment there is the left reaction
-/// times that distance, at * at / (4 * weight * span), less `front`, what the axles in front take off.
-pub fn vertex_value(span: u32, run: Sums, before: Sums, place: u32) -> u128
-    requires long { span ≤ 6000 }
-    requires near { place ≤ 3000 }
-    requires light { run.weight ≤ 2000000 }
-    requires before_light { before.weight ≤ 2000000 }
-    requires left { run.moment ≤ run.weight * (span + place) }
-    requires front { before.moment ≤ before.weight * place }
-    ensures value { result ≡ value_by_sums span run before place }
-    ensures small { result < 2 ^ 72 }
-{
-    let at = run.weight * u64::from(span + place) - run.moment;
-    let front = before.weight * u64::from(place) - before.moment;
-    let square = u128::from(at) * u128::from(at);
-    square.saturating_sub(u128::from(4 * (run.weight * u64::from(span))) * u128::from(front))
 }

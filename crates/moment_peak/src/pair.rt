@@ -3,11 +3,12 @@
 ghost use Rattle.std.specs.Prelude.{◌≡◌, ◌+◌, ◌*◌, ◌<◌, ◌≤◌, ◌^◌, length, IfNone, IfSome};
 ghost use Rattle.axle_train.specs.Bounds.{IsTrain};
 ghost use Rattle.axle_train.specs.Trains.{axle_at, spread};
+ghost use Rattle.influence_line.specs.Spans.{IsSpanLength};
 ghost use Rattle.moment_peak.specs.Candidates.{IsValueOf};
-ghost use Rattle.moment_peak.specs.Pairs.{IsAfter, IsFirstPair, IsLastOfRun, IsLastPair, IsNextPair, IsPair, IsRunEnd};
+ghost use Rattle.moment_peak.specs.Pairs.{IsFirstPair, IsLastOfRun, IsLastPair, IsNextPair, IsPair, IsRunEnd};
 ghost use Rattle.moment_peak.specs.Sweeps.{IsFullRun};
 
-use crate::best::{Candidate, vertex_value};
+use crate::best::Candidate;
 use crate::run::{Run, Sums};
 use axle_train::Train;
 
@@ -23,7 +24,7 @@ impl Pair {
     /// The first pair: the axles in front of the middle of a span at whose start the first one stands, and that one. As
     /// long as fewer are on the span, their centre of weight is in front of the middle, and so is each of them.
     pub fn start(train: &Train, span: u32) -> Pair
-        requires some { 1 ≤ span }
+        requires { IsSpanLength span }
         ensures pair { IsPair span train.now result }
         ensures first { IsFirstPair span train.now result }
         ensures front { (result.run.first ≡ 0) × (result.axle ≡ 0) }
@@ -40,13 +41,9 @@ impl Pair {
     /// The next pair. The axle is the one under which the shear passes 0. It moves to the rear as the train rolls on with
     /// one run on the span, and stays as the run changes, so a train of n axles has at most 3n - 2 pairs.
     pub fn next(self, train: &Train, span: u32) -> Option<Pair>
-        requires some { 1 ≤ span }
-        requires long { span ≤ 6000 }
+        requires span { IsSpanLength span }
         requires pair { IsPair span train.now self }
-        ensures pair { IfSome result (λ next. IsPair span train.now next) }
-        ensures later { IfSome result (λ next. IsAfter self next) }
-        ensures axle { IfSome result (λ next. self.axle ≤ next.axle) }
-        ensures next { IfSome result (λ next. IsNextPair span train.now self next) }
+        ensures next { IfSome result (IsNextPair span train.now self) }
         ensures last { IfNone result (IsLastPair span train.now self) }
     {
         let len = train.len();
@@ -61,14 +58,10 @@ impl Pair {
 
     /// The next pair, where the run ends as the axle behind it comes on.
     fn until_next(self, train: &Train, span: u32) -> Pair
-        requires long { span ≤ 6000 }
         requires pair { IsPair span train.now self }
         requires more { self.run.last + 1 < length train.now }
         requires fits { spread train.now self.run.first (self.run.last + 1) ≤ span }
-        ensures pair { IsPair span train.now result }
-        ensures later { IsAfter self result }
-        ensures axle { self.axle ≤ result.axle }
-        ensures next { IsNextPair span train.now self result }
+        ensures { IsNextPair span train.now self result }
     {
         let _len = train.len();
         let place = train.axle(self.run.last + 1).place;
@@ -80,14 +73,10 @@ impl Pair {
 
     /// The next pair, where the run ends as its first axle goes off, or the train is over.
     fn until_first(self, train: &Train, span: u32) -> Option<Pair>
-        requires some { 1 ≤ span }
-        requires long { span ≤ 6000 }
+        requires span { IsSpanLength span }
         requires pair { IsPair span train.now self }
         requires full { IsFullRun span train.now self.run }
-        ensures pair { IfSome result (λ next. IsPair span train.now next) }
-        ensures later { IfSome result (λ next. IsAfter self next) }
-        ensures axle { IfSome result (λ next. self.axle ≤ next.axle) }
-        ensures next { IfSome result (λ next. IsNextPair span train.now self next) }
+        ensures next { IfSome result (IsNextPair span train.now self) }
         ensures last { IfNone result (IsLastPair span train.now self) }
     {
         let len = train.len();
@@ -110,13 +99,9 @@ impl Pair {
     /// The pair of the axle behind, if the shear under that one passes 0 before the run ends, where the far support is at
     /// `place`.
     fn raised(self, train: &Train, span: u32, place: u32) -> Option<Pair>
-        requires long { span ≤ 6000 }
-        requires near { place ≤ 9000 }
         requires pair { IsPair span train.now self }
         requires end { IsRunEnd span train.now self.run place }
-        ensures pair { IfSome result (λ next. IsPair span train.now next) }
-        ensures run { IfSome result (λ next. next.run ≡ self.run) }
-        ensures axle { IfSome result (λ next. next.axle ≡ self.axle + 1) }
+        ensures next { IfSome result (IsNextPair span train.now self) }
         ensures last { IfNone result (IsLastOfRun span train.now self) }
     {
         let _len = train.len();
@@ -141,10 +126,7 @@ impl Pair {
         requires last { IsLastOfRun span train.now self }
         requires more { self.run.last + 1 < length train.now }
         requires fits { spread train.now self.run.first (self.run.last + 1) ≤ span }
-        ensures pair { IsPair span train.now result }
-        ensures later { IsAfter self result }
-        ensures axle { self.axle ≤ result.axle }
-        ensures next { IsNextPair span train.now self result }
+        ensures { IsNextPair span train.now self result }
     {
         let _len = train.len();
         Pair {
@@ -161,10 +143,7 @@ impl Pair {
         requires more { self.run.last + 1 < length train.now }
         requires full { IsFullRun span train.now self.run }
         requires one { self.run.first ≡ self.run.last }
-        ensures pair { IsPair span train.now result }
-        ensures later { IsAfter self result }
-        ensures axle { self.axle ≤ result.axle }
-        ensures next { IsNextPair span train.now self result }
+        ensures { IsNextPair span train.now self result }
     {
         let _len = train.len();
         let end = self.run.last + 1;
@@ -181,10 +160,7 @@ impl Pair {
         requires last { IsLastOfRun span train.now self }
         requires full { IsFullRun span train.now self.run }
         requires longer { self.run.first < self.run.last }
-        ensures pair { IsPair span train.now result }
-        ensures later { IsAfter self result }
-        ensures axle { self.axle ≤ result.axle }
-        ensures next { IsNextPair span train.now self result }
+        ensures { IsNextPair span train.now self result }
     {
         let _len = train.len();
         let run = self.run.without_first(train);
@@ -202,17 +178,24 @@ impl Pair {
         }
     }
 
-    /// The greatest moment of the pair's run under its axle.
+    /// The greatest moment of the pair's run under its axle. At its vertex the axle stands `at` units of 1 / (2 * weight)
+    /// inch from the left support. The moment there is the left reaction times that distance, at * at / (4 * weight * span),
+    /// less `front`, what the axles in front take off.
     pub fn candidate(self, train: &Train, span: u32) -> Candidate
-        requires long { span ≤ 6000 }
+        requires span { IsSpanLength span }
         requires pair { IsPair span train.now self }
         ensures value { IsValueOf span train.now self result }
         ensures small { result.value < 2 ^ 72 }
     {
         let _len = train.len();
         let place = train.axle(self.axle).place;
+        let run = self.run.sums;
+        let at = run.weight * u64::from(span + place) - run.moment;
+        let front = self.before.weight * u64::from(place) - self.before.moment;
+        let square = u128::from(at) * u128::from(at);
+        let off = u128::from(4 * (run.weight * u64::from(span))) * u128::from(front);
         Candidate {
-            value: vertex_value(span, self.run.sums, self.before, place),
+            value: square.saturating_sub(off),
             axle: self.axle,
             run: self.run,
         }

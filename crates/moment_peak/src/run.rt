@@ -3,6 +3,7 @@
 ghost use Rattle.std.specs.Prelude.{◌≡◌, ◌+◌, ◌*◌, ◌<◌, ◌≤◌, length};
 ghost use Rattle.axle_train.specs.Bounds.{IsTrain};
 ghost use Rattle.axle_train.specs.Trains.{axle_at};
+ghost use Rattle.influence_line.specs.Spans.{IsSpanLength};
 ghost use Rattle.moment_peak.specs.Sweeps.{IsMore, IsSummed};
 
 use axle_train::{Axle, Train};
@@ -31,10 +32,7 @@ impl Sums {
     pub fn with(self, axle: Axle) -> Sums
         requires light { self.weight ≤ 2000000 }
         requires near { self.moment ≤ 6000000000 }
-        requires axle_light { axle.weight ≤ 200000 }
-        requires axle_near { axle.place ≤ 3000 }
-        ensures weight { result.weight ≡ self.weight + axle.weight }
-        ensures moment { result.moment ≡ self.moment + axle.weight * axle.place }
+        ensures { IsMore self result axle }
     {
         let pounds = u64::from(axle.weight);
         Sums {
@@ -45,12 +43,8 @@ impl Sums {
 
     /// The sums with one axle less.
     pub fn without(self, axle: Axle) -> Sums
-        requires part_weight { axle.weight ≤ self.weight }
-        requires part_moment { axle.weight * axle.place ≤ self.moment }
-        requires axle_light { axle.weight ≤ 200000 }
-        requires axle_near { axle.place ≤ 3000 }
-        ensures weight { result.weight + axle.weight ≡ self.weight }
-        ensures moment { result.moment + axle.weight * axle.place ≡ self.moment }
+        requires { (axle.weight ≤ self.weight) × (axle.weight * axle.place ≤ self.moment) }
+        ensures { IsMore result self axle }
     {
         let pounds = u64::from(axle.weight);
         Sums {
@@ -71,7 +65,7 @@ pub struct Run {
 impl Run {
     /// The axles in front of the middle of a span at whose start the first one stands.
     pub fn start(train: &Train, span: u32) -> Run
-        requires some { 1 ≤ span }
+        requires { IsSpanLength span }
         ensures summed { IsSummed train.now result }
         ensures first { result.first ≡ 0 }
         ensures half { 2 * (axle_at train.now result.last).place < span }

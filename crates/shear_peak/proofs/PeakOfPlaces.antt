@@ -4,7 +4,7 @@ use Rattle.std.specs.List.{All, Contains}
 use Rattle.std.proofs.Math.Nat.{mul-le-mul, mul-le-mul_left, mul-le-mul_right, le_of_mul-le-mul_right, le_antisymm, one-mul}
 use Rattle.std.proofs.lemmas.Bool.{cases_lt}
 use Rattle.std.proofs.lemmas.Int.{ints}
-use Rattle.std.proofs.lemmas.List.Elements.{All-map, All-contains, All-weaker, recursion_from_All, All-from_recursion}
+use Rattle.std.proofs.lemmas.List.Elements.{All-map, All-contains, All-from_recursion}
 use Rattle.axle_train.specs.declared.axle.Axle.{Axle}
 use Rattle.axle_train.specs.Bounds.{IsTrain}
 use Rattle.axle_train.specs.Trains.{axle_at}
@@ -17,7 +17,7 @@ use Rattle.influence_line.specs.Peaks.{IsPeakShear, IsTrainPlaced}
 use Rattle.influence_line.specs.Reactions.{reaction_line, reaction_sum}
 use Rattle.influence_line.specs.declared.placing.End.{End}
 use Rattle.influence_line.specs.declared.placing.End.TheVariants.{Left, Right}
-use Rattle.influence_line.proofs.Greatest.{IsGreatest, IsNoMore, greatest_is}
+use Rattle.influence_line.proofs.Greatest.{IsNoMore, greatest_has}
 use Rattle.influence_line.proofs.Leads.{among_leads}
 use Rattle.influence_line.proofs.Lowest.{lowest_least}
 use Rattle.influence_line.proofs.LowestTerms.{lowest_is, lowest_same}
@@ -27,7 +27,7 @@ use Rattle.influence_line.proofs.Totals.{total, total_is}
 use Rattle.influence_line.proofs.Unique.{shear_unique}
 use Rattle.influence_line.proofs.Values.{shear_by}
 use Rattle.shear_peak.specs.Ends.{lead_to, reaction_to}
-use Rattle.shear_peak.specs.PeakShear.{shear_at, shears_of, peak_shear_of, PeakShearIsAFunction, NoOtherIsThePeakShear}
+use Rattle.shear_peak.specs.PeakShear.{shear_at, shears_of, peak_shear_of, IsPeakShearOf, PeakShearIsAFunction, NoOtherIsThePeakShear}
 use Rattle.shear_peak.proofs.Supports.{below_some_axle}
 
 -- a pound gives no more than a pound to a reaction
@@ -86,12 +86,6 @@ module _ (axles : List Axle) (span : ℕ) (some : 1 ≤ span) (train : IsTrain a
   any_shear : 0 < length (shears_of axles span)
   any_shear = let there = axle_among Left 0 (omega (arith, train.many)) in omega (arith, there.1)
 
-  greatest_shear : IsGreatest (shears_of axles span) (greatest (shears_of axles span))
-  greatest_shear =
-      let values = shears_of axles span in
-      let dens = All-weaker (IsShear axles span) (λ f. 1 ≤ f.den) (λ f s. rw s.same some) values (each_shear axles span) in
-      greatest_is values any_shear (recursion_from_All (λ f. 1 ≤ f.den) values dens)
-
   -- a reaction with an axle at a support, by the span itself
   reaction_is : (end : End) (k : ℕ) → reaction_to axles span end k ≡ reaction_sum span end (placed 1 (lead_to span end (axle_at axles k).place) axles)
   reaction_is end k = ap (λ (n : ℕ). reaction_sum n end (placed 1 (lead_to span end (axle_at axles k).place) axles)) (one-mul span)
@@ -116,13 +110,11 @@ module _ (axles : List Axle) (span : ℕ) (some : 1 ≤ span) (train : IsTrain a
         greatest = λ q e others scale is_placed. rw is_placed.1 (not_more f.num f.den (λ i x there. All-contains (λ g. IsNoMore g f) (shears_of axles span) (shear_at axles span i x) most there) q e is_placed.0);
       }
 
-  peak_of_places : IsPeakShear (IsTrainPlaced axles) span (greatest (shears_of axles span)).num (greatest (shears_of axles span)).den
+  peak_of_places : IsPeakShearOf axles span (greatest (shears_of axles span))
   peak_of_places =
       let values = shears_of axles span in
-      let f = greatest values in
-      let best = greatest_shear in
-      let at = All-contains (IsShear axles span) values f (each_shear axles span) best.among in
-      peak_at f at.end at.lead at.same (All-from_recursion (λ g. IsNoMore g f) values best.most)
+      let best = greatest_has (IsShear axles span) values (λ f s. rw s.same some) any_shear (each_shear axles span) in
+      peak_at (greatest values) best.0.end best.0.lead best.0.same best.1
 
   cancel_scale : (q M m n d : ℕ) → 1 ≤ q → m * d ≡ n * (q * span) → m ≤ q * M → M * d ≤ n * span → n * span ≡ M * d
   cancel_scale q M m n d scale reached under most =
@@ -145,14 +137,14 @@ module _ (axles : List Axle) (span : ℕ) (some : 1 ≤ span) (train : IsTrain a
 
 pub peak_shear_is : PeakShearIsAFunction
 unfolding peak_shear_of
-peak_shear_is axles span train some long =
+peak_shear_is axles span train sized =
     let f = greatest (shears_of axles span) in
-    let whole = peak_of_places axles span some train in
+    let whole = peak_of_places axles span sized.0 train in
     let lowest = lowest_is f whole.some in
     let peak = shear_by (IsTrainPlaced axles) span f.num f.den (lowest_of f).num (lowest_of f).den lowest.some (lowest_same f whole.some) whole in
-    record { peak = peak; small = peak_small axles span some train (lowest_of f) long lowest peak }
+    (peak, peak_small axles span sized.0 train (lowest_of f) sized.1 lowest peak)
 
 pub peak_shear_alone : NoOtherIsThePeakShear
-peak_shear_alone axles span f train some long lowest peak =
-    let is = peak_shear_is axles span train some long in
-    shear_unique (IsTrainPlaced axles) span f (peak_shear_of axles span) some lowest is.small.lowest peak is.peak
+peak_shear_alone axles span f train sized lowest peak =
+    let is = peak_shear_is axles span train sized in
+    shear_unique (IsTrainPlaced axles) span f (peak_shear_of axles span) sized.0 lowest is.1.lowest peak is.0

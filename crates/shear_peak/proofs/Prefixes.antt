@@ -5,6 +5,7 @@ use Rattle.std.proofs.lemmas.Bool.{cases_lt}
 use Rattle.axle_train.specs.declared.axle.Axle.{Axle}
 use Rattle.axle_train.specs.Bounds.{RisesFrom, IsTrain}
 use Rattle.axle_train.specs.Trains.{axle_at}
+use Rattle.axle_train.proofs.Places.{place_rises, place_ordered}
 use Rattle.influence_line.specs.Placed.{right_line, Load, placed}
 use Rattle.influence_line.specs.Reactions.{reaction_line}
 use Rattle.influence_line.specs.declared.placing.End.{End}
@@ -12,16 +13,8 @@ use Rattle.influence_line.specs.declared.placing.End.TheVariants.{Left, Right}
 use Rattle.influence_line.proofs.Totals.{total, total_is}
 use Rattle.influence_line.proofs.ReactionLines.{left_on, left_before, right_on, right_le, right_past}
 use Rattle.shear_peak.specs.Ends.{lead_to, reaction_to}
-use Rattle.shear_peak.specs.Fronts.{IsFront}
-use Rattle.shear_peak.specs.declared.reactions.Front.{Front}
-use Rattle.shear_peak.proofs.Supports.{place_from}
-
--- places rise
-pub rises_at : (axles : List Axle) (least i j : ℕ) → RisesFrom least axles → i < j → j < length axles → (axle_at axles i).place < (axle_at axles j).place
-rises_at [] least i j rises before within = absurd (omega (arith, within))
-rises_at (a ∷ rest) least i zero rises before within = absurd (omega (arith, before))
-rises_at (a ∷ rest) least zero (suc j) rises before within = omega (arith, place_from rest (a.place + 1) j rises.1 (omega (arith, within)))
-rises_at (a ∷ rest) least (suc i) (suc j) rises before within = rises_at rest (a.place + 1) i j rises.1 (omega (arith, before)) (omega (arith, within))
+use Rattle.shear_peak.specs.Fronts.{AreFromLeft, AreToRight}
+use Rattle.shear_peak.specs.declared.reactions.OnSpan.{OnSpan}
 
 none_of : (g : Axle → ℕ) (axles : List Axle) → ((i : ℕ) → i < length axles → g (axle_at axles i) ≡ 0) → total g axles ≡ 0
 none_of g [] zeros = refl
@@ -112,13 +105,6 @@ right_over span place a at on =
 right_beyond : (span place : ℕ) (a : Axle) → place < a.place → part_at span Right (pos span -ℤ pos place) a ≡ 0
 right_beyond span place a off = rw (right_past (1 * span) ((pos span -ℤ pos place) +ℤ pos (1 * a.place)) (omega (arith, ints))) (omega arith)
 
-pub rises_to : (axles : List Axle) (i j : ℕ) → RisesFrom 0 axles → i ≤ j → j < length axles → (axle_at axles i).place ≤ (axle_at axles j).place
-rises_to axles i j rises ordered within =
-    elim (cases_lt i j) [
-      | inl before ↦ omega (arith, rises_at axles 0 i j rises before within)
-      | inr after ↦ let same : i ≡ j = omega arith in rw same (omega arith)
-    ]
-
 -- the left reaction with axle k at the left support, where the axles from k to `end` are those in front of the right one
 pub left_by_sums : (span : ℕ) (axles : List Axle) (k end : ℕ) → RisesFrom 0 axles → k ≤ end → k < length axles → end ≤ length axles →
     ((i : ℕ) → i < end → (axle_at axles i).place < (axle_at axles k).place + span) →
@@ -129,9 +115,9 @@ left_by_sums span axles k end rises ordered within short on past =
     let place = (axle_at axles k).place in
     let reach = place + span in
     let sums = between (part_at span Left (neg_ℤ (pos place))) moment_of (λ (a : Axle). reach * a.weight) axles k end ordered short
-    (λ i off. left_off span place (axle_at axles i) (rises_at axles 0 i k rises off within))
+    (λ i off. left_off span place (axle_at axles i) (place_rises axles 0 i k rises off within))
     (λ i at to. left_beyond span place (axle_at axles i) (past i at to))
-    (λ i at to. left_over span place (axle_at axles i) (rises_to axles k i rises at (omega (arith, to, short))) (on i to)) in
+    (λ i at to. left_over span place (axle_at axles i) (place_ordered axles 0 k i rises at (omega (arith, to, short))) (on i to)) in
     rw (reaction_is axles span Left k, ← total_is moment_of (take end axles), ← total_is moment_of (take k axles), ← total_is weight_of (take end axles), ← total_is weight_of (take k axles))
     (omega (arith, sums, weights reach (take end axles), weights reach (take k axles)))
 
@@ -145,26 +131,22 @@ right_by_sums span axles first k rises ordered within off on =
     let place = (axle_at axles k).place in
     let sums = between (part_at span Right (pos span -ℤ pos place)) (λ (a : Axle). place * a.weight) (λ (a : Axle). span * a.weight + a.weight * a.place) axles first (k + 1) (omega (arith, ordered)) (omega (arith, within))
     (λ i before. right_off span place (axle_at axles i) (off i before))
-    (λ i at to. right_beyond span place (axle_at axles i) (rises_at axles 0 k i rises (omega (arith, at)) to))
-    (λ i at to. right_over span place (axle_at axles i) (rises_to axles i k rises (omega (arith, to)) within) (on i at (omega (arith, to, within)))) in
+    (λ i at to. right_beyond span place (axle_at axles i) (place_rises axles 0 k i rises (omega (arith, at)) to))
+    (λ i at to. right_over span place (axle_at axles i) (place_ordered axles 0 i k rises (omega (arith, to)) within) (on i at (omega (arith, to, within)))) in
     rw (reaction_is axles span Right k, ← total_is moment_of (take (k + 1) axles), ← total_is moment_of (take first axles), ← total_is weight_of (take (k + 1) axles), ← total_is weight_of (take first axles))
     (omega (arith, sums, weights place (take (k + 1) axles), weights place (take first axles), weights_and_moments span (take (k + 1) axles), weights_and_moments span (take first axles)))
 
 -- the same by running sums
-pub left_of_fronts : (span : ℕ) (axles : List Axle) (k : ℕ) (before through : Front) → 1 ≤ span → IsTrain axles → k < length axles → IsFront axles before → IsFront axles through → before.axles ≡ k →
-    ((i : ℕ) → i < through.axles → (axle_at axles i).place < (axle_at axles k).place + span) →
-    ((i : ℕ) → through.axles ≤ i → i < length axles → (axle_at axles k).place + span ≤ (axle_at axles i).place) →
-    reaction_to axles span Left k + (through.moment + ((axle_at axles k).place + span) * before.weight) ≡ ((axle_at axles k).place + span) * through.weight + before.moment
-left_of_fronts span axles k before through some train within b t first on past =
-    let ordered : k ≤ through.axles = elim (cases_lt through.axles k) [ inl less ↦ absurd (omega (arith, past k (omega arith) within)) | inr more ↦ more ] in
-    let sums = left_by_sums span axles k through.axles train.rising ordered within t.within on past in
-    rw (t.weight, t.moment, b.weight, b.moment, first) sums
+pub left_of_fronts : (span : ℕ) (axles : List Axle) (k : ℕ) (on : OnSpan) → 1 ≤ span → IsTrain axles → AreFromLeft axles span k on →
+    reaction_to axles span Left k + (on.through.moment + ((axle_at axles k).place + span) * on.before.weight) ≡ ((axle_at axles k).place + span) * on.through.weight + on.before.moment
+left_of_fronts span axles k on some train are =
+    let ordered : k ≤ on.through.axles = elim (cases_lt on.through.axles k) [ inl less ↦ absurd (omega (arith, are.past k (omega arith) are.within)) | inr more ↦ more ] in
+    let sums = left_by_sums span axles k on.through.axles train.rising ordered are.within are.through.within are.on are.past in
+    rw (are.through.weight, are.through.moment, are.before.weight, are.before.moment, are.first) sums
 
-pub right_of_fronts : (span : ℕ) (axles : List Axle) (k : ℕ) (before through : Front) → 1 ≤ span → IsTrain axles → k < length axles → IsFront axles before → IsFront axles through → through.axles ≡ k + 1 →
-    ((i : ℕ) → i < before.axles → (axle_at axles i).place + span ≤ (axle_at axles k).place) →
-    ((i : ℕ) → before.axles ≤ i → i < length axles → (axle_at axles k).place < (axle_at axles i).place + span) →
-    reaction_to axles span Right k + ((axle_at axles k).place * through.weight + (span * before.weight + before.moment)) ≡ span * through.weight + through.moment + (axle_at axles k).place * before.weight
-right_of_fronts span axles k before through some train within b t last off on =
-    let ordered : before.axles ≤ k = elim (cases_lt k before.axles) [ inl less ↦ absurd (omega (arith, off k less)) | inr more ↦ more ] in
-    let sums = right_by_sums span axles before.axles k train.rising ordered within off on in
-    rw (t.weight, t.moment, b.weight, b.moment, last) sums
+pub right_of_fronts : (span : ℕ) (axles : List Axle) (k : ℕ) (on : OnSpan) → 1 ≤ span → IsTrain axles → AreToRight axles span k on →
+    reaction_to axles span Right k + ((axle_at axles k).place * on.through.weight + (span * on.before.weight + on.before.moment)) ≡ span * on.through.weight + on.through.moment + (axle_at axles k).place * on.before.weight
+right_of_fronts span axles k on some train are =
+    let ordered : on.before.axles ≤ k = elim (cases_lt k on.before.axles) [ inl less ↦ absurd (omega (arith, are.off k less)) | inr more ↦ more ] in
+    let sums = right_by_sums span axles on.before.axles k train.rising ordered are.within are.off are.on in
+    rw (are.through.weight, are.through.moment, are.before.weight, are.before.moment, are.last) sums

@@ -1,5 +1,5 @@
 -- Moving an axle to the support never lowers the greatest reaction.
-use Rattle.std.proofs.Common.{◌≡◌, ℕ, zero, suc, ◌+◌, ◌-◌, ◌*◌, ◌<◌, ◌≤◌, List, [], ◌∷◌, length, arith, refl, ap, ℤ, pos, negsuc, neg_ℤ, ◌+ℤ◌, ◌-ℤ◌, ◌≤ℤ◌, ◌<ℤ◌, inl, inr, ◌⊎◌}
+use Rattle.std.proofs.Common.{◌≡◌, ℕ, suc, ◌+◌, ◌-◌, ◌*◌, ◌<◌, ◌≤◌, List, [], ◌∷◌, length, arith, refl, ap, ℤ, pos, negsuc, neg_ℤ, ◌+ℤ◌, ◌-ℤ◌, ◌≤ℤ◌, ◌<ℤ◌, inl, inr, ◌⊎◌}
 use Rattle.std.proofs.Math.Nat.{mul-le-mul_left, mul-sub}
 use Rattle.std.proofs.lemmas.Int.{ints}
 use Rattle.std.proofs.lemmas.Bool.{cases_lt}
@@ -7,6 +7,7 @@ use Rattle.std.specs.List.{AllByRecursion}
 use Rattle.axle_train.specs.declared.axle.Axle.{Axle}
 use Rattle.axle_train.specs.Bounds.{RisesFrom}
 use Rattle.axle_train.specs.Trains.{axle_at}
+use Rattle.axle_train.proofs.Places.{place_least}
 use Rattle.influence_line.specs.Placed.{left_line, right_line, Load, placed}
 use Rattle.influence_line.specs.Reactions.{reaction_line, reaction_sum}
 use Rattle.influence_line.specs.declared.placing.End.{End}
@@ -69,16 +70,11 @@ past_now : (q n place : ℕ) (lead : ℤ) (axles : List Axle) → AllByRecursion
 past_now q n place lead [] h = tt
 past_now q n place lead (a ∷ rest) h = (λ k. h.0, past_now q n place lead rest h.1)
 
-pub place_from : (axles : List Axle) (least i : ℕ) → RisesFrom least axles → i < length axles → least ≤ (axle_at axles i).place
-place_from [] least i rises h = omega arith
-place_from (a ∷ rest) least zero rises h = rises.0
-place_from (a ∷ rest) least (suc i) rises h = omega (arith, rises.0, place_from rest (a.place + 1) i rises.1 (omega arith))
-
 last_on : (q n least : ℕ) (lead : ℤ) (axles : List Axle) → RisesFrom least axles → AllByRecursion (λ b. pos n <ℤ at q lead b) axles ⊎ LastOn q n lead axles
 last_on q n least lead [] rises = inl tt
 last_on q n least lead (a ∷ rest) rises =
     elim (last_on q n (a.place + 1) lead rest rises.1) [
-      | inr f ↦ inr (record { index = suc f.index; within = omega (arith, f.within); stands = f.stands; past = (λ k. absurd (omega (arith, k, place_from rest (a.place + 1) f.index rises.1 f.within)), f.past) })
+      | inr f ↦ inr (record { index = suc f.index; within = omega (arith, f.within); stands = f.stands; past = (λ k. absurd (omega (arith, k, place_least rest (a.place + 1) f.index rises.1 f.within)), f.past) })
       | inl all ↦ elim (either_side (at q lead a) (n + 1)) [
         | inl on ↦ inr (record { index = 0; within = omega arith; stands = omega (arith, ints, on); past = (λ k. absurd (omega arith), past_now q n a.place lead rest all) })
         | inr off ↦ inl (omega (arith, ints, off), all)

@@ -6,6 +6,7 @@ use Rattle.influence_line.specs.Placed.{placed}
 use Rattle.influence_line.specs.Reactions.{reaction_sum}
 use Rattle.influence_line.specs.declared.placing.End.{End}
 use Rattle.influence_line.specs.declared.placing.End.TheVariants.{Left, Right}
+use Rattle.shear_peak.specs.declared.Candidate.{Candidate}
 
 -- the lead in inches that puts the axle at `place` at the support
 abbrev pub lead_to : ℕ → End → ℕ → ℤ
@@ -21,12 +22,18 @@ abbrev pub AreReactionsTo : List Axle → ℕ → End → List ℕ → Type 0
 AreReactionsTo axles span end reactions =
     (k : ℕ) → k < length axles → slice_index reactions k ≡ reaction_to axles span end k
 
--- axle k is the first whose reaction at this end, with itself at the support, is the greatest
-pub record IsFirstBest (axles : List Axle) (span : ℕ) (end : End) (k value : ℕ) : Type 0 where
-  pub within : k < length axles
-  pub reached : value ≡ reaction_to axles span end k
-  pub greatest : (i : ℕ) → i < length axles → reaction_to axles span end i ≤ value
-  pub first : (i : ℕ) → i < k → reaction_to axles span end i < value
+-- the axle is the first whose reaction at this end, with itself at the support, is the greatest
+pub record IsFirstBestAt (axles : List Axle) (span : ℕ) (best : Candidate) : Type 0 where
+  pub within : best.axle < length axles
+  pub reached : best.value ≡ reaction_to axles span best.end best.axle
+  pub greatest : (i : ℕ) → i < length axles → reaction_to axles span best.end i ≤ best.value
+  pub first : (i : ℕ) → i < best.axle → reaction_to axles span best.end i < best.value
+
+-- and no reaction at either end is greater, nor as great at the left one where this is the right one
+pub record IsFirstBest (axles : List Axle) (span : ℕ) (best : Candidate) : Type 0 where
+  pub here : IsFirstBestAt axles span best
+  pub greatest : (e : End) (i : ℕ) → i < length axles → reaction_to axles span e i ≤ best.value
+  pub left_first : best.end ≡ Right → (i : ℕ) → i < length axles → reaction_to axles span Left i < best.value
 
 -- of the places with an axle at a support, this is the first whose reaction there is num over den: the left support comes before the right one, and at one support the axles come in their order
 pub record IsFirstToReach (axles : List Axle) (span : ℕ) (end : End) (lead : ℤ) (num den : ℕ) : Type 0 where

@@ -1,10 +1,10 @@
 -- The peak end shear of a train on a span as a function of the two.
-use Rattle.std.specs.Prelude.{◌≡◌, ℕ, ◌≤◌, List, [], ◌∷◌, map, ℤ}
+use Rattle.std.specs.Prelude.{ℕ, List, [], ◌∷◌, map, ℤ}
 use Rattle.std.specs.List.{flat_map}
 use Rattle.axle_train.specs.declared.axle.Axle.{Axle}
-use Rattle.axle_train.specs.Bounds.{IsTrain}
-use Rattle.influence_line.specs.Fractions.{Ratio, IsLowest, IsSmall}
+use Rattle.influence_line.specs.Fractions.{Ratio}
 use Rattle.influence_line.specs.Greatest.{greatest, lowest_of}
+use Rattle.influence_line.specs.Laws.{GivesThePeak, GivesTheOnlyPeak}
 use Rattle.influence_line.specs.Placed.{placed}
 use Rattle.influence_line.specs.Places.{leads}
 use Rattle.influence_line.specs.Peaks.{IsPeakShear, IsTrainPlaced}
@@ -25,20 +25,14 @@ shears_of axles span = flat_map (λ end. map (shear_at axles span end) (leads sp
 unfoldable pub peak_shear_of : List Axle → ℕ → Ratio
 peak_shear_of axles span = lowest_of (greatest (shears_of axles span))
 
--- this is the peak end shear of a train on a span over all of its placements, fractions of an inch among them, in
--- lowest terms and of the size that peaks have
-pub record IsPeakShearOf (axles : List Axle) (span : ℕ) (shear : Ratio) : Type 0 where
-  pub peak : IsPeakShear (IsTrainPlaced axles) span shear.num shear.den
-  pub small : IsSmall shear
+-- this is the peak end shear of a train on a span over all of its placements, fractions of an inch among them
+abbrev pub IsPeakShearOf : List Axle → ℕ → Ratio → Type 0
+IsPeakShearOf axles span shear = IsPeakShear (IsTrainPlaced axles) span shear.num shear.den
 
 -- what `peak_shear_of` gives is the peak end shear
 abbrev pub PeakShearIsAFunction : Type 0
-PeakShearIsAFunction =
-    (axles : List Axle) (span : ℕ) → IsTrain axles → 1 ≤ span → span ≤ 6000
-    → IsPeakShearOf axles span (peak_shear_of axles span)
+PeakShearIsAFunction = GivesThePeak IsPeakShearOf peak_shear_of
 
 -- no other fraction in lowest terms is
 abbrev pub NoOtherIsThePeakShear : Type 0
-NoOtherIsThePeakShear =
-    (axles : List Axle) (span : ℕ) (shear : Ratio) → IsTrain axles → 1 ≤ span → span ≤ 6000 → IsLowest shear
-    → IsPeakShear (IsTrainPlaced axles) span shear.num shear.den → shear ≡ peak_shear_of axles span
+NoOtherIsThePeakShear = GivesTheOnlyPeak IsPeakShearOf peak_shear_of

@@ -1,12 +1,12 @@
 // The reactions with each axle in turn at a support, by running sums: each axle is added twice for an
 // end, however many axles stand on the span together.
 
-ghost use Rattle.std.specs.Prelude.{◌≡◌, ℕ, ◌+◌, ◌*◌, ◌<◌, ◌≤◌, length, slice_index};
+ghost use Rattle.std.specs.Prelude.{◌≡◌, ◌+◌, ◌<◌, length};
 ghost use Rattle.axle_train.specs.Bounds.{IsTrain};
-ghost use Rattle.axle_train.specs.Trains.{axle_at};
 ghost use Rattle.influence_line.specs.declared.placing.End.TheVariants.{Left, Right};
+ghost use Rattle.influence_line.specs.Spans.{IsSpanLength};
 ghost use Rattle.shear_peak.specs.Ends.{AreReactionsTo, reaction_to};
-ghost use Rattle.shear_peak.specs.Fronts.{AreOff, AreOn, IsFront, StandBefore, StandFrom};
+ghost use Rattle.shear_peak.specs.Fronts.{AreFromLeft, AreToRight, IsFront, StandBefore, StandFrom};
 
 use axle_train::Train;
 use influence_line::End;
@@ -19,6 +19,13 @@ struct Front {
     moment: u64,
 }
 
+/// The axles on the span with one of them at a support: those of `through` that are not of `before`.
+#[derive(Clone, Copy)]
+struct OnSpan {
+    before: Front,
+    through: Front,
+}
+
 /// No axles.
 const NONE: Front = Front {
     axles: 0,
@@ -28,8 +35,7 @@ const NONE: Front = Front {
 
 /// For each axle, the reaction at an end with that axle at the support there, in pounds times the span.
 pub(crate) fn reactions_at(train: &Train, span: u32, end: End) -> [u64; 32]
-    requires some { 1 ≤ span }
-    requires long { span ≤ 6000 }
+    requires { IsSpanLength span }
     ensures { AreReactionsTo train.now span end result }
 {
     match end {
@@ -41,8 +47,7 @@ pub(crate) fn reactions_at(train: &Train, span: u32, end: End) -> [u64; 32]
 /// With axle `k` at the left support, the axles from `k` on are on the span up to the first that
 /// stands on or past the right support.
 fn left_reactions(train: &Train, span: u32) -> [u64; 32]
-    requires some { 1 ≤ span }
-    requires long { span ≤ 6000 }
+    requires { IsSpanLength span }
     ensures { AreReactionsTo train.now span Left result }
 {
     let mut reactions = [0; 32];
@@ -51,7 +56,7 @@ fn left_reactions(train: &Train, span: u32) -> [u64; 32]
     for k in 0..train.len() {
         let place = train.axle(k).place;
         through = front_of(train, place + span, through);
-        reactions[k] = left_reaction(train, span, k, before, through);
+        reactions[k] = left_reaction(train, span, k, OnSpan { before, through });
         before = with_next(train, before);
     }
     reactions
@@ -60,8 +65,7 @@ fn left_reactions(train: &Train, span: u32) -> [u64; 32]
 /// With axle `k` at the right support, the axles up to `k` are on the span from the first that stands
 /// right of the left support.
 fn right_reactions(train: &Train, span: u32) -> [u64; 32]
-    requires some { 1 ≤ span }
-    requires long { span ≤ 6000 }
+    requires { IsSpanLength span }
     ensures { AreReactionsTo train.now span Right result }
 {
     let mut reactions = [0; 32];
@@ -71,46 +75,33 @@ fn right_reactions(train: &Train, span: u32) -> [u64; 32]
         let place = train.axle(k).place;
         before = front_of(train, (place + 1).saturating_sub(span), before);
         through = with_next(train, through);
-        reactions[k] = right_reaction(train, span, k, before, through);
+        reactions[k] = right_reaction(train, span, k, OnSpan { before, through });
     }
     reactions
 }
 
-/// The reaction of the axles before `through` and not before `before`, with axle `k` at the left
-/// support.
-fn left_reaction(train: &Train, span: u32, k: usize, before: Front, through: Front) -> u64
-    requires some { 1 ≤ span }
-    requires long { span ≤ 6000 }
+/// The reaction with axle `k` at the left support, by the axles on the span.
+fn left_reaction(train: &Train, span: u32, k: usize, on: OnSpan) -> u64
+    requires span { IsSpanLength span }
     requires train { IsTrain train.now }
-    requires within { k < length train.now }
-    requires before { IsFront train.now before }
-    requires through { IsFront train.now through }
-    requires first { before.axles ≡ k }
-    requires on { StandBefore train.now through.axles ((axle_at train.now k).place + span) }
-    requires past { StandFrom train.now through.axles ((axle_at train.now k).place + span) }
+    requires on { AreFromLeft train.now span k on }
     ensures { result ≡ reaction_to train.now span Left k }
 {
     let reach = u64::from(train.axle(k).place + span);
-    (reach * through.weight + before.moment) - (through.moment + reach * before.weight)
+    (reach * on.through.weight + on.before.moment) - (on.through.moment + reach * on.before.weight)
 }
 
 /// The same with axle `k` at the right support.
-fn right_reaction(train: &Train, span: u32, k: usize, before: Front, through: Front) -> u64
-    requires some { 1 ≤ span }
-    requires long { span ≤ 6000 }
+fn right_reaction(train: &Train, span: u32, k: usize, on: OnSpan) -> u64
+    requires span { IsSpanLength span }
     requires train { IsTrain train.now }
-    requires within { k < length train.now }
-    requires before { IsFront train.now before }
-    requires through { IsFront train.now through }
-    requires last { through.axles ≡ k + 1 }
-    requires off { AreOff train.now span k before.axles }
-    requires on { AreOn train.now span k before.axles }
+    requires on { AreToRight train.now span k on }
     ensures { result ≡ reaction_to train.now span Right k }
 {
     let place = u64::from(train.axle(k).place);
     let span = u64::from(span);
-    (span * through.weight + through.moment + place * before.weight)
-        - (place * through.weight + span * before.weight + before.moment)
+    (span * on.through.weight + on.through.moment + place * on.before.weight)
+        - (place * on.through.weight + span * on.before.weight + on.before.moment)
 }
 
 /// The axles in front of the first one whose place is at least `reach`, which are `front` and more.

@@ -19,7 +19,7 @@ loop-k-preserved c =
 pub unreachable-requires : goal.unreachable-requires
 unreachable-requires c =
     let together = convoy_of c.args.truck.now c.args.trucks c.args.gap in
-    let train = is_train together c.len-len.ensures.bounds c.requires.several c.requires.apart c.requires.fits in
+    let train = is_train together c.len-len.ensures.bounds c.requires.size.0 c.requires.size.2 c.requires.fits in
     let all : c.loop-k.k ≡ c.args.trucks = omega arith in
     let written = rw all at c.loop-k.invariant.so_far in
     let axles = take (c.args.trucks * c.len-len.result) c.loop-k.axles in

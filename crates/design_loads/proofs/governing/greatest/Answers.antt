@@ -14,4 +14,4 @@ returns-clause-value c =
 pub returns-clause-greatest : goal.returns-clause-greatest
 returns-clause-greatest c =
     subst (AreGreatest c.args.span) (sym (returns-clause-value c))
-    (greatest_is_of_the_peaks c.args.span c.requires.some c.requires.long)
+    (greatest_is_of_the_peaks c.args.span c.requires.0 c.requires.1)

@@ -7,11 +7,11 @@ peaks : (c : goal.After-reduced-2) → AreLaneEffects c.args.span (record { mome
 peaks c =
     let moment = rw c.from-inches.ensures at c.reduced.ensures.value in
     let shear = rw c.from-inches.ensures at c.reduced-2.ensures.value in
-    lane_effects c.args.span c.reduced.result c.reduced-2.result c.requires.some c.requires.long
+    lane_effects c.args.span c.reduced.result c.reduced-2.result c.requires.0 c.requires.1
     c.reduced.ensures.lowest moment c.reduced-2.ensures.lowest shear
 
 pub returns-clause-peaks : goal.returns-clause-peaks
 returns-clause-peaks c = peaks c
 
 pub returns-clause-value : goal.returns-clause-value
-returns-clause-value c = lane_is_one c.args.span _ c.requires.some c.requires.long (peaks c)
+returns-clause-value c = lane_is_one c.args.span _ c.requires.0 c.requires.1 (peaks c)

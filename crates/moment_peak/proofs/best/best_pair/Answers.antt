@@ -2,15 +2,15 @@ use Rattle.std.proofs.Common.{◌<◌, arith, inl, inr}
 use Rattle.moment_peak.proofs.BestSoFar.{attained_of, best_more, best_start, on_summed, start_some, value_summed}
 use Rattle.moment_peak.proofs.OneCentre.{summed_loaded}
 use Rattle.moment_peak.proofs.Ties.{still_some}
-use Rattle.moment_peak.proofs.Tight.{best_of_tight}
+use Rattle.moment_peak.proofs.Tight.{best_at_peak}
 use Rattle.moment_peak.proofs.best.best_pair.Goals as goal
 
 pub returns-clause-first : goal.returns-clause-first
 returns-clause-first c = λ k first last t. c.pairs.invariant.first k first last t (c.in_default.ensures.last k first last t)
 
-pub returns-clause-best : goal.returns-clause-best
-returns-clause-best c =
-    best_of_tight c.args.span c.args.train.now c.pairs.best c.requires.some c.requires.long c.start-pair.ensures.bounds (returns-clause-first c)
+pub returns-clause-peak : goal.returns-clause-peak
+returns-clause-peak c =
+    best_at_peak c.args.span c.args.train.now c.pairs.best c.requires c.start-pair.ensures.bounds c.pairs.invariant.attained (returns-clause-first c)
 
 pub pairs-init : goal.pairs-init
 pairs-init c =
@@ -34,7 +34,8 @@ pairs-preserved c =
     let found = c.candidate.result in
     let result = c.better-best.result in
     let train = c.start-pair.ensures.bounds in
-    let p = c.in-Some.ensures.pair in
+    let next = c.in-Some.ensures.next in
+    let p = next.is_pair in
     let v = c.candidate.ensures.value in
     let old = c.pairs.invariant in
     record {
@@ -47,8 +48,8 @@ pairs-preserved c =
             rw taken (attained_of span axles c.in-Some.next found train p v c.candidate.ensures.small (rw taken at some))
       ];
       order = elim c.better-best.ensures.either [
-        | inl same ↦ rw same (omega (arith, old.order, c.in-Some.ensures.axle))
+        | inl same ↦ rw same (omega (arith, old.order, next.axle))
         | inr taken ↦ rw taken (omega (arith, v.axle))
       ];
-      first = best_more span axles c.pairs.pair c.in-Some.next best found result train p c.in-Some.ensures.next old.first c.better-best.ensures.kept v c.better-best.ensures.met;
+      first = best_more span axles c.pairs.pair c.in-Some.next best found result train next old.first c.better-best.ensures.kept v c.better-best.ensures.met;
     }

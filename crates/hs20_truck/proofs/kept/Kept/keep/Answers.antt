@@ -15,5 +15,5 @@ invariant_of-self-2 c =
     let table : IsTable c.self.inside.train c.in_ok-numbers.numbers.items = c.in_ok-numbers.ensures c.self.inside.train (rw c.take.ensures.value c.self.invariant) in
     let study = c.study_of-study in
     let carries = carries_from_least c.self.inside.train c.args.inches c.least_rating-least.result study.result.truck study.result.design
-    c.requires.some study.ensures.truck study.ensures.design c.least_rating-least.ensures.least in
-    table_with c.self.inside.train c.in_ok-numbers.numbers.items _ c.args.inches c.least_rating-least.result c.requires.long table carries refl
+    c.requires.0 study.ensures.truck study.ensures.design c.least_rating-least.ensures.least in
+    table_with c.self.inside.train c.in_ok-numbers.numbers.items _ c.args.inches c.least_rating-least.result c.requires.1 table carries refl

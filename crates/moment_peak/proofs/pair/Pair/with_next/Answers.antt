@@ -4,17 +4,14 @@ use Rattle.moment_peak.proofs.Order.{run_next}
 use Rattle.moment_peak.proofs.Pointer.{longer_pair, longer_fresh}
 use Rattle.moment_peak.proofs.pair.Pair.with_next.Goals as goal
 
-pub returns-clause-pair : goal.returns-clause-pair
-returns-clause-pair c =
+pub returns : goal.returns
+returns c =
     let self = c.args.self in
-    let run = c.with_next.ensures in
-    longer_pair c.args.span c.args.train.now self (record { run = c.with_next.result; axle = self.axle; before = self.before }) c.len-len.ensures.bounds c.requires.pair c.requires.more c.requires.fits run.summed run.first run.last refl refl run.more.weight run.more.moment
-
-pub returns-clause-next : goal.returns-clause-next
-returns-clause-next c =
-    let self = c.args.self in
+    let axles = c.args.train.now in
+    let train = c.len-len.ensures.bounds in
     let run = c.with_next.ensures in
     let next : Pair = record { run = c.with_next.result; axle = self.axle; before = self.before } in
-    run_next c.args.span c.args.train.now self next c.len-len.ensures.bounds c.requires.pair c.requires.last
+    let pair = longer_pair c.args.span axles self next train c.requires.pair c.requires.more c.requires.fits run.summed run.first run.last refl refl run.more in
+    run_next c.args.span axles self next train c.requires.pair c.requires.last pair (omega arith) (omega (arith, run.first, run.last))
     (λ first last can later. omega (arith, later, run.first, run.last))
-    (longer_fresh c.args.span c.args.train.now self next c.requires.pair (returns-clause-pair c) c.requires.more run.last refl refl run.more.weight run.more.moment)
+    (longer_fresh c.args.span axles self next c.requires.pair pair c.requires.more run.last refl refl run.more)

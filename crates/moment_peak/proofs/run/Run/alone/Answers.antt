@@ -11,5 +11,5 @@ returns-clause-summed c =
     record {
       ordered = omega arith;
       within = c.requires.within;
-      sums = sums_with axles i i c.none.result c.with.result c.axle.result train (omega arith) c.requires.within c.axle.ensures.value none c.with.ensures.weight c.with.ensures.moment;
+      sums = sums_with axles i i c.none.result c.with.result train (omega arith) c.requires.within none (rw c.axle.ensures.value at c.with.ensures);
     }
