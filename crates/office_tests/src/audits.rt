@@ -1,41 +1,33 @@
-use crate::calls::{answer, submission};
-use crate::fixtures::{ALONE, application, base, day, office};
+use crate::fixtures::{ALONE, base, day};
 use journal_audit::{Verdict, audit};
 use journal_reader::read;
-use office_words::{Call, Entry};
+use office_words::Entry;
 use std::alloc::Global;
 use std::process::Abort;
 use std::sync::Arc;
 
-// What an audit says of entries on one segment, on which the first truck just fits.
-fn verdict(rt: &impl Abort, alloc: Global, history: &[Entry]) -> Verdict {
-    let base = Arc::new(alloc, base(rt, alloc, ALONE, 168)).expect(rt, "memory");
+// What an audit says of entries on these segments, of which the first is posted at a height.
+pub(crate) fn verdict(
+    rt: &impl Abort,
+    alloc: Global,
+    segments: &str,
+    height: u32,
+    history: &[Entry],
+) -> Verdict {
+    let base = Arc::new(alloc, base(rt, alloc, segments, height)).expect(rt, "memory");
     assert!(rt; history.len() <= 1_000_000);
     audit(alloc, base, day(rt, "2026-03-02"), history).expect(rt, "memory")
 }
 
-// The same of the lines of a journal.
+// The same of the lines of a journal, on one segment on which the first truck just fits. They are of the first format, which has the
+// same words.
 fn verdict_on(rt: &impl Abort, alloc: Global, lines: &str) -> Verdict {
     let entries = lines.lines().count();
     let text = format!(in alloc; "permit-journal 1\n{lines}end {entries}\n").expect(rt, "memory");
     let history = read(alloc, text.as_bytes()).expect(rt, "a journal");
-    let verdict = verdict(rt, alloc, history.as_slice());
+    let verdict = verdict(rt, alloc, ALONE, 168, history.as_slice());
     drop(history);
     verdict
-}
-
-#[test]
-fn calls_an_offices_history_legal(rt: HostRuntime) {
-    let alloc = rt.alloc();
-    let base = Arc::new(alloc, base(&rt, alloc, ALONE, 168)).expect(&rt, "memory");
-    let mut office = office(&rt, alloc, base, 100);
-    let trip = application(&rt, office.base(), 0, 1, "2026-03-02");
-    let call = submission(&rt, alloc, &office, trip);
-    let _reply = answer(&mut office, 0, call);
-    let _reply = answer(&mut office, 1, Call::Show { number: 1 });
-    let verdict = verdict(&rt, alloc, office.history());
-    drop(office);
-    assert!(rt; verdict == Verdict::Legal);
 }
 
 // Entries of a journal that are legal, and behind them one on which the verdict depends.
