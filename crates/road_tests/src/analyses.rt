@@ -4,9 +4,12 @@ ghost use Rattle.trip_analysis.specs.Applications.{AreAskedThere, Sound};
 ghost use Rattle.snapshot_store.specs.Stores.{IsLater};
 ghost use Rattle.trip_analysis.specs.Followers.{GoesOn, followed};
 
-use crate::fixtures::{after, base_state, day, holds, named, network, number, part, same, train};
+use crate::fixtures::{
+    CLOSED, HEIGHT, Piece, Posted, RATING, after, base_state, change, day, holds, named, network,
+    same, train,
+};
 use clearance_rules::{Limit, Load, Steps};
-use restriction_log::{Change, State};
+use restriction_log::State;
 use road_graph::{Network, Numbers, SharedNumbers};
 use snapshot_store::Store;
 use span_rating::SpanStudy;
@@ -16,35 +19,26 @@ use std::process::Abort;
 use std::sync::ledger::{Blank, Ledger};
 use trip_analysis::{
     Application, ApplicationRefusal, Base, Failing, Follower, NodeSet, Proposal, Truck, TruckOn,
-    What, asked_findings_are_of_the_routes, find, findings_hold, first_meeting_out,
-    free_findings_are_of_walks, routes_break_off_where_walks_do,
+    What, asked_findings_are_of_the_routes, find, findings_hold, free_findings_are_of_walks,
+    routes_break_off_where_walks_do,
 };
 use trip_routes::{Routes, SharedRoutes};
 
 // What was built is let go by a call of `drop`: where a scope lets it go, the proof of the whole function goes through
 // its parts.
 
-// The numbers of a text, parted by spaces.
-fn numbers(rt: &impl Abort, alloc: Global, text: &str) -> Vec<u32> {
-    let mut list = Vec::new(alloc);
-    for part in text.split_whitespace() {
-        list.push(number(part)).expect(rt, "memory");
-    }
-    list
-}
-
 // Nodes 0, 1 and 2, with two ways from node 0 to node 1: segment 0, and segments 1 and 2 by node 2. On segment 0 are two
 // spans of 360 in, which carry twice the HS20-44 truck.
-const WAYS: &str = "\
-node a
-node b
-node c
-segment ab 0 1 1000
-segment ac 0 2 1000
-segment cb 2 1 1000
-span s 0 360 2000
-span t 0 360 2000
-";
+const WAYS: [Piece; 8] = [
+    Piece::Node(b"a"),
+    Piece::Node(b"b"),
+    Piece::Node(b"c"),
+    Piece::Segment(b"ab", 0, 1, 1_000),
+    Piece::Segment(b"ac", 0, 2, 1_000),
+    Piece::Segment(b"cb", 2, 1, 1_000),
+    Piece::Span(b"s", 0, 360, 2_000),
+    Piece::Span(b"t", 0, 360, 2_000),
+];
 
 // Axles within the limits of 23 CFR 658.17: 20,000 lb an axle, 34,000 lb for the tandem of 48 in, and by the formula 45,000 lb
 // for the first two axles and 50,000 lb for all three.
@@ -69,7 +63,7 @@ fn base(rt: &impl Abort, alloc: Global) -> Base {
     fleet
         .push(truck(rt, alloc, b"legal", 160))
         .expect(rt, "memory");
-    Base::new(network(rt, alloc, WAYS), fleet)
+    Base::new(network(rt, alloc, &WAYS), fleet)
 }
 
 // Whether the segments of a list are there.
@@ -80,160 +74,192 @@ fn are_there(network: &Network, list: &[u32]) -> bool
     list.iter().all(|s| *s < count)
 }
 
-// The routes of a text, parted by bars.
-fn routes(rt: &impl Abort, alloc: Global, text: &str) -> Routes {
-    let mut routes = Routes::one(Numbers::of(numbers(rt, alloc, part(text, '|', 0))));
-    for next in text.split('|').skip(1) {
-        let route = Numbers::of(numbers(rt, alloc, next));
-        routes.push(&route).expect(rt, "a route");
-    }
-    routes
+// Truck, nodes, asked routes (none where there is no list), first and last day.
+type Trip = (
+    u32,
+    u32,
+    u32,
+    &'static [&'static [u32]],
+    &'static str,
+    &'static str,
+);
+
+// The route along these segments.
+fn along(rt: &impl Abort, alloc: Global, segments: &[u32]) -> Numbers {
+    Numbers::of(segments.to_vec(alloc).expect(rt, "memory"))
 }
 
-// The routes that a text asks for, along segments that are there; none where it is a dash.
-fn asked(rt: &impl Abort, alloc: Global, network: &Network, text: &str) -> Option<SharedRoutes>
-    ensures { AreAskedThere network.now result }
-{
-    if text == "-" {
+// These routes, of which there is one or more.
+fn routes(rt: &impl Abort, alloc: Global, lists: &[&[u32]]) -> SharedRoutes {
+    assert!(rt; !lists.is_empty());
+    let mut routes = Routes::one(along(rt, alloc, lists[0]));
+    for list in &lists[1..] {
+        routes.push(&along(rt, alloc, list)).expect(rt, "a route");
+    }
+    SharedRoutes::of(alloc, routes).expect(rt, "memory")
+}
+
+// The routes that are asked for, if any are.
+fn asked(rt: &impl Abort, alloc: Global, lists: &[&[u32]]) -> Option<SharedRoutes> {
+    if lists.is_empty() {
         return None;
     }
-    let routes = routes(rt, alloc, text);
-    assert!(rt; are_there(network, routes.all()));
-    Some(SharedRoutes::of(alloc, routes).expect(rt, "memory"))
+    Some(routes(rt, alloc, lists))
 }
 
-// The application that a text asks for: truck, nodes, asked routes, first and last day, parted by commas.
-fn applied(
-    rt: &impl Abort,
-    alloc: Global,
-    base: &Base,
-    text: &str,
-) -> Result<Application, ApplicationRefusal>
-    ensures { IfOk result (Sound base.now) }
-{
-    let truck = number(part(text, ',', 0));
-    let (from, to) = (number(part(text, ',', 1)), number(part(text, ',', 2)));
-    let (first, last) = (day(rt, part(text, ',', 4)), day(rt, part(text, ',', 5)));
-    let nodes = base.network().nodes();
-    assert!(rt; (truck as usize) < base.fleet().len() && from < nodes && to < nodes);
-    let asked = asked(rt, alloc, base.network(), part(text, ',', 3));
-    Application::new(base, truck, from, to, asked, first, last)
+// The application of a trip, of which nothing is tested.
+fn untested(rt: &impl Abort, alloc: Global, trip: &Trip) -> Application {
+    let &(truck, from, to, lists, first, last) = trip;
+    let (first, last) = (day(rt, first), day(rt, last));
+    Application::of_fields(truck, from, to, asked(rt, alloc, lists), first, last)
 }
 
-// The same, where it is taken.
-fn taken(rt: &impl Abort, alloc: Global, base: &Base, text: &str) -> Application
+// The same, which is sound.
+fn taken(rt: &impl Abort, alloc: Global, base: &Base, trip: &Trip) -> Application
     ensures { Sound base.now result }
 {
-    applied(rt, alloc, base, text).expect(rt, "an application")
+    let application = untested(rt, alloc, trip);
+    assert!(rt; application.is_sound(base));
+    application
 }
 
-// The same, of which nothing is tested.
-fn untested(rt: &impl Abort, alloc: Global, text: &str) -> Application {
-    let truck = number(part(text, ',', 0));
-    let (from, to) = (number(part(text, ',', 1)), number(part(text, ',', 2)));
-    let (first, last) = (day(rt, part(text, ',', 4)), day(rt, part(text, ',', 5)));
-    let asked = match part(text, ',', 3) {
-        "-" => None,
-        text => Some(SharedRoutes::of(alloc, routes(rt, alloc, text)).expect(rt, "memory")),
-    };
-    Application::of_fields(truck, from, to, asked, first, last)
+// The routes that are asked for, along segments that are there.
+fn asked_there(
+    rt: &impl Abort,
+    alloc: Global,
+    network: &Network,
+    lists: &[&[u32]],
+) -> Option<SharedRoutes>
+    ensures { AreAskedThere network.now result }
+{
+    if lists.is_empty() {
+        return None;
+    }
+    let routes = routes(rt, alloc, lists);
+    assert!(rt; are_there(network, routes.all()));
+    Some(routes)
+}
+
+// What is answered to the application of a trip, whose truck, nodes and segments are there.
+fn refusal(rt: &impl Abort, alloc: Global, base: &Base, trip: &Trip) -> Option<ApplicationRefusal> {
+    let &(truck, from, to, lists, first, last) = trip;
+    let (first, last) = (day(rt, first), day(rt, last));
+    let nodes = base.network().nodes();
+    assert!(rt; (truck as usize) < base.fleet().len() && from < nodes && to < nodes);
+    let asked = asked_there(rt, alloc, base.network(), lists);
+    Application::new(base, truck, from, to, asked, first, last).err()
 }
 
 // What is answered to applications, or none where one is taken. Where several causes apply, the first is named. The days
 // from 2 March 2026 to 2 March 2027 are 365, and those from 28 February 2024 to 28 February 2025 are 366.
-const ANSWERS: [(&str, Option<ApplicationRefusal>); 19] = [
+const ANSWERS: [(Trip, Option<ApplicationRefusal>); 19] = [
     (
-        "0,0,0,2,2026-03-03,2026-03-02",
+        (0, 0, 0, &[&[2]], "2026-03-03", "2026-03-02"),
         Some(ApplicationRefusal::SamePlace),
     ),
     (
-        "0,0,1,1 0,2026-03-03,2026-03-02",
+        (0, 0, 1, &[&[1, 0]], "2026-03-03", "2026-03-02"),
         Some(ApplicationRefusal::BrokenRoute { route: 0, at: 1 }),
     ),
     (
-        "0,0,1,1,2026-03-02,2026-03-02",
+        (0, 0, 1, &[&[1]], "2026-03-02", "2026-03-02"),
         Some(ApplicationRefusal::BrokenRoute { route: 0, at: 1 }),
     ),
     (
-        "0,0,1,2,2026-03-02,2026-03-02",
+        (0, 0, 1, &[&[2]], "2026-03-02", "2026-03-02"),
         Some(ApplicationRefusal::BrokenRoute { route: 0, at: 0 }),
     ),
     (
-        "0,0,1,,2026-03-02,2026-03-02",
+        (0, 0, 1, &[&[]], "2026-03-02", "2026-03-02"),
         Some(ApplicationRefusal::BrokenRoute { route: 0, at: 0 }),
     ),
     (
-        "0,0,1,1 2,2026-03-03,2026-03-02",
+        (0, 0, 1, &[&[1, 2]], "2026-03-03", "2026-03-02"),
         Some(ApplicationRefusal::DayOrder),
     ),
     (
-        "0,0,1,-,2026-03-03,2026-03-02",
+        (0, 0, 1, &[], "2026-03-03", "2026-03-02"),
         Some(ApplicationRefusal::DayOrder),
     ),
-    ("0,0,1,-,2026-03-02,2026-03-02", None),
-    ("0,0,1,1 2,2026-03-02,2026-03-03", None),
+    ((0, 0, 1, &[], "2026-03-02", "2026-03-02"), None),
+    ((0, 0, 1, &[&[1, 2]], "2026-03-02", "2026-03-03"), None),
     (
-        "0,0,1,0|1,2026-03-02,2027-03-03",
+        (0, 0, 1, &[&[0], &[1]], "2026-03-02", "2027-03-03"),
         Some(ApplicationRefusal::BrokenRoute { route: 1, at: 1 }),
     ),
     (
-        "0,0,1,1 2|0|2|1,2026-03-03,2026-03-02",
+        (
+            0,
+            0,
+            1,
+            &[&[1, 2], &[0], &[2], &[1]],
+            "2026-03-03",
+            "2026-03-02",
+        ),
         Some(ApplicationRefusal::BrokenRoute { route: 2, at: 0 }),
     ),
     (
-        "0,0,1,0|1 2,2026-03-03,2026-03-02",
+        (0, 0, 1, &[&[0], &[1, 2]], "2026-03-03", "2026-03-02"),
         Some(ApplicationRefusal::DayOrder),
     ),
     (
-        "0,0,1,0|1 2,2026-03-02,2027-03-03",
+        (0, 0, 1, &[&[0], &[1, 2]], "2026-03-02", "2027-03-03"),
         Some(ApplicationRefusal::AnnualDays { days: 366 }),
     ),
     (
-        "0,0,1,0|0,2024-02-28,2025-02-28",
+        (0, 0, 1, &[&[0], &[0]], "2024-02-28", "2025-02-28"),
         Some(ApplicationRefusal::AnnualDays { days: 366 }),
     ),
-    ("0,0,1,0|1 2,2026-03-02,2027-03-02", None),
-    ("0,0,1,0|0,2024-02-28,2025-02-27", None),
-    ("0,0,1,0,2026-03-02,2027-03-03", None),
-    ("0,0,1,-,2026-03-02,2027-03-03", None),
-    ("0,0,1,0|0|0|0|0|0|0|1 2,2026-03-02,2027-03-02", None),
+    (
+        (0, 0, 1, &[&[0], &[1, 2]], "2026-03-02", "2027-03-02"),
+        None,
+    ),
+    ((0, 0, 1, &[&[0], &[0]], "2024-02-28", "2025-02-27"), None),
+    ((0, 0, 1, &[&[0]], "2026-03-02", "2027-03-03"), None),
+    ((0, 0, 1, &[], "2026-03-02", "2027-03-03"), None),
+    (
+        (
+            0,
+            0,
+            1,
+            &[&[0], &[0], &[0], &[0], &[0], &[0], &[0], &[1, 2]],
+            "2026-03-02",
+            "2027-03-02",
+        ),
+        None,
+    ),
 ];
-
-#[test]
-fn refuses_an_application_for_its_first_cause(rt: HostRuntime) {
-    let base = base(&rt, rt.alloc());
-    for &(text, wanted) in &ANSWERS {
-        let refusal = applied(&rt, rt.alloc(), &base, text).err();
-        holds(&rt, refusal == wanted, text);
-    }
-    drop(base);
-}
 
 // Applications that name a truck, a node or a segment that is not there.
-const ABSENT: [&str; 4] = [
-    "2,0,1,-,2026-03-02,2026-03-02",
-    "0,3,1,-,2026-03-02,2026-03-02",
-    "0,0,3,-,2026-03-02,2026-03-02",
-    "0,0,1,0|3,2026-03-02,2026-03-02",
+const ABSENT: [Trip; 4] = [
+    (2, 0, 1, &[], "2026-03-02", "2026-03-02"),
+    (0, 3, 1, &[], "2026-03-02", "2026-03-02"),
+    (0, 0, 3, &[], "2026-03-02", "2026-03-02"),
+    (0, 0, 1, &[&[0], &[3]], "2026-03-02", "2026-03-02"),
 ];
 
-// What a text asks for, of which nothing is tested, is sound or not.
-fn is_sound(rt: &impl Abort, alloc: Global, base: &Base, text: &str, wanted: bool) {
-    let application = untested(rt, alloc, text);
-    holds(rt, application.is_sound(base) == wanted, text);
+// The application of a trip, of which nothing is tested, is sound or not.
+fn is_sound(rt: &impl Abort, alloc: Global, base: &Base, row: usize, trip: &Trip, wanted: bool) {
+    let application = untested(rt, alloc, trip);
+    same(rt, row, application.is_sound(base), wanted);
     drop(application);
 }
 
 // An application of which nothing was tested is sound exactly where it is taken.
+fn answer_each(rt: &impl Abort, alloc: Global, base: &Base) {
+    for (row, (trip, wanted)) in ANSWERS.iter().enumerate() {
+        same(rt, row, refusal(rt, alloc, base, trip), *wanted);
+        is_sound(rt, alloc, base, row, trip, wanted.is_none());
+    }
+    for (row, trip) in ABSENT.iter().enumerate() {
+        is_sound(rt, alloc, base, row, trip, false);
+    }
+}
+
 #[test]
-fn tells_sound_applications(rt: HostRuntime) {
+fn refuses_an_application_for_its_first_cause(rt: HostRuntime) {
     let base = base(&rt, rt.alloc());
-    for (text, refusal) in &ANSWERS {
-        is_sound(&rt, rt.alloc(), &base, text, refusal.is_none());
-    }
-    for text in &ABSENT {
-        is_sound(&rt, rt.alloc(), &base, text, false);
-    }
+    answer_each(&rt, rt.alloc(), &base);
     drop(base);
 }
 
@@ -251,11 +277,13 @@ fn check_fields(rt: &impl Abort, alloc: Global, a: &Application) {
     );
 }
 
+const KEPT: Trip = (1, 0, 1, &[&[1, 2], &[0]], "2026-03-02", "2026-03-05");
+
 // An application and a copy of it.
 #[test]
 fn keeps_what_is_asked_for(rt: HostRuntime) {
     let base = base(&rt, rt.alloc());
-    let taken = taken(&rt, rt.alloc(), &base, "1,0,1,1 2|0,2026-03-02,2026-03-05");
+    let taken = taken(&rt, rt.alloc(), &base, &KEPT);
     drop(base);
     check_fields(&rt, rt.alloc(), &taken);
     let copy = taken.try_clone().expect(&rt, "memory");
@@ -264,16 +292,13 @@ fn keeps_what_is_asked_for(rt: HostRuntime) {
     drop(copy);
 }
 
-// The state of the roads where the segments of a text are posted at 167 in, an inch less than truck 0 is high.
-fn lowered(rt: &impl Abort, alloc: Global, network: &Network, text: &str) -> State
+// The state of the roads where these segments are posted at 167 in, an inch less than truck 0 is high.
+fn lowered(rt: &impl Abort, alloc: Global, network: &Network, low: &[u32]) -> State
     ensures { AreOf network.now result }
 {
     let mut state = base_state(rt, alloc, network);
-    'low: for part in text.split_whitespace() {
-        let change = Change::Height {
-            segment: number(part),
-            inches: 167,
-        };
+    'low: for &segment in low {
+        let change = change((HEIGHT, segment, 167));
         state = after(rt, alloc, network, &state, &change);
     }
     state
@@ -307,39 +332,96 @@ fn check_found(rt: &impl Abort, alloc: Global, what: What, text: &str) {
 
 // An application, the segments that are too low for truck 0, and what is found. No road leads from node 1, and none from
 // node 2 to node 0, whatever is posted there.
-const FINDINGS: &str = "\
-0,0,1,-,2026-03-02,2026-03-02//route [0]
-0,0,1,-,2026-03-02,2026-03-02/0/route [1, 2]
-0,0,1,-,2026-03-02,2026-03-02/0 1/cut [0]
-0,0,1,-,2026-03-02,2026-03-02/0 2/cut [0, 2]
-0,1,0,-,2026-03-02,2026-03-02//cut [1]
-0,2,0,-,2026-03-02,2026-03-02/2/cut [1, 2]
-0,0,1,0,2026-03-02,2026-03-02//route [0]
-0,0,1,0,2026-03-02,2026-03-02/0/fails 0
-0,0,1,1 2,2026-03-02,2026-03-02/0/route [1, 2]
-0,0,1,1 2,2026-03-02,2026-03-02/1 2/fails 1
-0,0,1,0|1 2,2026-03-02,2026-03-02//route [0] [1, 2]
-0,0,1,0|0,2026-03-02,2026-03-02//route [0] [0]
-0,0,1,0|1 2,2026-03-02,2026-03-02/2/fails 2
-0,0,1,1 2|0,2026-03-02,2026-03-02/0 2/fails 2
-1,0,1,1 2|0,2026-03-02,2026-03-02/0 2/not needed
-1,0,1,0,2026-03-02,2026-03-02/0/not needed
-";
+const FINDINGS: [(Trip, &[u32], &str); 16] = [
+    ((0, 0, 1, &[], "2026-03-02", "2026-03-02"), &[], "route [0]"),
+    (
+        (0, 0, 1, &[], "2026-03-02", "2026-03-02"),
+        &[0],
+        "route [1, 2]",
+    ),
+    (
+        (0, 0, 1, &[], "2026-03-02", "2026-03-02"),
+        &[0, 1],
+        "cut [0]",
+    ),
+    (
+        (0, 0, 1, &[], "2026-03-02", "2026-03-02"),
+        &[0, 2],
+        "cut [0, 2]",
+    ),
+    ((0, 1, 0, &[], "2026-03-02", "2026-03-02"), &[], "cut [1]"),
+    (
+        (0, 2, 0, &[], "2026-03-02", "2026-03-02"),
+        &[2],
+        "cut [1, 2]",
+    ),
+    (
+        (0, 0, 1, &[&[0]], "2026-03-02", "2026-03-02"),
+        &[],
+        "route [0]",
+    ),
+    (
+        (0, 0, 1, &[&[0]], "2026-03-02", "2026-03-02"),
+        &[0],
+        "fails 0",
+    ),
+    (
+        (0, 0, 1, &[&[1, 2]], "2026-03-02", "2026-03-02"),
+        &[0],
+        "route [1, 2]",
+    ),
+    (
+        (0, 0, 1, &[&[1, 2]], "2026-03-02", "2026-03-02"),
+        &[1, 2],
+        "fails 1",
+    ),
+    (
+        (0, 0, 1, &[&[0], &[1, 2]], "2026-03-02", "2026-03-02"),
+        &[],
+        "route [0] [1, 2]",
+    ),
+    (
+        (0, 0, 1, &[&[0], &[0]], "2026-03-02", "2026-03-02"),
+        &[],
+        "route [0] [0]",
+    ),
+    (
+        (0, 0, 1, &[&[0], &[1, 2]], "2026-03-02", "2026-03-02"),
+        &[2],
+        "fails 2",
+    ),
+    (
+        (0, 0, 1, &[&[1, 2], &[0]], "2026-03-02", "2026-03-02"),
+        &[0, 2],
+        "fails 2",
+    ),
+    (
+        (1, 0, 1, &[&[1, 2], &[0]], "2026-03-02", "2026-03-02"),
+        &[0, 2],
+        "not needed",
+    ),
+    (
+        (1, 0, 1, &[&[0]], "2026-03-02", "2026-03-02"),
+        &[0],
+        "not needed",
+    ),
+];
 
-// Looks for what a line says, with this counter.
-fn find_line<L: Ledger>(
+// Looks for what is asked for where these segments are too low, with this counter.
+fn find_at<L: Ledger>(
     rt: &impl Abort,
     alloc: Global,
     base: &Base,
-    line: &str,
+    trip: &Trip,
+    low: &[u32],
     steps: &mut Steps<L>,
-) {
-    let application = taken(rt, alloc, base, part(line, '/', 0));
-    let state = lowered(rt, alloc, base.network(), part(line, '/', 1));
+) -> What {
+    let application = taken(rt, alloc, base, trip);
+    let state = lowered(rt, alloc, base.network(), low);
     let what = find(alloc, base, &state, &application, steps).expect(rt, "memory");
     drop(state);
     drop(application);
-    check_found(rt, alloc, what, part(line, '/', 2));
+    what
 }
 
 fn find_lines<L: Ledger>(rt: &impl Abort, alloc: Global, base: &Base, blank: Blank)
@@ -348,8 +430,13 @@ fn find_lines<L: Ledger>(rt: &impl Abort, alloc: Global, base: &Base, blank: Bla
     requires some { 0 < blank.parts }
 {
     let mut steps = Steps::<L>::new(blank);
-    for line in FINDINGS.lines() {
-        find_line(rt, alloc, base, line, &mut steps);
+    for (trip, low, found) in &FINDINGS {
+        check_found(
+            rt,
+            alloc,
+            find_at(rt, alloc, base, trip, low, &mut steps),
+            found,
+        );
     }
 }
 
@@ -366,65 +453,131 @@ fn finds_a_route_or_why_there_is_none(rt: HostRuntime) {
 
 // What is posted, what is asked for then, the version, and what is found, one after another. At twice the HS20-44 truck the
 // spans of segment 0 carry truck 0, which weighs less than that truck, and at 0 nothing.
-const HISTORY: &str = "\
-/0,0,1,-,2026-03-02,2026-03-02/0/route [0]
-/0,0,2,-,2026-03-02,2026-03-02/0/route [1]
-closed,0,1/0,0,1,-,2026-03-02,2026-03-02/1/route [1, 2]
-/0,0,1,0,2026-03-02,2026-03-02/1/fails 0
-closed,0,0 rating,1,0/0,0,1,-,2026-03-02,2026-03-02/3/route [1, 2]
-rating,1,2000/0,0,1,-,2026-03-02,2026-03-02/4/route [0]
-rating,0,0 height,2,160/0,0,1,-,2026-03-02,2026-03-02/6/cut [0, 2]
-/1,0,1,0,2026-03-02,2026-03-02/6/not needed
-height,2,168/0,0,1,1 2,2026-03-02,2026-03-02/7/route [1, 2]
-rating,0,2000/0,1,0,-,2026-03-02,2026-03-02/8/cut [1]
-height,0,160 height,0,168/0,0,1,-,2026-03-02,2026-03-02/10/route [0]
-closed,1,1/0,0,1,-,2026-03-02,2026-03-02/11/route [0]
-closed,0,1/0,0,1,-,2026-03-02,2026-03-02/12/cut [0]
-closed,1,0/0,0,1,-,2026-03-02,2026-03-02/13/route [1, 2]
-closed,0,0/0,0,1,-,2026-03-02,2026-03-02/14/route [0]
-/0,0,1,1 2|0,2026-03-02,2026-03-02/14/route [1, 2] [0]
-closed,0,1/0,0,1,1 2|0,2026-03-02,2026-03-02/15/fails 0
-";
+const HISTORY: [(&[Posted], Trip, u32, &str); 17] = [
+    (
+        &[],
+        (0, 0, 1, &[], "2026-03-02", "2026-03-02"),
+        0,
+        "route [0]",
+    ),
+    (
+        &[],
+        (0, 0, 2, &[], "2026-03-02", "2026-03-02"),
+        0,
+        "route [1]",
+    ),
+    (
+        &[(CLOSED, 0, 1)],
+        (0, 0, 1, &[], "2026-03-02", "2026-03-02"),
+        1,
+        "route [1, 2]",
+    ),
+    (
+        &[],
+        (0, 0, 1, &[&[0]], "2026-03-02", "2026-03-02"),
+        1,
+        "fails 0",
+    ),
+    (
+        &[(CLOSED, 0, 0), (RATING, 1, 0)],
+        (0, 0, 1, &[], "2026-03-02", "2026-03-02"),
+        3,
+        "route [1, 2]",
+    ),
+    (
+        &[(RATING, 1, 2000)],
+        (0, 0, 1, &[], "2026-03-02", "2026-03-02"),
+        4,
+        "route [0]",
+    ),
+    (
+        &[(RATING, 0, 0), (HEIGHT, 2, 160)],
+        (0, 0, 1, &[], "2026-03-02", "2026-03-02"),
+        6,
+        "cut [0, 2]",
+    ),
+    (
+        &[],
+        (1, 0, 1, &[&[0]], "2026-03-02", "2026-03-02"),
+        6,
+        "not needed",
+    ),
+    (
+        &[(HEIGHT, 2, 168)],
+        (0, 0, 1, &[&[1, 2]], "2026-03-02", "2026-03-02"),
+        7,
+        "route [1, 2]",
+    ),
+    (
+        &[(RATING, 0, 2000)],
+        (0, 1, 0, &[], "2026-03-02", "2026-03-02"),
+        8,
+        "cut [1]",
+    ),
+    (
+        &[(HEIGHT, 0, 160), (HEIGHT, 0, 168)],
+        (0, 0, 1, &[], "2026-03-02", "2026-03-02"),
+        10,
+        "route [0]",
+    ),
+    (
+        &[(CLOSED, 1, 1)],
+        (0, 0, 1, &[], "2026-03-02", "2026-03-02"),
+        11,
+        "route [0]",
+    ),
+    (
+        &[(CLOSED, 0, 1)],
+        (0, 0, 1, &[], "2026-03-02", "2026-03-02"),
+        12,
+        "cut [0]",
+    ),
+    (
+        &[(CLOSED, 1, 0)],
+        (0, 0, 1, &[], "2026-03-02", "2026-03-02"),
+        13,
+        "route [1, 2]",
+    ),
+    (
+        &[(CLOSED, 0, 0)],
+        (0, 0, 1, &[], "2026-03-02", "2026-03-02"),
+        14,
+        "route [0]",
+    ),
+    (
+        &[],
+        (0, 0, 1, &[&[1, 2], &[0]], "2026-03-02", "2026-03-02"),
+        14,
+        "route [1, 2] [0]",
+    ),
+    (
+        &[(CLOSED, 0, 1)],
+        (0, 0, 1, &[&[1, 2], &[0]], "2026-03-02", "2026-03-02"),
+        15,
+        "fails 0",
+    ),
+];
 
-// What a text posts: KIND,NUMBER,VALUE.
-fn posted(text: &str) -> Change {
-    let (named, value) = (number(part(text, ',', 1)), number(part(text, ',', 2)));
-    match part(text, ',', 0) {
-        "closed" => Change::Closed {
-            segment: named,
-            closed: value == 1,
-        },
-        "height" => Change::Height {
-            segment: named,
-            inches: value,
-        },
-        _ => Change::Rating {
-            span: named,
-            permille: value,
-        },
-    }
-}
-
-// Posts each of the changes of a text.
+// Posts each of these changes.
 #[tactic(auto, using(snapshot_store::proofs::Later::later_same, snapshot_store::proofs::Later::later_posted, snapshot_store::proofs::Later::later_on))]
-fn post_each(rt: &impl Abort, network: &Network, store: &mut Store, text: &str)
+fn post_each(rt: &impl Abort, network: &Network, store: &mut Store, changes: &[Posted])
     requires { network.now ≡ store.old.roads }
     ensures { IsLater store.old store.new }
 {
-    'postings: for change in text.split_whitespace() {
-        store.post(network, posted(change)).expect(rt, "a posting");
+    'postings: for &posted in changes {
+        store.post(network, change(posted)).expect(rt, "a posting");
     }
 }
 
-// Posts what a line says, and compares what a follower finds then, and at which version.
+// Posts these changes, and compares what a follower finds then, and at which version.
 #[tactic(auto, using(trip_analysis::proofs::Following::goes_on_later))]
-fn follow_line<L: Ledger>(
+fn follow_row<L: Ledger>(
     rt: &impl Abort,
     alloc: Global,
     base: &Base,
     store: &mut Store,
     follower: &mut Follower,
-    line: &str,
+    row: &(&[Posted], Trip, u32, &str),
     steps: &mut Steps<L>,
 )
     requires base { follower.old.base ≡ base.now }
@@ -433,19 +586,20 @@ fn follow_line<L: Ledger>(
     ensures followed { follower.new ≡ followed base.now store.new }
     ensures roads { store.new.roads ≡ base.now.roads }
 {
-    post_each(rt, base.network(), store, part(line, '/', 0));
-    let application = taken(rt, alloc, base, part(line, '/', 1));
+    let &(changes, ref trip, version, found) = row;
+    post_each(rt, base.network(), store, changes);
+    let application = taken(rt, alloc, base, trip);
     let snapshot = store.snapshot().expect(rt, "memory");
     let proposal = follower.analyse(alloc, base, snapshot, &application, steps);
     drop(application);
     let Proposal { seen, what } = proposal.expect(rt, "memory");
-    check_found(rt, alloc, what, part(line, '/', 3));
-    holds(rt, seen == number(part(line, '/', 2)), line);
+    check_found(rt, alloc, what, found);
+    same(rt, 0, seen, version);
 }
 
-// Follows a store over all lines.
+// Follows a store over all rows.
 #[tactic(auto, using(trip_analysis::proofs::Following::goes_on_here))]
-fn follow_lines<L: Ledger>(
+fn follow_rows<L: Ledger>(
     rt: &impl Abort,
     alloc: Global,
     base: &Base,
@@ -461,8 +615,8 @@ fn follow_lines<L: Ledger>(
     requires later { GoesOn follower.old.last store.old }
 {
     let mut steps = Steps::<L>::new(blank);
-    'lines: for line in HISTORY.lines() {
-        follow_line(rt, alloc, base, store, follower, line, &mut steps);
+    'rows: for row in &HISTORY {
+        follow_row(rt, alloc, base, store, follower, row, &mut steps);
     }
 }
 
@@ -470,7 +624,7 @@ fn follow_lines<L: Ledger>(
 fn follow_store(rt: &impl Abort, alloc: Global, base: &Base) {
     let mut store = Store::start(alloc, base.network()).expect(rt, "memory");
     let mut follower = Follower::new(alloc, base).expect(rt, "memory");
-    follow_lines::<Brand>(rt, alloc, base, &mut store, &mut follower, Blank::new(1));
+    follow_rows::<Brand>(rt, alloc, base, &mut store, &mut follower, Blank::new(1));
     drop(follower);
     drop(store);
 }
@@ -562,59 +716,30 @@ fn set_of(rt: &impl Abort, alloc: Global, nodes: &[u32]) -> NodeSet {
     set
 }
 
-// The first segment that leaves some nodes of the network of three: segments lead from node 0 to 1 and 2, and from 2 to 1.
-const LEAVING: [(&[u32], Option<u32>); 5] = [
-    (&[], None),
-    (&[0], Some(0)),
-    (&[1], None),
-    (&[0, 1], Some(1)),
-    (&[2], Some(2)),
+// Some nodes of the network of three: segments lead from node 0 to 1 and 2, and from 2 to 1. The first segment that leaves them,
+// whether segment 1 leaves them, and which is the next that does from 1 and from 2 on.
+const LEAVING: [(&[u32], Option<u32>, bool, [Option<u32>; 2]); 5] = [
+    (&[], None, false, [None, None]),
+    (&[0], Some(0), true, [Some(1), None]),
+    (&[1], None, false, [None, None]),
+    (&[0, 1], Some(1), true, [Some(1), None]),
+    (&[2], Some(2), false, [Some(2), Some(2)]),
 ];
 
-// The first segment that leaves some nodes.
-fn first_leaving_of(
-    rt: &impl Abort,
-    alloc: Global,
-    network: &Network,
-    nodes: &[u32],
-) -> Option<u32> {
-    let set = set_of(rt, alloc, nodes);
-    let first = set.first_leaving(network);
-    drop(set);
-    first
-}
-
-fn tell_first_leaving(rt: &impl Abort, alloc: Global, network: &Network) {
-    for (row, (nodes, leaving)) in LEAVING.iter().enumerate() {
-        let first = first_leaving_of(rt, alloc, network, nodes);
-        same(rt, row, first, *leaving);
+fn tell_leaving(rt: &impl Abort, alloc: Global, network: &Network) {
+    assert!(rt; network.segments() == 3);
+    for (row, (nodes, first, is_left, next)) in LEAVING.iter().enumerate() {
+        let set = set_of(rt, alloc, nodes);
+        same(rt, row, set.first_leaving(network), *first);
+        same(rt, row, set.is_left_by(network, 1), *is_left);
+        let found = [set.next_leaving(network, 1), set.next_leaving(network, 2)];
+        drop(set);
+        same(rt, row, found, *next);
     }
 }
 
-// A node, whether segment 1 leaves it, and which segments are the next that leaves it from 1 and from 2 on, and the first that
-// leaves it and that the truck may pass.
-fn tell_leaving<L: Ledger>(
-    rt: &impl Abort,
-    alloc: Global,
-    on: &TruckOn,
-    node: u32,
-    wanted: (bool, [Option<u32>; 3]),
-    steps: &mut Steps<L>,
-) {
-    let (network, set) = (on.base.network(), set_of(rt, alloc, &[node]));
-    assert!(rt; network.segments() == 3);
-    let is_left = set.is_left_by(network, 1);
-    let next = [
-        set.next_leaving(network, 1),
-        set.next_leaving(network, 2),
-        first_meeting_out(on.base, on.state, on.truck, &set, steps),
-    ];
-    drop(set);
-    same(rt, node as usize, (is_left, next), wanted);
-}
-
 // All with one counter.
-fn tell_all<L: Ledger>(rt: &impl Abort, alloc: Global, base: &Base, state: &State, blank: Blank)
+fn tell_all<L: Ledger>(rt: &impl Abort, base: &Base, state: &State, blank: Blank)
     requires state { AreOf base.now.roads state.now }
     requires name { blank.name ≡ L.name }
     requires parts { blank.parts ≡ L.parts }
@@ -628,17 +753,14 @@ fn tell_all<L: Ledger>(rt: &impl Abort, alloc: Global, base: &Base, state: &Stat
     let high = TruckOn { base, state, truck };
     tell_limit(rt, &high, Some(TOO_LOW), &mut steps);
     tell_first(rt, &high, &mut steps);
-    let (from_0, from_2) = ([Some(1), None, None], [Some(2); 3]);
-    tell_leaving(rt, alloc, &high, 0, (true, from_0), &mut steps);
-    tell_leaving(rt, alloc, &high, 2, (false, from_2), &mut steps);
 }
 
 // The same where segments 0 and 1 are too low for truck 0.
 fn tell_lowered(rt: &impl Abort, alloc: Global, base: &Base) {
-    let state = lowered(rt, alloc, base.network(), "0 1");
-    tell_all::<Brand>(rt, alloc, base, &state, Blank::new(1));
+    let state = lowered(rt, alloc, base.network(), &[0, 1]);
+    tell_all::<Brand>(rt, base, &state, Blank::new(1));
     drop(state);
-    tell_first_leaving(rt, alloc, base.network());
+    tell_leaving(rt, alloc, base.network());
 }
 
 #[test]

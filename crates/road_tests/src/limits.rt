@@ -2,8 +2,8 @@ ghost use Rattle.std.specs.Prelude.{◌≡◌, ◌<◌, length};
 ghost use Rattle.restriction_log.specs.States.{AreOf};
 
 use crate::fixtures::{
-    ALLOWANCE, CLOSED, GROSS, HEIGHT, LENGTH, Posted, RATING, TRIDEM, WIDTH, after, base_state,
-    change, network, same, says, train,
+    ALLOWANCE, CLOSED, GROSS, HEIGHT, LENGTH, Piece, Posted, RATING, TRIDEM, WIDTH, after,
+    base_state, change, network, same, says, train,
 };
 use axle_limits::WorstGroup;
 use clearance_rules::{
@@ -47,15 +47,15 @@ const TWO_AXLES: [(u32, u32); 2] = [(0, 30_000), (120, 30_000)];
 
 // Segments 0 and 1 between two nodes, with the spans 0 and 2 on segment 0 and span 1 on segment 1, which carry what they may
 // at most.
-const STRONG: &str = "\
-node a
-node b
-segment ab 0 1 5280
-segment ba 1 0 5280
-span s 0 240 100000
-span t 1 240 100000
-span u 0 240 100000
-";
+const STRONG: [Piece; 7] = [
+    Piece::Node(b"a"),
+    Piece::Node(b"b"),
+    Piece::Segment(b"ab", 0, 1, 5280),
+    Piece::Segment(b"ba", 1, 0, 5280),
+    Piece::Span(b"s", 0, 240, 100000),
+    Piece::Span(b"t", 1, 240, 100000),
+    Piece::Span(b"u", 0, 240, 100000),
+];
 
 // What was built is let go by a call of `drop`: where a scope lets it go, the proof of the whole function
 // goes through its parts. For the same reason no function both builds and goes through a table.
@@ -184,14 +184,6 @@ fn try_each(
     }
 }
 
-// The same on the strong roads.
-fn judge(rt: &impl Abort, alloc: Global, load: Load, standing: Standing, rows: &[Row]) {
-    let network = network(rt, alloc, STRONG);
-    try_each(rt, alloc, &network, &load, standing, rows);
-    drop(network);
-    drop(load);
-}
-
 const AT_EQUALITY: [Row; 10] = [
     ((HEIGHT, 0, 168), Fails::No),
     (
@@ -243,12 +235,6 @@ const AT_EQUALITY: [Row; 10] = [
         }),
     ),
 ];
-
-#[test]
-fn passes_at_equality(rt: HostRuntime) {
-    let load = loaded(&rt, rt.alloc(), (168, 144, 720), &OVER_THE_FORMULA);
-    judge(&rt, rt.alloc(), load, Standing::Its, &AT_EQUALITY);
-}
 
 const IN_ORDER: [Row; 9] = [
     ((CLOSED, 0, 1), Fails::By(Limit::Closed { segment: 0 })),
@@ -305,19 +291,6 @@ const IN_ORDER: [Row; 9] = [
     ((RATING, 1, 0), Fails::No),
 ];
 
-// Of all changes the first fails the load; of those after it the next one does, and so on.
-#[test]
-fn names_the_first_limit(rt: HostRuntime) {
-    let load = loaded(&rt, rt.alloc(), (168, 144, 720), &HS20);
-    judge(
-        &rt,
-        rt.alloc(),
-        load,
-        Standing::ItsAndThoseBehind,
-        &IN_ORDER,
-    );
-}
-
 // The group of 51,000 lb is over this posted weight of tridem groups by a pound.
 const OVER_TRIDEM: Row = (
     (TRIDEM, 0, 50_999),
@@ -350,22 +323,6 @@ const AROUND_TRIDEMS: [Row; 3] = [
     ((RATING, 0, 0), Fails::Moment(0, 2_142_000, 1_920_000, 0)),
 ];
 
-// A tridem group passes at equality, is judged behind the groups and before the spans, and by its own weight: the allowance, which is
-// the greatest here, does not scale it.
-#[test]
-fn weighs_tridem_groups(rt: HostRuntime) {
-    let load = loaded(&rt, rt.alloc(), (168, 102, 720), &THREE_AXLES);
-    judge(&rt, rt.alloc(), load, Standing::Its, &TRIDEMS);
-    let load = loaded(&rt, rt.alloc(), (168, 102, 720), &THREE_AXLES);
-    judge(
-        &rt,
-        rt.alloc(),
-        load,
-        Standing::ItsAndThoseBehind,
-        &AROUND_TRIDEMS,
-    );
-}
-
 const RATINGS: [Row; 4] = [
     ((RATING, 0, 1_082), Fails::No),
     ((RATING, 0, 1_081), Fails::Shear(0, 45_000, 41_600, 1_081)),
@@ -376,20 +333,95 @@ const RATINGS: [Row; 4] = [
     ),
 ];
 
-// By what the load keeps of what its axles ask of spans of 20 ft.
-#[test]
-fn judges_spans_by_both_effects(rt: HostRuntime) {
-    let mut load = loaded(&rt, rt.alloc(), (168, 144, 720), &TWO_AXLES);
-    load.keep(rt.alloc(), 240).expect(&rt, "memory");
-    judge(&rt, rt.alloc(), load, Standing::Its, &RATINGS);
-}
-
 const DESIGN: [Row; 1] = [((RATING, 0, 1_000), Fails::No)];
 
+// A load of this height and width, 720 in long, which may keep what its axles ask of spans of 20 ft.
+struct Judged {
+    sizes: (u32, u32),
+    axles: &'static [(u32, u32)],
+    keeps: bool,
+}
+
+const JUDGED: [Judged; 5] = [
+    Judged {
+        sizes: (168, 144),
+        axles: &OVER_THE_FORMULA,
+        keeps: false,
+    },
+    Judged {
+        sizes: (168, 144),
+        axles: &HS20,
+        keeps: false,
+    },
+    Judged {
+        sizes: (168, 102),
+        axles: &THREE_AXLES,
+        keeps: false,
+    },
+    Judged {
+        sizes: (168, 144),
+        axles: &TWO_AXLES,
+        keeps: true,
+    },
+    Judged {
+        sizes: (168, 144),
+        axles: &HS20,
+        keeps: false,
+    },
+];
+
+// Tries the rows of a load: each posting at its equality and beyond; of all the first that fails, then of those behind it, and so on;
+// tridem groups, which pass at equality, are judged behind the groups and before the spans, and by their own weight, which the
+// allowance, the greatest here, does not scale; both effects on spans; and the design truck at a rating of 1,000.
+fn try_rows(rt: &impl Abort, alloc: Global, network: &Network, load: &Load, number: usize) {
+    match number {
+        0 => try_each(rt, alloc, network, load, Standing::Its, &AT_EQUALITY),
+        1 => try_each(
+            rt,
+            alloc,
+            network,
+            load,
+            Standing::ItsAndThoseBehind,
+            &IN_ORDER,
+        ),
+        2 => {
+            try_each(rt, alloc, network, load, Standing::Its, &TRIDEMS);
+            try_each(
+                rt,
+                alloc,
+                network,
+                load,
+                Standing::ItsAndThoseBehind,
+                &AROUND_TRIDEMS,
+            );
+        }
+        3 => try_each(rt, alloc, network, load, Standing::Its, &RATINGS),
+        _ => try_each(rt, alloc, network, load, Standing::Its, &DESIGN),
+    }
+}
+
+// A load is judged on the strong roads.
+fn judge(rt: &impl Abort, alloc: Global, network: &Network, judged: &Judged, number: usize) {
+    let (height, width) = judged.sizes;
+    let mut load = loaded(rt, alloc, (height, width, 720), judged.axles);
+    if judged.keeps {
+        load.keep(alloc, 240).expect(rt, "memory");
+    }
+    try_rows(rt, alloc, network, &load, number);
+    drop(load);
+}
+
+fn judge_each(rt: &impl Abort, alloc: Global, network: &Network) {
+    for (number, judged) in JUDGED.iter().enumerate() {
+        judge(rt, alloc, network, judged, number);
+    }
+}
+
 #[test]
-fn carries_the_design_truck_at_a_rating_of_1000(rt: HostRuntime) {
-    let load = loaded(&rt, rt.alloc(), (168, 144, 720), &HS20);
-    judge(&rt, rt.alloc(), load, Standing::Its, &DESIGN);
+fn names_the_first_limit_that_fails(rt: HostRuntime) {
+    let network = network(&rt, rt.alloc(), &STRONG);
+    judge_each(&rt, rt.alloc(), &network);
+    drop(network);
     limits_are_of_their_segment();
 }
 
