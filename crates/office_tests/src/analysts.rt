@@ -9,7 +9,10 @@ ghost use Rattle.analyst_pool.specs.Interrupted.{Interrupts, shared};
 ghost use Rattle.office_words.specs.Commands.{MayCarryOut};
 ghost use Rattle.analyst_pool.specs.Ran.{HasNotBegun};
 
-use crate::fixtures::{ALONE, AROUND, application, base, day, full_at, journal_ends, office};
+use crate::fixtures::{
+    ALONE, About, ONE_WAY, ROOM_FOR_ONE, SHUT_WAY, WAY_AROUND, application, base, day, full_at,
+    journal_ends, office,
+};
 use analyst_pool::{
     Errand, Finder, Gate, OpenGate, Outcome, Worker, carry_out, decide, most_entries, run_actors,
 };
@@ -209,19 +212,9 @@ fn tell<C: OfficeCalls, L: Ledger>(
     full_at(reply)
 }
 
-// Segments, the height of segment 1, how many entries there is room for, what is asked for, and what caller 2 posts, the last
-// first; and then what the gate is told, how many entries a full history held, and how the journal ends: the reply and how many
-// entries there are.
-type Row = (
-    &'static str,
-    u32,
-    u32,
-    u32,
-    &'static [Change],
-    u64,
-    u32,
-    &'static str,
-);
+// What the office is about, what is asked for, and what caller 2 posts, the last first; and then what the gate is told, how many
+// entries a full history held, and how the journal ends: the reply and how many entries there are.
+type Row = (About, u32, &'static [Change], u64, u32, &'static str);
 
 const CLOSED: Change = Change::Closed {
     segment: 0,
@@ -241,9 +234,7 @@ const HIGHER: Change = Change::Height {
 const ROWS: &[Row] = &[
     // at once
     (
-        ALONE,
-        168,
-        100,
+        ONE_WAY,
         APPLY,
         &[],
         1_019,
@@ -252,9 +243,7 @@ const ROWS: &[Row] = &[
     ),
     // the same without a command
     (
-        ALONE,
-        168,
-        100,
+        ONE_WAY,
         HANDED_OVER,
         &[],
         11,
@@ -263,9 +252,7 @@ const ROWS: &[Row] = &[
     ),
     // the route fails, and the next goes around
     (
-        AROUND,
-        168,
-        100,
+        WAY_AROUND,
         APPLY,
         &[CLOSED],
         10_129,
@@ -274,9 +261,7 @@ const ROWS: &[Row] = &[
     ),
     // what stood in the way meets
     (
-        ALONE,
-        160,
-        100,
+        SHUT_WAY,
         APPLY,
         &[HIGHER],
         10_129,
@@ -285,9 +270,7 @@ const ROWS: &[Row] = &[
     ),
     // the eighth attempt is answered
     (
-        ALONE,
-        168,
-        100,
+        ONE_WAY,
         APPLY,
         &[CLOSED, OPEN, CLOSED, OPEN, CLOSED, OPEN, CLOSED],
         10_123_456_789,
@@ -296,9 +279,7 @@ const ROWS: &[Row] = &[
     ),
     // and after eight the office is asked itself
     (
-        ALONE,
-        168,
-        100,
+        ONE_WAY,
         APPLY,
         &[OPEN, CLOSED, OPEN, CLOSED, OPEN, CLOSED, OPEN, CLOSED],
         10_123_456_789,
@@ -307,9 +288,7 @@ const ROWS: &[Row] = &[
     ),
     // a history that is full ahead of the submit
     (
-        ALONE,
-        168,
-        1,
+        ROOM_FOR_ONE,
         APPLY,
         &[],
         1_019,
@@ -317,9 +296,7 @@ const ROWS: &[Row] = &[
         "permit-journal 3\n1 snapshot = at 0\nend 1\n",
     ),
     (
-        ALONE,
-        168,
-        100,
+        ONE_WAY,
         POST,
         &[],
         109,
@@ -327,9 +304,7 @@ const ROWS: &[Row] = &[
         "permit-journal 3\n1 post segment 1 closed 1 = posted 1 recalled -\nend 1\n",
     ),
     (
-        ALONE,
-        168,
-        100,
+        ONE_WAY,
         DAY,
         &[],
         109,
@@ -337,9 +312,7 @@ const ROWS: &[Row] = &[
         "permit-journal 3\n1 day 2026-03-03 = day 2026-03-03\nend 1\n",
     ),
     (
-        ALONE,
-        168,
-        100,
+        ONE_WAY,
         SURRENDER,
         &[],
         109,
@@ -347,9 +320,7 @@ const ROWS: &[Row] = &[
         "permit-journal 3\n1 surrender 1 = unknown\nend 1\n",
     ),
     (
-        ALONE,
-        168,
-        100,
+        ONE_WAY,
         SHOW,
         &[],
         109,
@@ -388,7 +359,7 @@ fn goes_in<R: Abort, L: Ledger, F: Ledger>(
     requires base { office.base ≡ base.now }
     requires opened { office.history ≡ [] }
 {
-    let &(_, _, _, kind, changes, told, wanted, ends) = row;
+    let &(_, kind, changes, told, wanted, ends) = row;
     let mut calls = Interrupted {
         rt,
         office: CountedOffice::<L>::new(office, tests),
@@ -401,8 +372,9 @@ fn goes_in<R: Abort, L: Ledger, F: Ledger>(
 }
 
 fn goes<R: Abort>(rt: &R, alloc: Global, row: &Row) {
-    let base = shared_base(rt, alloc, row.0, row.1);
-    let office = office(rt, alloc, share(rt, &base), row.2);
+    let (segments, height, most) = row.0;
+    let base = shared_base(rt, alloc, segments, height);
+    let office = office(rt, alloc, share(rt, &base), most);
     goes_in::<R, Brand, Brand>(rt, alloc, office, &base, row, Blank::new(1), Blank::new(1));
     drop(base);
 }

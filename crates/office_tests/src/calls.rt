@@ -9,7 +9,10 @@ ghost use Rattle.office_core.specs.Offices.{machine_in};
 ghost use Rattle.office_core.specs.Calls.{machine_seen};
 
 use crate::audits::verdict;
-use crate::fixtures::{ALONE, AROUND, BRIDGE, base, entries, full_at, has_lines, office_about};
+use crate::fixtures::{
+    About, ONE_WAY, OVER_A_BRIDGE, ROOM_FOR_TWO, SHUT_WAY, WAY_AROUND, base, entries, full_at,
+    has_lines, office_about,
+};
 use clearance_rules::Steps;
 use journal_audit::Verdict;
 use names::NoMemory;
@@ -246,20 +249,6 @@ fn serve_each<L: Ledger>(
     full
 }
 
-// Makes the calls of these lines.
-fn serve_lines<L: Ledger>(
-    rt: &impl Abort,
-    alloc: Global,
-    office: &mut CountedOffice<L>,
-    lines: &str,
-    by_seat: bool,
-) -> u32 {
-    let entries = entries(rt, alloc, lines);
-    let full = serve_each(rt, alloc, office, entries.as_slice(), by_seat);
-    drop(entries);
-    full
-}
-
 // A line for each recall: the permit, the version of the posting, and the carrier.
 fn lines_of(rt: &impl Abort, alloc: Global, recalls: &[Recall]) -> String {
     let mut lines = String::new(alloc);
@@ -278,16 +267,27 @@ fn has_recalls(rt: &impl Abort, alloc: Global, office: &Office, wanted: &str) {
     assert!(rt; lines.as_str() == wanted, "{wanted}");
 }
 
+// The first of these lines, at most so many.
+fn first_lines(rt: &impl Abort, alloc: Global, lines: &str, most: u32) -> String {
+    let mut first = String::new(alloc);
+    for line in lines.lines().take(most as usize) {
+        write!(first, "{line}\n").expect(rt, "memory");
+    }
+    first
+}
+
 // The office has the history and the recalls of a row, and an audit calls that history legal.
 fn is_as_said(rt: &impl Abort, alloc: Global, office: &Office, row: &Row) {
-    let &(segments, height, _, lines, _, recalled) = row;
-    has_lines(rt, alloc, office, lines);
+    let &((segments, height, most), lines, recalled) = row;
+    let first = first_lines(rt, alloc, lines, most);
+    has_lines(rt, alloc, office, first.as_str());
+    drop(first);
     has_recalls(rt, alloc, office, recalled);
     let verdict = verdict(rt, alloc, segments, height, office.history());
     assert!(rt; verdict == Verdict::Legal, "{lines}");
 }
 
-// A day as its row says, in this office. The sums of what the replies say that a full history held.
+// A day as its row says, in this office. The sum of what the replies say that a full history held.
 fn full_in<L: Ledger>(
     rt: &impl Abort,
     alloc: Global,
@@ -295,51 +295,44 @@ fn full_in<L: Ledger>(
     row: &Row,
     by_seat: bool,
     blank: Blank,
-) -> (u32, u32)
+) -> u32
     requires name { blank.name ≡ L.name }
     requires parts { blank.parts ≡ L.parts }
     requires some { 0 < blank.parts }
     requires opened { office.history ≡ [] }
 {
     let mut office = CountedOffice::<L>::new(office, blank);
-    let full = serve_lines(rt, alloc, &mut office, row.3, by_seat);
-    let full_then = serve_lines(rt, alloc, &mut office, row.4, by_seat);
+    let entries = entries(rt, alloc, row.1);
+    let full = serve_each(rt, alloc, &mut office, entries.as_slice(), by_seat);
+    drop(entries);
     is_as_said(rt, alloc, office.office(), row);
     drop(office);
-    (full, full_then)
+    full
 }
 
-// A day goes as its row says, with or without seats.
+// A day goes as its row says, with or without seats. Each call behind the most entries is answered that there are so many.
 fn goes(rt: &impl Abort, alloc: Global, row: &Row, by_seat: bool) {
-    let &(segments, height, most, _, beyond, _) = row;
+    let &((segments, height, most), lines, _) = row;
     let office = office_about(rt, alloc, base(rt, alloc, segments, height), most);
-    let (full, full_then) = full_in::<Brand>(rt, alloc, office, row, by_seat, Blank::new(1));
-    let wanted = beyond.lines().count().wrapping_mul(most as usize);
-    assert!(rt; full == 0 && full_then as usize == wanted, "{beyond}");
+    let full = full_in::<Brand>(rt, alloc, office, row, by_seat, Blank::new(1));
+    let beyond = lines.lines().count().saturating_sub(most as usize);
+    assert!(rt;
+        full as usize == beyond.wrapping_mul(most as usize),
+        "{lines}"
+    );
 }
 
-// The segments, and the height of segment 1; how many entries there is room for, the lines that take it, and lines whose calls find
-// that the history is full; and a line for each recall: the permit, the version of the posting, and the carrier.
-type Row = (
-    &'static str,
-    u32,
-    u32,
-    &'static str,
-    &'static str,
-    &'static str,
-);
+// What the office is about; the lines of the journal, of which those behind its room are calls that find that the history is full; and a
+// line for each recall: the permit, the version of the posting, and the carrier.
+type Row = (About, &'static str, &'static str);
 
 const DAYS: [Row; 9] = [
     // what is behind the most entries is answered that the history is full
     (
-        ALONE,
-        168,
-        2,
+        ROOM_FOR_TWO,
         "\
 1 show 0 = unknown
 1 show 0 = unknown
-",
-        "\
 1 show 0 = unknown
 1 snapshot = at 0
 1 submit truck 1 from 1 to 2 asked none days 2026-03-02 2026-03-06 seen 0 route 1 = issued 1 at 0 route 1
@@ -348,9 +341,7 @@ const DAYS: [Row; 9] = [
     ),
     // a posting that is lower than the first truck, twice
     (
-        ALONE,
-        168,
-        100,
+        ONE_WAY,
         "\
 1 held truck 1 from 1 to 2 asked none days 2026-03-02 2026-03-06 = issued 1 at 0 route 1
 1 held truck 2 from 1 to 2 asked none days 2026-03-02 2026-03-06 = issued 2 at 0 route 1
@@ -359,28 +350,22 @@ const DAYS: [Row; 9] = [
 2 post segment 2 height 167 = range
 1 surrender 1 = notinforce recalled 1
 ",
-        "",
         "1 1 ACME\n",
     ),
     // a posting for each of two trucks, of two carriers
     (
-        ALONE,
-        168,
-        100,
+        ONE_WAY,
         "\
 1 held truck 1 from 1 to 2 asked none days 2026-03-02 2026-03-06 = issued 1 at 0 route 1
 1 held truck 2 from 1 to 2 asked none days 2026-03-02 2026-03-06 = issued 2 at 0 route 1
 2 post segment 1 height 167 = posted 1 recalled 1
 2 post segment 1 height 149 = posted 2 recalled 2
 ",
-        "",
         "1 1 ACME\n2 2 BETA\n",
     ),
     // a trip that would begin too late and a legal truck, a day set back, a permit given back by another and twice, and a later day
     (
-        ALONE,
-        168,
-        100,
+        ONE_WAY,
         "\
 1 snapshot = at 0
 1 submit truck 1 from 1 to 2 asked none days 2026-03-01 2026-03-06 seen 0 route 1 = late 2026-03-02
@@ -397,26 +382,20 @@ const DAYS: [Row; 9] = [
 1 held truck 1 from 1 to 2 asked none days 2026-03-02 2026-03-06 = late 2026-03-03
 ",
         "",
-        "",
     ),
     // a permit that another looks at
     (
-        ALONE,
-        168,
-        100,
+        ONE_WAY,
         "\
 1 snapshot = at 0
 1 submit truck 1 from 1 to 2 asked none days 2026-03-02 2026-03-06 seen 0 route 1 = issued 1 at 0 route 1
 2 show 1 = shown 1 caller 1 truck 1 days 2026-03-02 2026-03-06 at 0 seen 0 inforce
 ",
         "",
-        "",
     ),
     // a posting that closes the route that was found, and the way around it
     (
-        AROUND,
-        168,
-        100,
+        WAY_AROUND,
         "\
 1 snapshot = at 0
 2 post segment 1 closed 1 = posted 1 recalled -
@@ -425,13 +404,10 @@ const DAYS: [Row; 9] = [
 1 submit truck 1 from 1 to 2 asked none days 2026-03-02 2026-03-06 seen 1 route 2,3 = issued 1 at 1 route 2,3
 ",
         "",
-        "",
     ),
     // a posting that opens the way which was found to be shut
     (
-        ALONE,
-        160,
-        100,
+        SHUT_WAY,
         "\
 1 snapshot = at 0
 2 post segment 1 height 168 = posted 1 recalled -
@@ -440,26 +416,20 @@ const DAYS: [Row; 9] = [
 1 submit truck 1 from 1 to 2 asked none days 2026-03-02 2026-03-06 seen 1 route 1 = issued 1 at 1 route 1
 ",
         "",
-        "",
     ),
     // A span of 20 ft that carries just the design truck, until it is posted with a rating of 999: 32,000 lb at the middle.
     (
-        BRIDGE,
-        168,
-        100,
+        OVER_A_BRIDGE,
         "\
 1 snapshot = at 0
 2 post span 1 rating 999 = posted 1 recalled -
 1 submit truck 4 from 1 to 2 asked none days 2026-03-02 2026-03-06 seen 0 route 1 = outdated 1 fails segment 1 span 1 moment 1920000/1 hs20 1920000/1 rating 999
 ",
         "",
-        "",
     ),
     // eight tries with a posting between the look and the submit, and then a held call
     (
-        ALONE,
-        168,
-        100,
+        ONE_WAY,
         "\
 1 snapshot = at 0
 2 post segment 1 closed 1 = posted 1 recalled -
@@ -487,7 +457,6 @@ const DAYS: [Row; 9] = [
 1 submit truck 1 from 1 to 2 asked none days 2026-03-02 2026-03-06 seen 7 cut 1 = outdated 8 meets segment 1
 1 held truck 1 from 1 to 2 asked none days 2026-03-02 2026-03-06 = issued 1 at 8 route 1
 ",
-        "",
         "",
     ),
 ];

@@ -46,7 +46,23 @@ pub const AROUND: &str = "segment,ab,a,b,1000,,,\nsegment,ac,a,c,1000,,,\nsegmen
 pub const TWO_WAYS: &str = "segment,ab,a,b,1000,,,\nsegment,ab2,a,b,1000,,,\n";
 
 // One segment, with a span of 20 ft that is rated as the design truck.
-pub const BRIDGE: &str = "segment,ab,a,b,1000,,,\nspan,s,ab,240,1000,,,\n";
+const BRIDGE: &str = "segment,ab,a,b,1000,,,\nspan,s,ab,240,1000,,,\n";
+
+// What an office is about: its segments, the height of the first, and how many entries there is room for.
+pub type About = (&'static str, u32, u32);
+
+pub const ONE_WAY: About = (ALONE, 168, 100);
+
+pub const WAY_AROUND: About = (AROUND, 168, 100);
+
+pub const OVER_A_BRIDGE: About = (BRIDGE, 168, 100);
+
+// The first truck is too high for it.
+pub const SHUT_WAY: About = (ALONE, 160, 100);
+
+pub const ROOM_FOR_ONE: About = (ALONE, 168, 1);
+
+pub const ROOM_FOR_TWO: About = (ALONE, 168, 2);
 
 // Three trucks with axles within the federal limits: one 168 in high, one that is lower and wide, and a legal one; and the design
 // truck HS20-44, with its rear axles 14 ft apart.
