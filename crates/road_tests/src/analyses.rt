@@ -1,15 +1,15 @@
-ghost use Rattle.std.specs.Prelude.{◌≡◌, ◌<◌, ◌↔◌, length, All, IfOk, IsTrue};
+ghost use Rattle.std.specs.Prelude.{◌≡◌, ◌<◌, ◌↔◌, length, All, IsTrue};
 ghost use Rattle.restriction_log.specs.States.{AreOf};
-ghost use Rattle.trip_analysis.specs.Applications.{AreAskedThere, Sound};
+ghost use Rattle.trip_analysis.specs.Applications.{AreAskedThere};
 ghost use Rattle.snapshot_store.specs.Stores.{IsLater};
-ghost use Rattle.trip_analysis.specs.Followers.{GoesOn, followed};
+ghost use Rattle.trip_analysis.specs.Followers.{GoesOn};
 
 use crate::fixtures::{
-    CLOSED, HEIGHT, Piece, Posted, RATING, after, base_state, change, day, holds, named, network,
-    same, train,
+    HEIGHT, Piece, after, base_state, change, day, entries, holds, named, network, same, train,
 };
 use clearance_rules::{Limit, Load, Steps};
-use restriction_log::State;
+use office_words::{Call, Entry};
+use restriction_log::{Change, State};
 use road_graph::{Network, Numbers, SharedNumbers};
 use snapshot_store::Store;
 use span_rating::SpanStudy;
@@ -22,7 +22,7 @@ use trip_analysis::{
     What, asked_findings_are_of_the_routes, find, findings_hold, free_findings_are_of_walks,
     routes_break_off_where_walks_do,
 };
-use trip_routes::{Routes, SharedRoutes};
+use trip_routes::SharedRoutes;
 
 // What was built is let go by a call of `drop`: where a scope lets it go, the proof of the whole function goes through
 // its parts.
@@ -74,186 +74,136 @@ fn are_there(network: &Network, list: &[u32]) -> bool
     list.iter().all(|s| *s < count)
 }
 
-// Truck, nodes, asked routes (none where there is no list), first and last day.
-type Trip = (
-    u32,
-    u32,
-    u32,
-    &'static [&'static [u32]],
-    &'static str,
-    &'static str,
-);
-
-// The route along these segments.
-fn along(rt: &impl Abort, alloc: Global, segments: &[u32]) -> Numbers {
-    Numbers::of(segments.to_vec(alloc).expect(rt, "memory"))
-}
-
-// These routes, of which there is one or more.
-fn routes(rt: &impl Abort, alloc: Global, lists: &[&[u32]]) -> SharedRoutes {
-    assert!(rt; !lists.is_empty());
-    let mut routes = Routes::one(along(rt, alloc, lists[0]));
-    for list in &lists[1..] {
-        routes.push(&along(rt, alloc, list)).expect(rt, "a route");
-    }
-    SharedRoutes::of(alloc, routes).expect(rt, "memory")
-}
-
-// The routes that are asked for, if any are.
-fn asked(rt: &impl Abort, alloc: Global, lists: &[&[u32]]) -> Option<SharedRoutes> {
-    if lists.is_empty() {
-        return None;
-    }
-    Some(routes(rt, alloc, lists))
-}
-
-// The application of a trip, of which nothing is tested.
-fn untested(rt: &impl Abort, alloc: Global, trip: &Trip) -> Application {
-    let &(truck, from, to, lists, first, last) = trip;
-    let (first, last) = (day(rt, first), day(rt, last));
-    Application::of_fields(truck, from, to, asked(rt, alloc, lists), first, last)
-}
-
-// The same, which is sound.
-fn taken(rt: &impl Abort, alloc: Global, base: &Base, trip: &Trip) -> Application
-    ensures { Sound base.now result }
-{
-    let application = untested(rt, alloc, trip);
-    assert!(rt; application.is_sound(base));
-    application
-}
-
 // The routes that are asked for, along segments that are there.
 fn asked_there(
     rt: &impl Abort,
-    alloc: Global,
     network: &Network,
-    lists: &[&[u32]],
+    asked: Option<&SharedRoutes>,
 ) -> Option<SharedRoutes>
     ensures { AreAskedThere network.now result }
 {
-    if lists.is_empty() {
-        return None;
-    }
-    let routes = routes(rt, alloc, lists);
+    let routes = asked?;
     assert!(rt; are_there(network, routes.all()));
-    Some(routes)
+    Some(routes.clone().expect(rt, "memory"))
 }
 
-// What is answered to the application of a trip, whose truck, nodes and segments are there.
-fn refusal(rt: &impl Abort, alloc: Global, base: &Base, trip: &Trip) -> Option<ApplicationRefusal> {
-    let &(truck, from, to, lists, first, last) = trip;
-    let (first, last) = (day(rt, first), day(rt, last));
-    let nodes = base.network().nodes();
+// What is answered to these fields of an application, whose truck, nodes and segments are there.
+fn refusal(rt: &impl Abort, base: &Base, of: &Application) -> Option<ApplicationRefusal> {
+    let (truck, from, to, nodes) = (of.truck(), of.from(), of.to(), base.network().nodes());
     assert!(rt; (truck as usize) < base.fleet().len() && from < nodes && to < nodes);
-    let asked = asked_there(rt, alloc, base.network(), lists);
-    Application::new(base, truck, from, to, asked, first, last).err()
+    let asked = asked_there(rt, base.network(), of.asked());
+    Application::new(base, truck, from, to, asked, of.first(), of.last()).err()
 }
 
-// What is answered to applications, or none where one is taken. Where several causes apply, the first is named. The days
+// The application of an entry.
+fn asked_for<'a>(rt: &impl Abort, entry: &'a Entry) -> &'a Application {
+    match &entry.call {
+        Call::Held { application } => application,
+        _ => rt.abort(),
+    }
+}
+
+// What is answered to applications, or none where they are taken. Where several causes apply, the first is named. The days
 // from 2 March 2026 to 2 March 2027 are 365, and those from 28 February 2024 to 28 February 2025 are 366.
-const ANSWERS: [(Trip, Option<ApplicationRefusal>); 19] = [
+const ANSWERS: [(Option<ApplicationRefusal>, &str); 8] = [
     (
-        (0, 0, 0, &[&[2]], "2026-03-03", "2026-03-02"),
         Some(ApplicationRefusal::SamePlace),
+        "\
+1 held truck 1 from 1 to 1 asked 3 days 2026-03-03 2026-03-02 = nomemory
+",
     ),
     (
-        (0, 0, 1, &[&[1, 0]], "2026-03-03", "2026-03-02"),
         Some(ApplicationRefusal::BrokenRoute { route: 0, at: 1 }),
+        "\
+1 held truck 1 from 1 to 2 asked 2,1 days 2026-03-03 2026-03-02 = nomemory
+1 held truck 1 from 1 to 2 asked 2 days 2026-03-02 2026-03-02 = nomemory
+",
     ),
     (
-        (0, 0, 1, &[&[1]], "2026-03-02", "2026-03-02"),
-        Some(ApplicationRefusal::BrokenRoute { route: 0, at: 1 }),
-    ),
-    (
-        (0, 0, 1, &[&[2]], "2026-03-02", "2026-03-02"),
         Some(ApplicationRefusal::BrokenRoute { route: 0, at: 0 }),
+        "\
+1 held truck 1 from 1 to 2 asked 3 days 2026-03-02 2026-03-02 = nomemory
+1 held truck 1 from 1 to 2 asked - days 2026-03-02 2026-03-02 = nomemory
+",
     ),
     (
-        (0, 0, 1, &[&[]], "2026-03-02", "2026-03-02"),
-        Some(ApplicationRefusal::BrokenRoute { route: 0, at: 0 }),
-    ),
-    (
-        (0, 0, 1, &[&[1, 2]], "2026-03-03", "2026-03-02"),
         Some(ApplicationRefusal::DayOrder),
+        "\
+1 held truck 1 from 1 to 2 asked 2,3 days 2026-03-03 2026-03-02 = nomemory
+1 held truck 1 from 1 to 2 asked none days 2026-03-03 2026-03-02 = nomemory
+1 held truck 1 from 1 to 2 asked 1/2,3 days 2026-03-03 2026-03-02 = nomemory
+",
     ),
     (
-        (0, 0, 1, &[], "2026-03-03", "2026-03-02"),
-        Some(ApplicationRefusal::DayOrder),
+        None,
+        "\
+1 held truck 1 from 1 to 2 asked none days 2026-03-02 2026-03-02 = nomemory
+1 held truck 1 from 1 to 2 asked 2,3 days 2026-03-02 2026-03-03 = nomemory
+1 held truck 1 from 1 to 2 asked 1/2,3 days 2026-03-02 2027-03-02 = nomemory
+1 held truck 1 from 1 to 2 asked 1/1 days 2024-02-28 2025-02-27 = nomemory
+1 held truck 1 from 1 to 2 asked 1 days 2026-03-02 2027-03-03 = nomemory
+1 held truck 1 from 1 to 2 asked none days 2026-03-02 2027-03-03 = nomemory
+1 held truck 1 from 1 to 2 asked 1/1/1/1/1/1/1/2,3 days 2026-03-02 2027-03-02 = nomemory
+",
     ),
-    ((0, 0, 1, &[], "2026-03-02", "2026-03-02"), None),
-    ((0, 0, 1, &[&[1, 2]], "2026-03-02", "2026-03-03"), None),
     (
-        (0, 0, 1, &[&[0], &[1]], "2026-03-02", "2027-03-03"),
         Some(ApplicationRefusal::BrokenRoute { route: 1, at: 1 }),
+        "\
+1 held truck 1 from 1 to 2 asked 1/2 days 2026-03-02 2027-03-03 = nomemory
+",
     ),
     (
-        (
-            0,
-            0,
-            1,
-            &[&[1, 2], &[0], &[2], &[1]],
-            "2026-03-03",
-            "2026-03-02",
-        ),
         Some(ApplicationRefusal::BrokenRoute { route: 2, at: 0 }),
+        "\
+1 held truck 1 from 1 to 2 asked 2,3/1/3/2 days 2026-03-03 2026-03-02 = nomemory
+",
     ),
     (
-        (0, 0, 1, &[&[0], &[1, 2]], "2026-03-03", "2026-03-02"),
-        Some(ApplicationRefusal::DayOrder),
-    ),
-    (
-        (0, 0, 1, &[&[0], &[1, 2]], "2026-03-02", "2027-03-03"),
         Some(ApplicationRefusal::AnnualDays { days: 366 }),
-    ),
-    (
-        (0, 0, 1, &[&[0], &[0]], "2024-02-28", "2025-02-28"),
-        Some(ApplicationRefusal::AnnualDays { days: 366 }),
-    ),
-    (
-        (0, 0, 1, &[&[0], &[1, 2]], "2026-03-02", "2027-03-02"),
-        None,
-    ),
-    ((0, 0, 1, &[&[0], &[0]], "2024-02-28", "2025-02-27"), None),
-    ((0, 0, 1, &[&[0]], "2026-03-02", "2027-03-03"), None),
-    ((0, 0, 1, &[], "2026-03-02", "2027-03-03"), None),
-    (
-        (
-            0,
-            0,
-            1,
-            &[&[0], &[0], &[0], &[0], &[0], &[0], &[0], &[1, 2]],
-            "2026-03-02",
-            "2027-03-02",
-        ),
-        None,
+        "\
+1 held truck 1 from 1 to 2 asked 1/2,3 days 2026-03-02 2027-03-03 = nomemory
+1 held truck 1 from 1 to 2 asked 1/1 days 2024-02-28 2025-02-28 = nomemory
+",
     ),
 ];
 
 // Applications that name a truck, a node or a segment that is not there.
-const ABSENT: [Trip; 4] = [
-    (2, 0, 1, &[], "2026-03-02", "2026-03-02"),
-    (0, 3, 1, &[], "2026-03-02", "2026-03-02"),
-    (0, 0, 3, &[], "2026-03-02", "2026-03-02"),
-    (0, 0, 1, &[&[0], &[3]], "2026-03-02", "2026-03-02"),
-];
+const ABSENT: &str = "\
+1 held truck 3 from 1 to 2 asked none days 2026-03-02 2026-03-02 = nomemory
+1 held truck 1 from 4 to 2 asked none days 2026-03-02 2026-03-02 = nomemory
+1 held truck 1 from 1 to 4 asked none days 2026-03-02 2026-03-02 = nomemory
+1 held truck 1 from 1 to 2 asked 1/4 days 2026-03-02 2026-03-02 = nomemory
+";
 
-// The application of a trip, of which nothing is tested, is sound or not.
-fn is_sound(rt: &impl Abort, alloc: Global, base: &Base, row: usize, trip: &Trip, wanted: bool) {
-    let application = untested(rt, alloc, trip);
-    same(rt, row, application.is_sound(base), wanted);
-    drop(application);
+// These applications are refused for this cause, or else taken. One of which nothing was tested is sound exactly where it is taken.
+fn are_answered(
+    rt: &impl Abort,
+    base: &Base,
+    entries: &[Entry],
+    wanted: Option<ApplicationRefusal>,
+) {
+    for (row, entry) in entries.iter().enumerate() {
+        let application = asked_for(rt, entry);
+        same(rt, row, refusal(rt, base, application), wanted);
+        same(rt, row, application.is_sound(base), wanted.is_none());
+    }
 }
 
-// An application of which nothing was tested is sound exactly where it is taken.
+fn are_absent(rt: &impl Abort, base: &Base, entries: &[Entry]) {
+    for (row, entry) in entries.iter().enumerate() {
+        same(rt, row, asked_for(rt, entry).is_sound(base), false);
+    }
+}
+
 fn answer_each(rt: &impl Abort, alloc: Global, base: &Base) {
-    for (row, (trip, wanted)) in ANSWERS.iter().enumerate() {
-        same(rt, row, refusal(rt, alloc, base, trip), *wanted);
-        is_sound(rt, alloc, base, row, trip, wanted.is_none());
+    for &(wanted, lines) in &ANSWERS {
+        let entries = entries(rt, alloc, lines);
+        are_answered(rt, base, entries.as_slice(), wanted);
+        drop(entries);
     }
-    for (row, trip) in ABSENT.iter().enumerate() {
-        is_sound(rt, alloc, base, row, trip, false);
-    }
+    let entries = entries(rt, alloc, ABSENT);
+    are_absent(rt, base, entries.as_slice());
+    drop(entries);
 }
 
 #[test]
@@ -262,6 +212,8 @@ fn refuses_an_application_for_its_first_cause(rt: HostRuntime) {
     answer_each(&rt, rt.alloc(), &base);
     drop(base);
 }
+
+const KEPT: &str = "1 held truck 2 from 1 to 2 asked 2,3/1 days 2026-03-02 2026-03-05 = nomemory\n";
 
 // Whether these are the fields of the application of the test below.
 fn check_fields(rt: &impl Abort, alloc: Global, a: &Application) {
@@ -277,17 +229,16 @@ fn check_fields(rt: &impl Abort, alloc: Global, a: &Application) {
     );
 }
 
-const KEPT: Trip = (1, 0, 1, &[&[1, 2], &[0]], "2026-03-02", "2026-03-05");
-
 // An application and a copy of it.
 #[test]
 fn keeps_what_is_asked_for(rt: HostRuntime) {
-    let base = base(&rt, rt.alloc());
-    let taken = taken(&rt, rt.alloc(), &base, &KEPT);
-    drop(base);
-    check_fields(&rt, rt.alloc(), &taken);
-    let copy = taken.try_clone().expect(&rt, "memory");
-    drop(taken);
+    let entries = entries(&rt, rt.alloc(), KEPT);
+    assert!(rt; entries.len() == 1);
+    let copy = asked_for(&rt, &entries[0])
+        .try_clone()
+        .expect(&rt, "memory");
+    check_fields(&rt, rt.alloc(), asked_for(&rt, &entries[0]));
+    drop(entries);
     check_fields(&rt, rt.alloc(), &copy);
     drop(copy);
 }
@@ -323,288 +274,180 @@ fn told(alloc: Global, what: &What) -> Result<String, AllocError> {
     }
 }
 
-// What is found, which is let go then, is what a text says.
-fn check_found(rt: &impl Abort, alloc: Global, what: What, text: &str) {
-    let told = told(alloc, &what).expect(rt, "memory");
+// What is found, which is let go then, is this.
+fn is_found(rt: &impl Abort, alloc: Global, what: What, wanted: &What) {
+    let found = told(alloc, &what).expect(rt, "memory");
     drop(what);
-    holds(rt, told.as_str() == text, text);
+    let wanted = told(alloc, wanted).expect(rt, "memory");
+    holds(rt, found.as_str() == wanted.as_str(), wanted.as_str());
 }
 
-// An application, the segments that are too low for truck 0, and what is found. No road leads from node 1, and none from
-// node 2 to node 0, whatever is posted there.
-const FINDINGS: [(Trip, &[u32], &str); 16] = [
-    ((0, 0, 1, &[], "2026-03-02", "2026-03-02"), &[], "route [0]"),
-    (
-        (0, 0, 1, &[], "2026-03-02", "2026-03-02"),
-        &[0],
-        "route [1, 2]",
-    ),
-    (
-        (0, 0, 1, &[], "2026-03-02", "2026-03-02"),
-        &[0, 1],
-        "cut [0]",
-    ),
-    (
-        (0, 0, 1, &[], "2026-03-02", "2026-03-02"),
-        &[0, 2],
-        "cut [0, 2]",
-    ),
-    ((0, 1, 0, &[], "2026-03-02", "2026-03-02"), &[], "cut [1]"),
-    (
-        (0, 2, 0, &[], "2026-03-02", "2026-03-02"),
-        &[2],
-        "cut [1, 2]",
-    ),
-    (
-        (0, 0, 1, &[&[0]], "2026-03-02", "2026-03-02"),
-        &[],
-        "route [0]",
-    ),
-    (
-        (0, 0, 1, &[&[0]], "2026-03-02", "2026-03-02"),
-        &[0],
-        "fails 0",
-    ),
-    (
-        (0, 0, 1, &[&[1, 2]], "2026-03-02", "2026-03-02"),
-        &[0],
-        "route [1, 2]",
-    ),
-    (
-        (0, 0, 1, &[&[1, 2]], "2026-03-02", "2026-03-02"),
-        &[1, 2],
-        "fails 1",
-    ),
-    (
-        (0, 0, 1, &[&[0], &[1, 2]], "2026-03-02", "2026-03-02"),
-        &[],
-        "route [0] [1, 2]",
-    ),
-    (
-        (0, 0, 1, &[&[0], &[0]], "2026-03-02", "2026-03-02"),
-        &[],
-        "route [0] [0]",
-    ),
-    (
-        (0, 0, 1, &[&[0], &[1, 2]], "2026-03-02", "2026-03-02"),
-        &[2],
-        "fails 2",
-    ),
-    (
-        (0, 0, 1, &[&[1, 2], &[0]], "2026-03-02", "2026-03-02"),
-        &[0, 2],
-        "fails 2",
-    ),
-    (
-        (1, 0, 1, &[&[1, 2], &[0]], "2026-03-02", "2026-03-02"),
-        &[0, 2],
-        "not needed",
-    ),
-    (
-        (1, 0, 1, &[&[0]], "2026-03-02", "2026-03-02"),
-        &[0],
-        "not needed",
-    ),
+// Postings, and submits with what is found then and at which version; the replies are not looked at. Truck 1 fits segments of
+// 168 in, and truck 2 is legal. No road leads from node 2, and none from node 3 to node 1, whatever is posted there. At twice the
+// HS20-44 truck the spans of segment 1 carry truck 1, which weighs less than that truck, and at 0 nothing.
+const HISTORIES: [&str; 5] = [
+    "\
+1 submit truck 1 from 1 to 2 asked none days 2026-03-02 2026-03-02 seen 0 route 1 = nomemory
+1 submit truck 1 from 2 to 1 asked none days 2026-03-02 2026-03-02 seen 0 cut 2 = nomemory
+1 submit truck 1 from 1 to 2 asked 1 days 2026-03-02 2026-03-02 seen 0 route 1 = nomemory
+1 submit truck 1 from 1 to 2 asked 1/2,3 days 2026-03-02 2026-03-02 seen 0 route 1/2,3 = nomemory
+1 submit truck 1 from 1 to 2 asked 1/1 days 2026-03-02 2026-03-02 seen 0 route 1/1 = nomemory
+",
+    "\
+1 post segment 1 height 167 = posted 1 recalled -
+1 submit truck 1 from 1 to 2 asked none days 2026-03-02 2026-03-02 seen 1 route 2,3 = nomemory
+1 submit truck 1 from 1 to 2 asked 1 days 2026-03-02 2026-03-02 seen 1 fails 1 = nomemory
+1 submit truck 1 from 1 to 2 asked 2,3 days 2026-03-02 2026-03-02 seen 1 route 2,3 = nomemory
+1 submit truck 2 from 1 to 2 asked 1 days 2026-03-02 2026-03-02 seen 1 none = nomemory
+1 post segment 2 height 167 = posted 2 recalled -
+1 submit truck 1 from 1 to 2 asked none days 2026-03-02 2026-03-02 seen 2 cut 1 = nomemory
+",
+    "\
+1 post segment 1 height 167 = posted 1 recalled -
+1 post segment 3 height 167 = posted 2 recalled -
+1 submit truck 1 from 1 to 2 asked none days 2026-03-02 2026-03-02 seen 2 cut 1,3 = nomemory
+1 submit truck 1 from 1 to 2 asked 2,3/1 days 2026-03-02 2026-03-02 seen 2 fails 3 = nomemory
+1 submit truck 2 from 1 to 2 asked 2,3/1 days 2026-03-02 2026-03-02 seen 2 none = nomemory
+",
+    "\
+1 post segment 3 height 167 = posted 1 recalled -
+1 submit truck 1 from 3 to 1 asked none days 2026-03-02 2026-03-02 seen 1 cut 2,3 = nomemory
+1 submit truck 1 from 1 to 2 asked 1/2,3 days 2026-03-02 2026-03-02 seen 1 fails 3 = nomemory
+1 post segment 2 height 167 = posted 2 recalled -
+1 submit truck 1 from 1 to 2 asked 2,3 days 2026-03-02 2026-03-02 seen 2 fails 2 = nomemory
+",
+    "\
+1 submit truck 1 from 1 to 2 asked none days 2026-03-02 2026-03-02 seen 0 route 1 = nomemory
+1 submit truck 1 from 1 to 3 asked none days 2026-03-02 2026-03-02 seen 0 route 2 = nomemory
+1 post segment 1 closed 1 = posted 1 recalled -
+1 submit truck 1 from 1 to 2 asked none days 2026-03-02 2026-03-02 seen 1 route 2,3 = nomemory
+1 submit truck 1 from 1 to 2 asked 1 days 2026-03-02 2026-03-02 seen 1 fails 1 = nomemory
+1 post segment 1 closed 0 = posted 2 recalled -
+1 post span 2 rating 0 = posted 3 recalled -
+1 submit truck 1 from 1 to 2 asked none days 2026-03-02 2026-03-02 seen 3 route 2,3 = nomemory
+1 post span 2 rating 2000 = posted 4 recalled -
+1 submit truck 1 from 1 to 2 asked none days 2026-03-02 2026-03-02 seen 4 route 1 = nomemory
+1 post span 1 rating 0 = posted 5 recalled -
+1 post segment 3 height 160 = posted 6 recalled -
+1 submit truck 1 from 1 to 2 asked none days 2026-03-02 2026-03-02 seen 6 cut 1,3 = nomemory
+1 submit truck 2 from 1 to 2 asked 1 days 2026-03-02 2026-03-02 seen 6 none = nomemory
+1 post segment 3 height 168 = posted 7 recalled -
+1 submit truck 1 from 1 to 2 asked 2,3 days 2026-03-02 2026-03-02 seen 7 route 2,3 = nomemory
+1 post span 1 rating 2000 = posted 8 recalled -
+1 submit truck 1 from 2 to 1 asked none days 2026-03-02 2026-03-02 seen 8 cut 2 = nomemory
+1 post segment 1 height 160 = posted 9 recalled -
+1 post segment 1 height 168 = posted 10 recalled -
+1 submit truck 1 from 1 to 2 asked none days 2026-03-02 2026-03-02 seen 10 route 1 = nomemory
+1 post segment 2 closed 1 = posted 11 recalled -
+1 submit truck 1 from 1 to 2 asked none days 2026-03-02 2026-03-02 seen 11 route 1 = nomemory
+1 post segment 1 closed 1 = posted 12 recalled -
+1 submit truck 1 from 1 to 2 asked none days 2026-03-02 2026-03-02 seen 12 cut 1 = nomemory
+1 post segment 2 closed 0 = posted 13 recalled -
+1 submit truck 1 from 1 to 2 asked none days 2026-03-02 2026-03-02 seen 13 route 2,3 = nomemory
+1 post segment 1 closed 0 = posted 14 recalled -
+1 submit truck 1 from 1 to 2 asked none days 2026-03-02 2026-03-02 seen 14 route 1 = nomemory
+1 submit truck 1 from 1 to 2 asked 2,3/1 days 2026-03-02 2026-03-02 seen 14 route 2,3/1 = nomemory
+1 post segment 1 closed 1 = posted 15 recalled -
+1 submit truck 1 from 1 to 2 asked 2,3/1 days 2026-03-02 2026-03-02 seen 15 fails 1 = nomemory
+",
 ];
 
-// Looks for what is asked for where these segments are too low, with this counter.
-fn find_at<L: Ledger>(
-    rt: &impl Abort,
-    alloc: Global,
-    base: &Base,
-    trip: &Trip,
-    low: &[u32],
-    steps: &mut Steps<L>,
-) -> What {
-    let application = taken(rt, alloc, base, trip);
-    let state = lowered(rt, alloc, base.network(), low);
-    let what = find(alloc, base, &state, &application, steps).expect(rt, "memory");
-    drop(state);
-    drop(application);
-    what
-}
-
-fn find_lines<L: Ledger>(rt: &impl Abort, alloc: Global, base: &Base, blank: Blank)
-    requires name { blank.name ≡ L.name }
-    requires parts { blank.parts ≡ L.parts }
-    requires some { 0 < blank.parts }
-{
-    let mut steps = Steps::<L>::new(blank);
-    for (trip, low, found) in &FINDINGS {
-        check_found(
-            rt,
-            alloc,
-            find_at(rt, alloc, base, trip, low, &mut steps),
-            found,
-        );
-    }
-}
-
-fn find_each(rt: &impl Abort, alloc: Global, base: &Base) {
-    find_lines::<Brand>(rt, alloc, base, Blank::new(1));
-}
-
-#[test]
-fn finds_a_route_or_why_there_is_none(rt: HostRuntime) {
-    let base = base(&rt, rt.alloc());
-    find_each(&rt, rt.alloc(), &base);
-    drop(base);
-}
-
-// What is posted, what is asked for then, the version, and what is found, one after another. At twice the HS20-44 truck the
-// spans of segment 0 carry truck 0, which weighs less than that truck, and at 0 nothing.
-const HISTORY: [(&[Posted], Trip, u32, &str); 17] = [
-    (
-        &[],
-        (0, 0, 1, &[], "2026-03-02", "2026-03-02"),
-        0,
-        "route [0]",
-    ),
-    (
-        &[],
-        (0, 0, 2, &[], "2026-03-02", "2026-03-02"),
-        0,
-        "route [1]",
-    ),
-    (
-        &[(CLOSED, 0, 1)],
-        (0, 0, 1, &[], "2026-03-02", "2026-03-02"),
-        1,
-        "route [1, 2]",
-    ),
-    (
-        &[],
-        (0, 0, 1, &[&[0]], "2026-03-02", "2026-03-02"),
-        1,
-        "fails 0",
-    ),
-    (
-        &[(CLOSED, 0, 0), (RATING, 1, 0)],
-        (0, 0, 1, &[], "2026-03-02", "2026-03-02"),
-        3,
-        "route [1, 2]",
-    ),
-    (
-        &[(RATING, 1, 2000)],
-        (0, 0, 1, &[], "2026-03-02", "2026-03-02"),
-        4,
-        "route [0]",
-    ),
-    (
-        &[(RATING, 0, 0), (HEIGHT, 2, 160)],
-        (0, 0, 1, &[], "2026-03-02", "2026-03-02"),
-        6,
-        "cut [0, 2]",
-    ),
-    (
-        &[],
-        (1, 0, 1, &[&[0]], "2026-03-02", "2026-03-02"),
-        6,
-        "not needed",
-    ),
-    (
-        &[(HEIGHT, 2, 168)],
-        (0, 0, 1, &[&[1, 2]], "2026-03-02", "2026-03-02"),
-        7,
-        "route [1, 2]",
-    ),
-    (
-        &[(RATING, 0, 2000)],
-        (0, 1, 0, &[], "2026-03-02", "2026-03-02"),
-        8,
-        "cut [1]",
-    ),
-    (
-        &[(HEIGHT, 0, 160), (HEIGHT, 0, 168)],
-        (0, 0, 1, &[], "2026-03-02", "2026-03-02"),
-        10,
-        "route [0]",
-    ),
-    (
-        &[(CLOSED, 1, 1)],
-        (0, 0, 1, &[], "2026-03-02", "2026-03-02"),
-        11,
-        "route [0]",
-    ),
-    (
-        &[(CLOSED, 0, 1)],
-        (0, 0, 1, &[], "2026-03-02", "2026-03-02"),
-        12,
-        "cut [0]",
-    ),
-    (
-        &[(CLOSED, 1, 0)],
-        (0, 0, 1, &[], "2026-03-02", "2026-03-02"),
-        13,
-        "route [1, 2]",
-    ),
-    (
-        &[(CLOSED, 0, 0)],
-        (0, 0, 1, &[], "2026-03-02", "2026-03-02"),
-        14,
-        "route [0]",
-    ),
-    (
-        &[],
-        (0, 0, 1, &[&[1, 2], &[0]], "2026-03-02", "2026-03-02"),
-        14,
-        "route [1, 2] [0]",
-    ),
-    (
-        &[(CLOSED, 0, 1)],
-        (0, 0, 1, &[&[1, 2], &[0]], "2026-03-02", "2026-03-02"),
-        15,
-        "fails 0",
-    ),
-];
-
-// Posts each of these changes.
-#[tactic(auto, using(snapshot_store::proofs::Later::later_same, snapshot_store::proofs::Later::later_posted, snapshot_store::proofs::Later::later_on))]
-fn post_each(rt: &impl Abort, network: &Network, store: &mut Store, changes: &[Posted])
+// Posts a change.
+#[tactic(auto, using(snapshot_store::proofs::Later::later_same, snapshot_store::proofs::Later::later_posted))]
+fn post(rt: &impl Abort, network: &Network, store: &mut Store, change: Change)
     requires { network.now ≡ store.old.roads }
     ensures { IsLater store.old store.new }
 {
-    'postings: for &posted in changes {
-        store.post(network, change(posted)).expect(rt, "a posting");
-    }
+    store.post(network, change).expect(rt, "a posting");
 }
 
-// Posts these changes, and compares what a follower finds then, and at which version.
+// What is found for an application in the state as it is, with this counter.
+fn find_now<L: Ledger>(
+    rt: &impl Abort,
+    alloc: Global,
+    base: &Base,
+    store: &Store,
+    application: &Application,
+    steps: &mut Steps<L>,
+) -> What
+    requires { store.now.roads ≡ base.now.roads }
+{
+    assert!(rt; application.is_sound(base));
+    find(alloc, base, store.now(), application, steps).expect(rt, "memory")
+}
+
+// Compares what is found for an application with a proposal, and so what a follower finds.
+#[tactic(auto, using(trip_analysis::proofs::Following::goes_on_here))]
+fn follow<L: Ledger>(
+    rt: &impl Abort,
+    alloc: Global,
+    base: &Base,
+    store: &Store,
+    follower: &mut Follower,
+    submitted: (&Application, &Proposal),
+    steps: &mut Steps<L>,
+)
+    requires base { follower.old.base ≡ base.now }
+    requires roads { store.now.roads ≡ base.now.roads }
+    requires later { GoesOn follower.old.last store.now }
+    ensures base { follower.new.base ≡ base.now }
+    ensures later { GoesOn follower.new.last store.now }
+{
+    let (application, wanted) = submitted;
+    let what = find_now(rt, alloc, base, store, application, steps);
+    is_found(rt, alloc, what, &wanted.what);
+    let snapshot = store.snapshot().expect(rt, "memory");
+    assert!(rt; application.is_sound(base));
+    let proposal = follower.analyse(alloc, base, snapshot, application, steps);
+    let Proposal { seen, what } = proposal.expect(rt, "memory");
+    is_found(rt, alloc, what, &wanted.what);
+    same(rt, 0, seen, wanted.seen);
+}
+
+// Posts what an entry posts, or compares what it submits.
 #[tactic(auto, using(trip_analysis::proofs::Following::goes_on_later))]
-fn follow_row<L: Ledger>(
+fn follow_entry<L: Ledger>(
     rt: &impl Abort,
     alloc: Global,
     base: &Base,
     store: &mut Store,
     follower: &mut Follower,
-    row: &(&[Posted], Trip, u32, &str),
+    entry: &Entry,
     steps: &mut Steps<L>,
 )
     requires base { follower.old.base ≡ base.now }
     requires roads { store.old.roads ≡ base.now.roads }
     requires later { GoesOn follower.old.last store.old }
-    ensures followed { follower.new ≡ followed base.now store.new }
+    ensures base { follower.new.base ≡ base.now }
     ensures roads { store.new.roads ≡ base.now.roads }
+    ensures later { GoesOn follower.new.last store.new }
 {
-    let &(changes, ref trip, version, found) = row;
-    post_each(rt, base.network(), store, changes);
-    let application = taken(rt, alloc, base, trip);
-    let snapshot = store.snapshot().expect(rt, "memory");
-    let proposal = follower.analyse(alloc, base, snapshot, &application, steps);
-    drop(application);
-    let Proposal { seen, what } = proposal.expect(rt, "memory");
-    check_found(rt, alloc, what, found);
-    same(rt, 0, seen, version);
+    match &entry.call {
+        Call::Post { change } => post(rt, base.network(), store, *change),
+        Call::Submit {
+            application,
+            proposal,
+        } => follow(
+            rt,
+            alloc,
+            base,
+            store,
+            follower,
+            (application, proposal),
+            steps,
+        ),
+        _ => rt.abort(),
+    }
 }
 
-// Follows a store over all rows.
-#[tactic(auto, using(trip_analysis::proofs::Following::goes_on_here))]
-fn follow_rows<L: Ledger>(
+// Follows a store over all entries.
+fn follow_entries<L: Ledger>(
     rt: &impl Abort,
     alloc: Global,
     base: &Base,
     store: &mut Store,
     follower: &mut Follower,
+    entries: &[Entry],
     blank: Blank,
 )
     requires name { blank.name ≡ L.name }
@@ -615,24 +458,40 @@ fn follow_rows<L: Ledger>(
     requires later { GoesOn follower.old.last store.old }
 {
     let mut steps = Steps::<L>::new(blank);
-    'rows: for row in &HISTORY {
-        follow_row(rt, alloc, base, store, follower, row, &mut steps);
+    'entries: for entry in entries {
+        follow_entry(rt, alloc, base, store, follower, entry, &mut steps);
     }
 }
 
 // The same from the first version on.
-fn follow_store(rt: &impl Abort, alloc: Global, base: &Base) {
+fn follow_store(rt: &impl Abort, alloc: Global, base: &Base, entries: &[Entry]) {
     let mut store = Store::start(alloc, base.network()).expect(rt, "memory");
     let mut follower = Follower::new(alloc, base).expect(rt, "memory");
-    follow_rows::<Brand>(rt, alloc, base, &mut store, &mut follower, Blank::new(1));
+    follow_entries::<Brand>(
+        rt,
+        alloc,
+        base,
+        &mut store,
+        &mut follower,
+        entries,
+        Blank::new(1),
+    );
     drop(follower);
     drop(store);
 }
 
+fn follow_each(rt: &impl Abort, alloc: Global, base: &Base) {
+    for lines in &HISTORIES {
+        let entries = entries(rt, alloc, lines);
+        follow_store(rt, alloc, base, entries.as_slice());
+        drop(entries);
+    }
+}
+
 #[test]
-fn follows_a_store_from_version_to_version(rt: HostRuntime) {
+fn finds_a_route_or_why_there_is_none(rt: HostRuntime) {
     let base = base(&rt, rt.alloc());
-    follow_store(&rt, rt.alloc(), &base);
+    follow_each(&rt, rt.alloc(), &base);
     drop(base);
 }
 
@@ -670,12 +529,11 @@ fn learned_base(rt: &impl Abort, alloc: Global) -> Base {
     base
 }
 
-// The findings and the history of the tests above.
+// The histories of the test above.
 #[test]
 fn finds_the_same_by_what_a_base_keeps(rt: HostRuntime) {
     let base = learned_base(&rt, rt.alloc());
-    find_each(&rt, rt.alloc(), &base);
-    follow_store(&rt, rt.alloc(), &base);
+    follow_each(&rt, rt.alloc(), &base);
     drop(base);
 }
 

@@ -3,7 +3,9 @@
 ghost use Rattle.restriction_log.specs.States.{AreOf};
 
 use axle_train::{Axle, Train};
+use journal_reader::read;
 use names::Name;
+use office_words::Entry;
 use permit_days::Day;
 use restriction_log::{Change, State, takes};
 use road_graph::{AddRefusal, Network, What};
@@ -35,6 +37,13 @@ pub fn named(rt: &impl Abort, bytes: &[u8]) -> Name {
 // The day of a text, which writes one.
 pub fn day(rt: &impl Abort, text: &str) -> Day {
     Day::read(text.as_bytes()).expect(rt, text)
+}
+
+// The entries of these lines of a journal.
+pub fn entries(rt: &impl Abort, alloc: Global, lines: &str) -> Vec<Entry> {
+    let count = lines.lines().count();
+    let text = format!(in alloc; "permit-journal 3\n{lines}end {count}\n").expect(rt, "memory");
+    read(alloc, text.as_bytes()).expect(rt, lines)
 }
 
 // A train of axles at these places, in inches, with these weights in pounds.
