@@ -2,11 +2,17 @@ ghost use Rattle.std.specs.Prelude.{◌≡◌, ◌<◌, ◌≤◌, [], All, IfOk
 ghost use Rattle.std.specs.Arc.{arc_value};
 ghost use Rattle.office_core.specs.Replies.{is_full};
 ghost use Rattle.office_core.specs.Seats.{calls_of};
-ghost use Rattle.analyst_pool.specs.Interrupted.{Interrupts};
+ghost use Rattle.office_core.specs.Calls.{Answered};
+ghost use Rattle.office_core.specs.Machine.{MayAsk};
+ghost use Rattle.office_core.specs.Offices.{machine_in};
+ghost use Rattle.analyst_pool.specs.Interrupted.{Interrupts, shared};
 ghost use Rattle.office_words.specs.Commands.{MayCarryOut};
 ghost use Rattle.analyst_pool.specs.Ran.{HasNotBegun};
 
-use crate::fixtures::{ALONE, AROUND, application, base, day, full_at, journal_ends, office};
+use crate::fixtures::{
+    ALONE, About, ONE_WAY, ROOM_FOR_ONE, SHUT_WAY, WAY_AROUND, application, base, day, full_at,
+    journal_ends, office,
+};
 use analyst_pool::{
     Errand, Finder, Gate, OpenGate, Outcome, Worker, carry_out, decide, most_entries, run_actors,
 };
@@ -68,19 +74,6 @@ fn post<L: Ledger>(office: &mut CountedOffice<L>, change: Change)
     drop(seat.post(change));
 }
 
-// Posts the last of these changes as caller 1, if one is left. Those that are left then.
-fn interrupt<'a, L: Ledger>(office: &mut CountedOffice<L>, changes: &'a [Change]) -> &'a [Change]
-    ensures { Interrupts office.old.office office.new.office }
-{
-    match changes.split_last() {
-        Some((change, left)) => {
-            post(office, *change);
-            left
-        }
-        None => changes,
-    }
-}
-
 // The reply, which is not that the history is full.
 fn unless_full(rt: &impl Abort, reply: Reply) -> Reply
     ensures value { result ≡ reply }
@@ -90,6 +83,31 @@ fn unless_full(rt: &impl Abort, reply: Reply) -> Reply
         Reply::Full { .. } => rt.abort(),
         reply => reply,
     }
+}
+
+// Asks as caller 0, where nobody comes between.
+fn ask_alone<L: Ledger>(office: &mut CountedOffice<L>, asked: Call) -> Reply
+    requires { MayAsk office.old.office.base (machine_in office.old.office) asked }
+    ensures { Answered (shared 0 office.old.office) asked result (shared 0 office.new.office) }
+{
+    let mut seat = OneSeat::new(office, 0);
+    seat.ask(asked)
+}
+
+// Asks as caller 0 behind a posting of caller 1.
+fn ask_behind<L: Ledger>(
+    rt: &impl Abort,
+    office: &mut CountedOffice<L>,
+    change: Change,
+    asked: Call,
+) -> Reply
+    requires { MayAsk office.old.office.base (machine_in office.old.office) asked }
+    ensures { Answered (shared 0 office.old.office) asked result (shared 0 office.new.office) }
+{
+    post(office, change);
+    let mut seat = OneSeat::new(office, 0);
+    let reply = seat.ask(asked);
+    unless_full(rt, reply)
 }
 
 impl<R: Abort, L: Ledger> OfficeCalls for Interrupted<'_, R, L> {
@@ -105,20 +123,70 @@ impl<R: Abort, L: Ledger> OfficeCalls for Interrupted<'_, R, L> {
     }
 
     fn ask(&mut self, asked: Call) -> Reply {
-        self.changes = interrupt(&mut self.office, self.changes);
-        let mut seat = OneSeat::new(&mut self.office, 0);
-        let reply = seat.ask(asked);
-        unless_full(self.rt, reply)
+        match self.changes.split_last() {
+            Some((change, left)) => {
+                self.changes = left;
+                ask_behind(self.rt, &mut self.office, *change, asked)
+            }
+            None => ask_alone(&mut self.office, asked),
+        }
     }
 }
 
-// Carries out a command, of which the gate is told this. How many entries the history held, where it was full, and else 0.
+// What is asked for: an application, one that is handed over, a posting, the next day, that a permit is given back, or a look at one.
+const APPLY: u32 = 0;
+
+const HANDED_OVER: u32 = 1;
+
+const POST: u32 = 2;
+
+const DAY: u32 = 3;
+
+const SURRENDER: u32 = 4;
+
+const SHOW: u32 = 5;
+
+fn command(rt: &impl Abort, base: &Base, kind: u32) -> Command
+    ensures { MayCarryOut base.now result }
+{
+    match kind {
+        POST => Command::Post(CLOSED),
+        DAY => Command::Day(day(rt, "2026-03-03")),
+        SURRENDER => Command::Surrender(1),
+        SHOW => Command::Show(1),
+        _ => Command::Apply(application(rt, base, 0, 1, "2026-03-02")),
+    }
+}
+
+// Carries out a command of this kind.
+fn carry_out_one<C: OfficeCalls, G: Gate, L: Ledger>(
+    rt: &impl Abort,
+    alloc: Global,
+    calls: &mut C,
+    errand: &Errand<G>,
+    kind: u32,
+    blank: Blank,
+) -> Reply
+    requires name { blank.name ≡ L.name }
+    requires parts { blank.parts ≡ L.parts }
+    requires some { 0 < blank.parts }
+    requires base { errand.now.base.now ≡ (C.view calls.old).who.base }
+{
+    let command = command(rt, errand.base, kind);
+    let mut finder = Finder::<L>::new(blank);
+    let reply = carry_out(alloc, calls, &mut finder, &command, errand);
+    drop(finder);
+    drop(command);
+    reply
+}
+
+// Asks for what is of this kind, and the gate is told this. How many entries the history held, where it was full, and else 0.
 fn tell<C: OfficeCalls, L: Ledger>(
     rt: &impl Abort,
     alloc: Global,
     calls: &mut C,
     base: &Base,
-    command: &Command,
+    kind: u32,
     told: u64,
     blank: Blank,
 ) -> u32
@@ -126,7 +194,6 @@ fn tell<C: OfficeCalls, L: Ledger>(
     requires parts { blank.parts ≡ L.parts }
     requires some { 0 < blank.parts }
     requires base { base.now ≡ (C.view calls.old).who.base }
-    requires sound { MayCarryOut base.now command.now }
 {
     let gate = Digits { told: Cell::new(1) };
     let errand = Errand {
@@ -135,16 +202,19 @@ fn tell<C: OfficeCalls, L: Ledger>(
         actor: 2,
         command: 5,
     };
-    let mut finder = Finder::<L>::new(blank);
-    let reply = carry_out(alloc, calls, &mut finder, command, &errand);
-    drop(finder);
+    let reply = if kind == HANDED_OVER {
+        let wanted = application(rt, base, 0, 1, "2026-03-02");
+        decide::<C, Digits, L>(alloc, calls, wanted, &errand, blank)
+    } else {
+        carry_out_one::<C, Digits, L>(rt, alloc, calls, &errand, kind, blank)
+    };
     assert_eq!(rt; gate.told.get(), told);
     full_at(reply)
 }
 
-// Segments, the height of segment 1, what caller 2 posts, the last first; and then what the gate is told, and
-// how the journal ends: the reply and how many entries there are.
-type Row = (&'static str, u32, &'static [Change], u64, &'static str);
+// What the office is about, what is asked for, and what caller 2 posts, the last first; and then what the gate is told, how many
+// entries a full history held, and how the journal ends: the reply and how many entries there are.
+type Row = (About, u32, &'static [Change], u64, u32, &'static str);
 
 const CLOSED: Change = Change::Closed {
     segment: 0,
@@ -164,59 +234,100 @@ const HIGHER: Change = Change::Height {
 const ROWS: &[Row] = &[
     // at once
     (
-        ALONE,
-        168,
+        ONE_WAY,
+        APPLY,
         &[],
         1_019,
+        0,
+        "seen 0 route 1 = issued 1 at 0 route 1\nend 2\n",
+    ),
+    // the same without a command
+    (
+        ONE_WAY,
+        HANDED_OVER,
+        &[],
+        11,
+        0,
         "seen 0 route 1 = issued 1 at 0 route 1\nend 2\n",
     ),
     // the route fails, and the next goes around
     (
-        AROUND,
-        168,
+        WAY_AROUND,
+        APPLY,
         &[CLOSED],
         10_129,
+        0,
         "seen 1 route 2,3 = issued 1 at 1 route 2,3\nend 5\n",
     ),
     // what stood in the way meets
     (
-        ALONE,
-        160,
+        SHUT_WAY,
+        APPLY,
         &[HIGHER],
         10_129,
+        0,
         "seen 1 route 1 = issued 1 at 1 route 1\nend 5\n",
     ),
     // the eighth attempt is answered
     (
-        ALONE,
-        168,
+        ONE_WAY,
+        APPLY,
         &[CLOSED, OPEN, CLOSED, OPEN, CLOSED, OPEN, CLOSED],
         10_123_456_789,
+        0,
         "seen 7 cut 1 = refused 7 segment 1 closed\nend 23\n",
     ),
     // and after eight the office is asked itself
     (
-        ALONE,
-        168,
+        ONE_WAY,
+        APPLY,
         &[OPEN, CLOSED, OPEN, CLOSED, OPEN, CLOSED, OPEN, CLOSED],
         10_123_456_789,
+        0,
         "held truck 1 from 1 to 2 asked none days 2026-03-02 2026-03-06 = issued 1 at 8 route 1\nend 25\n",
     ),
+    // a history that is full ahead of the submit
+    (
+        ROOM_FOR_ONE,
+        APPLY,
+        &[],
+        1_019,
+        1,
+        "permit-journal 3\n1 snapshot = at 0\nend 1\n",
+    ),
+    (
+        ONE_WAY,
+        POST,
+        &[],
+        109,
+        0,
+        "permit-journal 3\n1 post segment 1 closed 1 = posted 1 recalled -\nend 1\n",
+    ),
+    (
+        ONE_WAY,
+        DAY,
+        &[],
+        109,
+        0,
+        "permit-journal 3\n1 day 2026-03-03 = day 2026-03-03\nend 1\n",
+    ),
+    (
+        ONE_WAY,
+        SURRENDER,
+        &[],
+        109,
+        0,
+        "permit-journal 3\n1 surrender 1 = unknown\nend 1\n",
+    ),
+    (
+        ONE_WAY,
+        SHOW,
+        &[],
+        109,
+        0,
+        "permit-journal 3\n1 show 1 = unknown\nend 1\n",
+    ),
 ];
-
-#[test]
-fn decides_while_another_posts(rt: HostRuntime) {
-    for row in ROWS {
-        decides(&rt, rt.alloc(), row);
-    }
-}
-
-fn decides<R: Abort>(rt: &R, alloc: Global, row: &Row) {
-    let base = shared_base(rt, alloc, row.0, row.1);
-    let office = office(rt, alloc, share(rt, &base), 100);
-    decides_in::<R, Brand, Brand>(rt, alloc, office, &base, row, Blank::new(1), Blank::new(1));
-    drop(base);
-}
 
 // The roads with these segments, and the trucks, for an office and for those who call it.
 fn shared_base(rt: &impl Abort, alloc: Global, segments: &str, height: u32) -> Arc<Base, Global> {
@@ -229,8 +340,8 @@ fn share(rt: &impl Abort, base: &Arc<Base, Global>) -> Arc<Base, Global>
     Arc::try_clone(base).expect(rt, "memory")
 }
 
-// Decides the application in this office, while the changes of the row are posted.
-fn decides_in<R: Abort, L: Ledger, F: Ledger>(
+// What is asked for goes as a row says, in this office.
+fn goes_in<R: Abort, L: Ledger, F: Ledger>(
     rt: &R,
     alloc: Global,
     office: Office,
@@ -248,150 +359,31 @@ fn decides_in<R: Abort, L: Ledger, F: Ledger>(
     requires base { office.base ≡ base.now }
     requires opened { office.history ≡ [] }
 {
-    let &(_, _, changes, told, ends) = row;
-    let command = command(rt, base, 0);
+    let &(_, kind, changes, told, wanted, ends) = row;
     let mut calls = Interrupted {
         rt,
         office: CountedOffice::<L>::new(office, tests),
         changes,
     };
-    let full = tell::<Interrupted<'_, R, L>, F>(rt, alloc, &mut calls, base, &command, told, found);
-    drop(command);
+    let full = tell::<Interrupted<'_, R, L>, F>(rt, alloc, &mut calls, base, kind, told, found);
     journal_ends(rt, alloc, calls.office.office(), ends);
     drop(calls);
-    assert_eq!(rt; full, 0);
+    assert_eq!(rt; full, wanted);
 }
 
-// How many entries the history may hold, and which command is asked; and then how many a full history held, what the gate
-// is told and how the journal ends.
-type Asked = (u32, u32, u32, u64, &'static str);
-
-const ASKED: &[Asked] = &[
-    // a history that is full ahead of the submit
-    (1, 0, 1, 1_019, "1 snapshot = at 0\nend 1\n"),
-    (
-        100,
-        1,
-        0,
-        109,
-        "1 post segment 1 closed 1 = posted 1 recalled -\nend 1\n",
-    ),
-    (100, 2, 0, 109, "1 day 2026-03-03 = day 2026-03-03\nend 1\n"),
-    (100, 3, 0, 109, "1 surrender 1 = unknown\nend 1\n"),
-    (100, 4, 0, 109, "1 show 1 = unknown\nend 1\n"),
-];
-
-// An application, a posting, the next day, a permit that is given back, or a look at one.
-fn command(rt: &impl Abort, base: &Base, kind: u32) -> Command
-    ensures { MayCarryOut base.now result }
-{
-    match kind {
-        0 => Command::Apply(application(rt, base, 0, 1, "2026-03-02")),
-        1 => Command::Post(CLOSED),
-        2 => Command::Day(day(rt, "2026-03-03")),
-        3 => Command::Surrender(1),
-        _ => Command::Show(1),
-    }
-}
-
-#[test]
-fn tells_the_gate_around_each_command(rt: HostRuntime) {
-    for asked in ASKED {
-        asks(&rt, rt.alloc(), asked);
-    }
-}
-
-fn asks<R: Abort>(rt: &R, alloc: Global, asked: &Asked) {
-    let base = shared_base(rt, alloc, ALONE, 168);
-    let office = office(rt, alloc, share(rt, &base), asked.0);
-    asks_of::<R, Brand, Brand>(
-        rt,
-        alloc,
-        office,
-        &base,
-        asked,
-        Blank::new(1),
-        Blank::new(1),
-    );
+fn goes<R: Abort>(rt: &R, alloc: Global, row: &Row) {
+    let (segments, height, most) = row.0;
+    let base = shared_base(rt, alloc, segments, height);
+    let office = office(rt, alloc, share(rt, &base), most);
+    goes_in::<R, Brand, Brand>(rt, alloc, office, &base, row, Blank::new(1), Blank::new(1));
     drop(base);
 }
 
-// Asks a command of this office by a seat.
-fn asks_of<R: Abort, L: Ledger, F: Ledger>(
-    rt: &R,
-    alloc: Global,
-    office: Office,
-    base: &Base,
-    asked: &Asked,
-    tests: Blank,
-    found: Blank,
-)
-    requires tests_name { tests.name ≡ L.name }
-    requires tests_parts { tests.parts ≡ L.parts }
-    requires tests_some { 0 < tests.parts }
-    requires found_name { found.name ≡ F.name }
-    requires found_parts { found.parts ≡ F.parts }
-    requires found_some { 0 < found.parts }
-    requires base { office.base ≡ base.now }
-    requires opened { office.history ≡ [] }
-{
-    let &(_, kind, full, told, ends) = asked;
-    let command = command(rt, base, kind);
-    let mut office = CountedOffice::<L>::new(office, tests);
-    let mut seat = OneSeat::new(&mut office, 0);
-    let was_full = tell::<OneSeat<'_, L>, F>(rt, alloc, &mut seat, base, &command, told, found);
-    drop(command);
-    journal_ends(rt, alloc, office.office(), ends);
-    drop(office);
-    assert_eq!(rt; was_full, full);
-}
-
-// An application that is handed over, decided at once.
 #[test]
-fn decides_an_application(rt: HostRuntime) {
-    let alloc = rt.alloc();
-    let base = shared_base(&rt, alloc, ALONE, 168);
-    let office = office(&rt, alloc, share(&rt, &base), 17);
-    decided::<Brand, Brand>(&rt, alloc, office, &base, Blank::new(1), Blank::new(1));
-    drop(base);
-}
-
-fn decided<L: Ledger, F: Ledger>(
-    rt: &impl Abort,
-    alloc: Global,
-    office: Office,
-    base: &Base,
-    tests: Blank,
-    found: Blank,
-)
-    requires tests_name { tests.name ≡ L.name }
-    requires tests_parts { tests.parts ≡ L.parts }
-    requires tests_some { 0 < tests.parts }
-    requires found_name { found.name ≡ F.name }
-    requires found_parts { found.parts ≡ F.parts }
-    requires found_some { 0 < found.parts }
-    requires base { office.base ≡ base.now }
-    requires opened { office.history ≡ [] }
-{
-    let wanted = application(rt, base, 0, 1, "2026-03-02");
-    let errand = Errand {
-        base,
-        gate: &OpenGate,
-        actor: 0,
-        command: 0,
-    };
-    let mut office = CountedOffice::<L>::new(office, tests);
-    let mut seat = OneSeat::new(&mut office, 0);
-    let reply = decide::<OneSeat<'_, L>, OpenGate, F>(alloc, &mut seat, wanted, &errand, found);
-    let full = full_at(reply);
-    journal_ends(
-        rt,
-        alloc,
-        office.office(),
-        "= issued 1 at 0 route 1\nend 2\n",
-    );
-    drop(office);
-    assert_eq!(rt; full, 0);
+fn carries_out_commands_while_another_posts(rt: HostRuntime) {
+    for row in ROWS {
+        goes(&rt, rt.alloc(), row);
+    }
 }
 
 #[test]
@@ -406,10 +398,10 @@ type Scripted = (u32, &'static [u32], Outcome, usize);
 
 const SCRIPTS: &[Scripted] = &[
     (100, &[], Outcome::Done, 0),
-    (100, &[1, 0, 2, 4], Outcome::Done, 5),
+    (100, &[POST, APPLY, DAY, SHOW], Outcome::Done, 5),
     (
         2,
-        &[1, 2, 4, 3],
+        &[POST, DAY, SHOW, SURRENDER],
         Outcome::Full {
             command: 2,
             entries: 2,
@@ -419,7 +411,7 @@ const SCRIPTS: &[Scripted] = &[
     // a history that is full behind a snapshot
     (
         2,
-        &[1, 0],
+        &[POST, APPLY],
         Outcome::Full {
             command: 1,
             entries: 2,

@@ -1,91 +1,79 @@
-use crate::calls::{answer, submission};
-use crate::fixtures::{ALONE, application, base, day, office};
+use crate::fixtures::{ALONE, base, day};
 use journal_audit::{Verdict, audit};
 use journal_reader::read;
-use office_words::{Call, Entry};
+use office_words::Entry;
 use std::alloc::Global;
 use std::process::Abort;
 use std::sync::Arc;
 
-// What an audit says of entries on one segment, on which the first truck just fits.
-fn verdict(rt: &impl Abort, alloc: Global, history: &[Entry]) -> Verdict {
-    let base = Arc::new(alloc, base(rt, alloc, ALONE, 168)).expect(rt, "memory");
+// What an audit says of entries on these segments, of which the first is posted at a height.
+pub(crate) fn verdict(
+    rt: &impl Abort,
+    alloc: Global,
+    segments: &str,
+    height: u32,
+    history: &[Entry],
+) -> Verdict {
+    let base = Arc::new(alloc, base(rt, alloc, segments, height)).expect(rt, "memory");
     assert!(rt; history.len() <= 1_000_000);
     audit(alloc, base, day(rt, "2026-03-02"), history).expect(rt, "memory")
 }
 
-// The same of the lines of a journal.
+// The same of the lines of a journal, on one segment on which the first truck just fits. They are of the first format, which has the
+// same words.
 fn verdict_on(rt: &impl Abort, alloc: Global, lines: &str) -> Verdict {
     let entries = lines.lines().count();
     let text = format!(in alloc; "permit-journal 1\n{lines}end {entries}\n").expect(rt, "memory");
     let history = read(alloc, text.as_bytes()).expect(rt, "a journal");
-    let verdict = verdict(rt, alloc, history.as_slice());
+    let verdict = verdict(rt, alloc, ALONE, 168, history.as_slice());
     drop(history);
     verdict
 }
 
-#[test]
-fn calls_an_offices_history_legal(rt: HostRuntime) {
-    let alloc = rt.alloc();
-    let base = Arc::new(alloc, base(&rt, alloc, ALONE, 168)).expect(&rt, "memory");
-    let mut office = office(&rt, alloc, base, 100);
-    let trip = application(&rt, office.base(), 0, 1, "2026-03-02");
-    let call = submission(&rt, alloc, &office, trip);
-    let _reply = answer(&mut office, 0, call);
-    let _reply = answer(&mut office, 1, Call::Show { number: 1 });
-    let verdict = verdict(&rt, alloc, office.history());
-    drop(office);
-    assert!(rt; verdict == Verdict::Legal);
-}
-
-// Entries of a journal that are legal, and behind them one on which the verdict depends.
+// Entries of a journal that are legal.
 const BEGIN: &str = "\
 1 submit truck 1 from 1 to 2 asked none days 2026-03-02 2026-03-06 seen 0 route 1 = issued 1 at 0 route 1
 2 post segment 1 height 167 = posted 1 recalled 1
 ";
 
 // Each of these behind the begin is legal.
-const LEGAL: [&str; 6] = [
-    "1 submit truck 1 from 1 to 2 asked none days 2026-03-02 2026-03-06 seen 1 cut 1 = refused 1 segment 1 height 168 over 167\n",
-    "1 submit truck 2 from 1 to 2 asked none days 2026-03-02 2026-03-06 seen 0 route 1 = issued 2 at 1 route 1\n",
-    "1 submit truck 2 from 1 to 2 asked none days 2026-03-02 2026-03-06 seen 0 route 1 = nomemory\n",
-    "1 held truck 1 from 1 to 2 asked none days 2026-03-02 2026-03-06 = nomemory\n",
-    "2 post segment 1 height 160 = nomemory\n",
-    "1 show 9 = unknown\n",
-];
+const LEGAL: &str = "\
+1 submit truck 1 from 1 to 2 asked none days 2026-03-02 2026-03-06 seen 1 cut 1 = refused 1 segment 1 height 168 over 167
+1 submit truck 2 from 1 to 2 asked none days 2026-03-02 2026-03-06 seen 0 route 1 = issued 2 at 1 route 1
+1 submit truck 2 from 1 to 2 asked none days 2026-03-02 2026-03-06 seen 0 route 1 = nomemory
+1 held truck 1 from 1 to 2 asked none days 2026-03-02 2026-03-06 = nomemory
+2 post segment 1 height 160 = nomemory
+1 show 9 = unknown
+";
 
-// None of these is.
-const BAD: [&str; 9] = [
-    // what was found then is not what is proposed
-    "1 submit truck 1 from 1 to 2 asked none days 2026-03-02 2026-03-06 seen 1 route 1 = outdated 1 fails segment 1 height 168 over 167\n",
-    // the version is to come
-    "1 submit truck 1 from 1 to 2 asked none days 2026-03-02 2026-03-06 seen 2 cut 1 = refused 1 segment 1 height 168 over 167\n",
-    // the truck is not there
-    "1 held truck 9 from 1 to 2 asked none days 2026-03-02 2026-03-06 = notneeded\n",
-    // the days are no days of a trip
-    "1 held truck 3 from 1 to 2 asked none days 2026-03-06 2026-03-02 = notneeded\n",
-    // the number is another
-    "1 submit truck 2 from 1 to 2 asked none days 2026-03-02 2026-03-06 seen 0 route 1 = issued 3 at 1 route 1\n",
-    // no memory is wanted
-    "1 submit truck 1 from 1 to 2 asked none days 2026-03-02 2026-03-06 seen 1 cut 1 = nomemory\n",
-    "1 held truck 3 from 1 to 2 asked none days 2026-03-02 2026-03-06 = nomemory\n",
-    "2 post segment 2 height 160 = nomemory\n",
-    "1 snapshot = nomemory\n",
-];
+// What was found then is not what is proposed; the version is to come; the truck is not there; the days are no days of a trip; the
+// number is another; and of four calls no memory is wanted.
+const BAD: &str = "\
+1 submit truck 1 from 1 to 2 asked none days 2026-03-02 2026-03-06 seen 1 route 1 = outdated 1 fails segment 1 height 168 over 167
+1 submit truck 1 from 1 to 2 asked none days 2026-03-02 2026-03-06 seen 2 cut 1 = refused 1 segment 1 height 168 over 167
+1 held truck 9 from 1 to 2 asked none days 2026-03-02 2026-03-06 = notneeded
+1 held truck 3 from 1 to 2 asked none days 2026-03-06 2026-03-02 = notneeded
+1 submit truck 2 from 1 to 2 asked none days 2026-03-02 2026-03-06 seen 0 route 1 = issued 3 at 1 route 1
+1 submit truck 1 from 1 to 2 asked none days 2026-03-02 2026-03-06 seen 1 cut 1 = nomemory
+1 held truck 3 from 1 to 2 asked none days 2026-03-02 2026-03-06 = nomemory
+2 post segment 2 height 160 = nomemory
+1 snapshot = nomemory
+";
+
+// What is said of a line behind the begin, and before one that is legal.
+fn judge(rt: &impl Abort, alloc: Global, line: &str, wanted: Verdict) {
+    let lines = format!(in alloc; "{BEGIN}{line}\n1 show 0 = unknown\n").expect(rt, "memory");
+    let verdict = verdict_on(rt, alloc, lines.as_str());
+    drop(lines);
+    assert!(rt; verdict == wanted, "{line}");
+}
 
 #[test]
 fn names_the_first_bad_entry(rt: HostRuntime) {
-    let alloc = rt.alloc();
-    for line in LEGAL {
-        let lines = format!(in alloc; "{BEGIN}{line}").expect(&rt, "memory");
-        assert!(rt;
-            verdict_on(&rt, alloc, lines.as_str()) == Verdict::Legal,
-            "{line}"
-        );
+    for line in LEGAL.lines() {
+        judge(&rt, rt.alloc(), line, Verdict::Legal);
     }
-    for line in BAD {
-        let lines = format!(in alloc; "{BEGIN}{line}1 show 0 = unknown\n").expect(&rt, "memory");
-        let verdict = verdict_on(&rt, alloc, lines.as_str());
-        assert!(rt; verdict == Verdict::Bad { entry: 2 }, "{line}");
+    for line in BAD.lines() {
+        judge(&rt, rt.alloc(), line, Verdict::Bad { entry: 2 });
     }
 }

@@ -8,15 +8,18 @@ ghost use Rattle.office_core.specs.Machine.{MayAsk};
 ghost use Rattle.office_core.specs.Offices.{machine_in};
 ghost use Rattle.office_core.specs.Calls.{machine_seen};
 
-use crate::fixtures::{ALONE, AROUND, application, base, day, full_at, office_about, recall};
+use crate::audits::verdict;
+use crate::fixtures::{
+    About, ONE_WAY, OVER_A_BRIDGE, ROOM_FOR_TWO, SHUT_WAY, WAY_AROUND, base, entries, full_at,
+    has_lines, office_about,
+};
 use clearance_rules::Steps;
-use journal_text::print;
+use journal_audit::Verdict;
 use names::NoMemory;
 use notice_desk::Recall;
 use office_core::{CountedOffice, Looked, Office, OfficeCalls, OneSeat};
-use office_words::{Call, Reply};
+use office_words::{Call, Entry, Reply};
 use reroute_desk::recalls;
-use restriction_log::Change;
 use snapshot_store::Snapshot;
 use std::alloc::Global;
 use std::marker::Brand;
@@ -27,68 +30,41 @@ use trip_analysis::{Application, Base, Proposal, analyse};
 // Each day is the lines of a journal: the calls that they have are made, and the journal is then these lines. What a submit
 // has is found behind the look before it. Each day is gone through twice, once by calls of the office and once by seats.
 
-// The word of a text with this number, from 0, or nothing where there are fewer.
-fn word(text: &str, i: usize) -> &str {
-    text.split(' ').nth(i).unwrap_or("")
-}
-
-// The number of a word, or 0.
-fn number(text: &str, i: usize) -> u32 {
-    word(text, i).parse().unwrap_or(0)
-}
-
-// What counts from 1 in a journal, from 0.
-fn place(text: &str, i: usize) -> u32 {
-    number(text, i).saturating_sub(1)
-}
-
-// The trip of `CALLER KIND truck T from 1 to 2 asked none days DAY 2026-03-06`.
-fn trip(rt: &impl Abort, office: &Office, line: &str) -> Application
-    ensures { Sound office.now.base result }
+// An application once more, of which all is there and nothing refuses it.
+pub(crate) fn trip(rt: &impl Abort, base: &Base, application: &Application) -> Application
+    ensures { Sound base.now result }
 {
-    application(rt, office.base(), place(line, 3), 1, word(line, 11))
+    assert!(rt; application.is_sound(base));
+    application.try_clone().expect(rt, "memory")
 }
 
-// The change of `CALLER post segment S KIND VALUE`.
-fn change(line: &str) -> Change {
-    let (segment, value) = (place(line, 3), number(line, 5));
-    match word(line, 4) {
-        "closed" => Change::Closed {
-            segment,
-            closed: value == 1,
+// A call once more that submits nothing.
+pub(crate) fn call_again(rt: &impl Abort, office: &Office, call: &Call) -> Call
+    ensures { MayAsk office.now.base (machine_in office.now) result }
+{
+    match call {
+        Call::Snapshot => Call::Snapshot,
+        Call::Submit { .. } => rt.abort(),
+        Call::Held { application } => Call::Held {
+            application: trip(rt, office.base(), application),
         },
-        _ => Change::Height {
-            segment,
-            inches: value,
-        },
+        Call::Post { change } => Call::Post { change: *change },
+        Call::Day { day } => Call::Day { day: *day },
+        Call::Surrender { number } => Call::Surrender { number: *number },
+        Call::Show { number } => Call::Show { number: *number },
     }
 }
 
-// The call of a line. What was found is handed over where it is submitted.
-fn call_of(rt: &impl Abort, office: &Office, found: &mut Option<Call>, line: &str) -> Call
+// A call once more. What was found is handed over where it is submitted.
+fn call_of(rt: &impl Abort, office: &Office, found: &mut Option<Call>, call: &Call) -> Call
     requires { IfSome found.old (MayAsk office.now.base (machine_in office.now)) }
     ensures found { IfSome found.new (MayAsk office.now.base (machine_in office.now)) }
     ensures asked { MayAsk office.now.base (machine_in office.now) result }
 {
-    match word(line, 1) {
-        "snapshot" => Call::Snapshot,
-        "submit" => found.take().expect(rt, "what was found"),
-        "held" => Call::Held {
-            application: trip(rt, office, line),
-        },
-        "day" => Call::Day {
-            day: day(rt, word(line, 2)),
-        },
-        "surrender" => Call::Surrender {
-            number: number(line, 2),
-        },
-        "show" => Call::Show {
-            number: number(line, 2),
-        },
-        _ => Call::Post {
-            change: change(line),
-        },
+    if matches!(call, Call::Submit { .. }) {
+        return found.take().expect(rt, "what was found");
     }
+    call_again(rt, office, call)
 }
 
 // Makes a call of the office, with this counter.
@@ -225,190 +201,172 @@ fn look_for<L: Ledger>(
     analyse(alloc, base, snapshot, application, &mut steps)
 }
 
-// What the next submit has, from a line on: what is found now for its trip.
-fn found_for(
-    rt: &impl Abort,
-    alloc: Global,
-    office: &Office,
-    lines: &str,
-    from: usize,
-) -> Option<Call>
+// What the first submit of these entries has: what is found now for its trip.
+fn found_for(rt: &impl Abort, alloc: Global, office: &Office, entries: &[Entry]) -> Option<Call>
     ensures { IfSome result (MayAsk office.now.base (machine_in office.now)) }
 {
-    for line in lines.lines().skip(from) {
-        if word(line, 1) == "submit" {
-            return Some(submission(rt, alloc, office, trip(rt, office, line)));
+    for entry in entries {
+        if let Call::Submit { application, .. } = &entry.call {
+            let application = trip(rt, office.base(), application);
+            return Some(submission(rt, alloc, office, application));
         }
     }
     None
 }
 
-// Makes the call of a line, by a seat or not. How many entries the history held, where it was full, and else 0.
+// Makes the call of an entry, by a seat or not. How many entries the history held, where it was full, and else 0.
 fn serve<L: Ledger>(
     rt: &impl Abort,
     office: &mut CountedOffice<L>,
     found: &mut Option<Call>,
-    line: &str,
+    entry: &Entry,
     by_seat: bool,
 ) -> u32
     requires { IfSome found.old (MayAsk office.old.office.base (machine_in office.old.office)) }
     ensures { IfSome found.new (MayAsk office.new.office.base (machine_in office.new.office)) }
 {
-    let call = call_of(rt, office.office(), found, line);
-    let reply = answer_counted(office, place(line, 0) % 65_536, call, by_seat);
+    let call = call_of(rt, office.office(), found, &entry.call);
+    let reply = answer_counted(office, entry.caller % 65_536, call, by_seat);
     full_at(reply)
 }
 
-// Makes the calls of all lines. The sum of what the replies say that a full history held.
+// Makes the calls of all entries. The sum of what the replies say that a full history held.
 fn serve_each<L: Ledger>(
     rt: &impl Abort,
     alloc: Global,
     office: &mut CountedOffice<L>,
-    lines: &str,
+    entries: &[Entry],
     by_seat: bool,
 ) -> u32 {
     let mut full = 0u32;
     let mut found = None;
-    'lines: for (i, line) in lines.lines().enumerate() {
-        full = full.wrapping_add(serve(rt, office, &mut found, line, by_seat));
-        if word(line, 1) == "snapshot" {
-            found = found_for(rt, alloc, office.office(), lines, i);
+    'entries: for (i, entry) in entries.iter().enumerate() {
+        full = full.wrapping_add(serve(rt, office, &mut found, entry, by_seat));
+        if matches!(&entry.call, Call::Snapshot) {
+            found = found_for(rt, alloc, office.office(), &entries[i..]);
         }
     }
     full
 }
 
-// The journal of the office has these lines, so many.
-fn has_lines(rt: &impl Abort, alloc: Global, office: &Office, lines: &str, entries: usize) {
-    let wanted = format!(in alloc; "permit-journal 3\n{lines}end {entries}\n");
-    let journal = print(alloc, office.history()).expect(rt, "memory");
-    assert!(rt;
-        journal.as_slice() == wanted.expect(rt, "memory").as_bytes(),
-        "{lines}"
-    );
+// A line for each recall: the permit, the version of the posting, and the carrier.
+fn lines_of(rt: &impl Abort, alloc: Global, recalls: &[Recall]) -> String {
+    let mut lines = String::new(alloc);
+    for recall in recalls {
+        let (permit, version, carrier) = (recall.permit, recall.version, recall.carrier);
+        write!(lines, "{permit} {version} {carrier}\n").expect(rt, "memory");
+    }
+    lines
 }
 
-// The calls of these lines make the history, and those of the last lines find that it is full. The sums of what the replies to
-// both say that it holds.
+// The postings of the office recalled these.
+fn has_recalls(rt: &impl Abort, alloc: Global, office: &Office, wanted: &str) {
+    let listed = recalls(alloc, office.base(), office.history()).expect(rt, "memory");
+    let lines = lines_of(rt, alloc, listed.as_slice());
+    drop(listed);
+    assert!(rt; lines.as_str() == wanted, "{wanted}");
+}
+
+// The first of these lines, at most so many.
+fn first_lines(rt: &impl Abort, alloc: Global, lines: &str, most: u32) -> String {
+    let mut first = String::new(alloc);
+    for line in lines.lines().take(most as usize) {
+        write!(first, "{line}\n").expect(rt, "memory");
+    }
+    first
+}
+
+// The office has the history and the recalls of a row, and an audit calls that history legal.
+fn is_as_said(rt: &impl Abort, alloc: Global, office: &Office, row: &Row) {
+    let &((segments, height, most), lines, recalled) = row;
+    let first = first_lines(rt, alloc, lines, most);
+    has_lines(rt, alloc, office, first.as_str());
+    drop(first);
+    has_recalls(rt, alloc, office, recalled);
+    let verdict = verdict(rt, alloc, segments, height, office.history());
+    assert!(rt; verdict == Verdict::Legal, "{lines}");
+}
+
+// A day as its row says, in this office. The sum of what the replies say that a full history held.
 fn full_in<L: Ledger>(
     rt: &impl Abort,
     alloc: Global,
     office: Office,
-    texts: &(&str, &str),
+    row: &Row,
     by_seat: bool,
     blank: Blank,
-) -> (u32, u32)
+) -> u32
     requires name { blank.name ≡ L.name }
     requires parts { blank.parts ≡ L.parts }
     requires some { 0 < blank.parts }
     requires opened { office.history ≡ [] }
 {
-    let &(lines, last) = texts;
     let mut office = CountedOffice::<L>::new(office, blank);
-    let full = serve_each(rt, alloc, &mut office, lines, by_seat);
-    let full_then = serve_each(rt, alloc, &mut office, last, by_seat);
-    has_lines(rt, alloc, office.office(), lines, lines.lines().count());
+    let entries = entries(rt, alloc, row.1);
+    let full = serve_each(rt, alloc, &mut office, entries.as_slice(), by_seat);
+    drop(entries);
+    is_as_said(rt, alloc, office.office(), row);
     drop(office);
-    (full, full_then)
+    full
 }
 
-// The same for an office about these segments with room for so many entries, once without and once with seats.
-fn check(
-    rt: &impl Abort,
-    alloc: Global,
-    segments: &str,
-    height: u32,
-    most: u32,
-    lines: &str,
-    last: &str,
-) {
-    let wanted = last.lines().count().wrapping_mul(most as usize);
-    for by_seat in [false, true] {
-        let office = office_about(rt, alloc, base(rt, alloc, segments, height), most);
-        let (full, full_then) = full_in::<Brand>(
-            rt,
-            alloc,
-            office,
-            &(lines, last),
-            by_seat,
-            Blank::new(1),
-        );
-        assert!(rt; full == 0 && full_then as usize == wanted, "{last}");
-    }
+// A day goes as its row says, with or without seats. Each call behind the most entries is answered that there are so many.
+fn goes(rt: &impl Abort, alloc: Global, row: &Row, by_seat: bool) {
+    let &((segments, height, most), lines, _) = row;
+    let office = office_about(rt, alloc, base(rt, alloc, segments, height), most);
+    let full = full_in::<Brand>(rt, alloc, office, row, by_seat, Blank::new(1));
+    let beyond = lines.lines().count().saturating_sub(most as usize);
+    assert!(rt;
+        full as usize == beyond.wrapping_mul(most as usize),
+        "{lines}"
+    );
 }
 
-#[test]
-fn is_full_at_its_most_entries(rt: HostRuntime) {
-    let lines = "\
+// What the office is about; the lines of the journal, of which those behind its room are calls that find that the history is full; and a
+// line for each recall: the permit, the version of the posting, and the carrier.
+type Row = (About, &'static str, &'static str);
+
+const DAYS: [Row; 9] = [
+    // what is behind the most entries is answered that the history is full
+    (
+        ROOM_FOR_TWO,
+        "\
 1 show 0 = unknown
 1 show 0 = unknown
-";
-    let last = "\
-1 show 0
-1 snapshot
-1 submit truck 1 from 1 to 2 asked none days 2026-03-02 2026-03-06
-";
-    check(&rt, rt.alloc(), ALONE, 168, 2, lines, last)
-}
-
-// A posting that is lower than the first truck, twice.
-#[test]
-fn recalls_just_what_a_posting_makes_fail(rt: HostRuntime) {
-    let lines = "\
+1 show 0 = unknown
+1 snapshot = at 0
+1 submit truck 1 from 1 to 2 asked none days 2026-03-02 2026-03-06 seen 0 route 1 = issued 1 at 0 route 1
+",
+        "",
+    ),
+    // a posting that is lower than the first truck, twice
+    (
+        ONE_WAY,
+        "\
 1 held truck 1 from 1 to 2 asked none days 2026-03-02 2026-03-06 = issued 1 at 0 route 1
 1 held truck 2 from 1 to 2 asked none days 2026-03-02 2026-03-06 = issued 2 at 0 route 1
 2 post segment 1 height 167 = posted 1 recalled 1
 2 post segment 1 height 167 = posted 2 recalled -
 2 post segment 2 height 167 = range
 1 surrender 1 = notinforce recalled 1
-";
-    check(&rt, rt.alloc(), ALONE, 168, 100, lines, "")
-}
-
-// A posting for each of two trucks, of two carriers.
-const TWO_RECALLED: &str = "\
+",
+        "1 1 ACME\n",
+    ),
+    // a posting for each of two trucks, of two carriers
+    (
+        ONE_WAY,
+        "\
 1 held truck 1 from 1 to 2 asked none days 2026-03-02 2026-03-06 = issued 1 at 0 route 1
 1 held truck 2 from 1 to 2 asked none days 2026-03-02 2026-03-06 = issued 2 at 0 route 1
 2 post segment 1 height 167 = posted 1 recalled 1
 2 post segment 1 height 149 = posted 2 recalled 2
-";
-
-#[test]
-fn lists_what_postings_recalled(rt: HostRuntime) {
-    let alloc = rt.alloc();
-    let office = office_about(&rt, alloc, base(&rt, alloc, ALONE, 168), 100);
-    has_recalls::<Brand>(&rt, alloc, office, Blank::new(1));
-}
-
-// The calls of its lines recall two permits.
-fn has_recalls<L: Ledger>(rt: &impl Abort, alloc: Global, office: Office, blank: Blank)
-    requires name { blank.name ≡ L.name }
-    requires parts { blank.parts ≡ L.parts }
-    requires some { 0 < blank.parts }
-    requires opened { office.history ≡ [] }
-{
-    let mut counted = CountedOffice::<L>::new(office, blank);
-    let full = serve_each(rt, alloc, &mut counted, TWO_RECALLED, false);
-    has_lines(rt, alloc, counted.office(), TWO_RECALLED, 4);
-    let listed = recalls(alloc, counted.office().base(), counted.office().history());
-    drop(counted);
-    are_recalls(rt, listed.expect(rt, "memory"));
-    assert!(rt; full == 0);
-}
-
-// The first permit was recalled by the first posting, and the second by the second.
-fn are_recalls(rt: &impl Abort, listed: Vec<Recall>) {
-    let wanted = [recall(rt, 1, 1, b"ACME"), recall(rt, 2, 2, b"BETA")];
-    let are_wanted = listed.as_slice() == wanted.as_slice();
-    drop(listed);
-    assert!(rt; are_wanted);
-}
-
-// A trip that would begin too late and a legal truck, a day set back, a permit given back by another and twice, and a later
-// day.
-#[test]
-fn takes_no_day_back(rt: HostRuntime) {
-    let lines = "\
+",
+        "1 1 ACME\n2 2 BETA\n",
+    ),
+    // a trip that would begin too late and a legal truck, a day set back, a permit given back by another and twice, and a later day
+    (
+        ONE_WAY,
+        "\
 1 snapshot = at 0
 1 submit truck 1 from 1 to 2 asked none days 2026-03-01 2026-03-06 seen 0 route 1 = late 2026-03-02
 1 snapshot = at 0
@@ -422,40 +380,57 @@ fn takes_no_day_back(rt: HostRuntime) {
 1 show 0 = unknown
 1 day 2026-03-03 = day 2026-03-03
 1 held truck 1 from 1 to 2 asked none days 2026-03-02 2026-03-06 = late 2026-03-03
-";
-    check(&rt, rt.alloc(), ALONE, 168, 100, lines, "")
-}
-
-// A posting that closes the route that was found, and the way around it.
-#[test]
-fn looks_again_before_it_issues(rt: HostRuntime) {
-    let lines = "\
+",
+        "",
+    ),
+    // a permit that another looks at
+    (
+        ONE_WAY,
+        "\
+1 snapshot = at 0
+1 submit truck 1 from 1 to 2 asked none days 2026-03-02 2026-03-06 seen 0 route 1 = issued 1 at 0 route 1
+2 show 1 = shown 1 caller 1 truck 1 days 2026-03-02 2026-03-06 at 0 seen 0 inforce
+",
+        "",
+    ),
+    // a posting that closes the route that was found, and the way around it
+    (
+        WAY_AROUND,
+        "\
 1 snapshot = at 0
 2 post segment 1 closed 1 = posted 1 recalled -
 1 submit truck 1 from 1 to 2 asked none days 2026-03-02 2026-03-06 seen 0 route 1 = outdated 1 fails segment 1 closed
 1 snapshot = at 1
 1 submit truck 1 from 1 to 2 asked none days 2026-03-02 2026-03-06 seen 1 route 2,3 = issued 1 at 1 route 2,3
-";
-    check(&rt, rt.alloc(), AROUND, 168, 100, lines, "")
-}
-
-// A posting that opens the way which was found to be shut.
-#[test]
-fn looks_again_before_it_refuses(rt: HostRuntime) {
-    let lines = "\
+",
+        "",
+    ),
+    // a posting that opens the way which was found to be shut
+    (
+        SHUT_WAY,
+        "\
 1 snapshot = at 0
 2 post segment 1 height 168 = posted 1 recalled -
 1 submit truck 1 from 1 to 2 asked none days 2026-03-02 2026-03-06 seen 0 cut 1 = outdated 1 meets segment 1
 1 snapshot = at 1
 1 submit truck 1 from 1 to 2 asked none days 2026-03-02 2026-03-06 seen 1 route 1 = issued 1 at 1 route 1
-";
-    check(&rt, rt.alloc(), ALONE, 160, 100, lines, "")
-}
-
-// Eight tries with a posting between the look and the submit, and then a held call.
-#[test]
-fn finds_itself_what_is_always_out_of_date(rt: HostRuntime) {
-    let lines = "\
+",
+        "",
+    ),
+    // A span of 20 ft that carries just the design truck, until it is posted with a rating of 999: 32,000 lb at the middle.
+    (
+        OVER_A_BRIDGE,
+        "\
+1 snapshot = at 0
+2 post span 1 rating 999 = posted 1 recalled -
+1 submit truck 4 from 1 to 2 asked none days 2026-03-02 2026-03-06 seen 0 route 1 = outdated 1 fails segment 1 span 1 moment 1920000/1 hs20 1920000/1 rating 999
+",
+        "",
+    ),
+    // eight tries with a posting between the look and the submit, and then a held call
+    (
+        ONE_WAY,
+        "\
 1 snapshot = at 0
 2 post segment 1 closed 1 = posted 1 recalled -
 1 submit truck 1 from 1 to 2 asked none days 2026-03-02 2026-03-06 seen 0 route 1 = outdated 1 fails segment 1 closed
@@ -481,6 +456,15 @@ fn finds_itself_what_is_always_out_of_date(rt: HostRuntime) {
 2 post segment 1 closed 0 = posted 8 recalled -
 1 submit truck 1 from 1 to 2 asked none days 2026-03-02 2026-03-06 seen 7 cut 1 = outdated 8 meets segment 1
 1 held truck 1 from 1 to 2 asked none days 2026-03-02 2026-03-06 = issued 1 at 8 route 1
-";
-    check(&rt, rt.alloc(), ALONE, 168, 100, lines, "")
+",
+        "",
+    ),
+];
+
+#[test]
+fn days_go_as_their_journals_say(rt: HostRuntime) {
+    for row in &DAYS {
+        goes(&rt, rt.alloc(), row, false);
+        goes(&rt, rt.alloc(), row, true);
+    }
 }

@@ -2,8 +2,7 @@
 ghost use Rattle.std.specs.Prelude.{◌≡◌, ◌<◌};
 ghost use Rattle.office_turn.specs.Told.{IsReady};
 
-use crate::fixtures::{ALONE, base, day};
-use journal_text::print;
+use crate::fixtures::{ALONE, base, day, full_at, has_lines};
 use office_core::{Looked, Office, OfficeCalls};
 use office_desk::{Desk, Pass, Root, Seat};
 use office_words::{Call, Reply};
@@ -55,8 +54,8 @@ fn close<L: Ledger>(rt: &impl Abort, desk: Desk<L>, root: Root<L>) -> Office
     office
 }
 
-// Posts that the segment is closed.
-fn post<R: Wait, L: Ledger>(rt: &R, desk: &Desk<L>, pass: &mut Pass<L>) -> Reply
+// Posts that the segment is closed. How many entries the history held, where it was full, and else 0.
+fn post<R: Wait, L: Ledger>(rt: &R, desk: &Desk<L>, pass: &mut Pass<L>) -> u32
     requires { IsReady desk.now pass.old }
     ensures { IsReady desk.now pass.new }
 {
@@ -64,22 +63,41 @@ fn post<R: Wait, L: Ledger>(rt: &R, desk: &Desk<L>, pass: &mut Pass<L>) -> Reply
         segment: 0,
         closed: true,
     };
-    desk.ask(rt, pass, Call::Post { change })
+    full_at(desk.ask(rt, pass, Call::Post { change }))
 }
 
 // Looks at a permit that nobody has.
-fn show<R: Wait, L: Ledger>(rt: &R, desk: &Desk<L>, pass: &mut Pass<L>) -> Reply
+fn show<R: Wait, L: Ledger>(rt: &R, desk: &Desk<L>, pass: &mut Pass<L>)
     requires { IsReady desk.now pass.old }
     ensures { IsReady desk.now pass.new }
 {
-    desk.ask(rt, pass, Call::Show { number: 0 })
+    drop(desk.ask(rt, pass, Call::Show { number: 0 }));
 }
 
-// The journal of the office, which is let go then, is this text.
-fn compare(rt: &impl Abort, alloc: Global, office: Office, text: &str) {
-    let journal = print(alloc, office.history()).expect(rt, "memory");
-    drop(office);
-    assert!(rt; journal.as_slice() == text.as_bytes(), "{text}");
+// Does so by a seat, which can go to another thread.
+fn show_by_seat<R: Wait + Sync, L: Ledger + Send + Sync>(
+    rt: &R,
+    desk: &Desk<L>,
+    pass: Pass<L>,
+) -> Pass<L>
+    requires { IsReady desk.now pass }
+    ensures { IsReady desk.now result }
+{
+    let mut seat = sent(Seat::new(rt, desk, pass));
+    drop(seat.show(0));
+    seat.into_pass()
+}
+
+// The version of a look, or how many entries a full history held.
+fn look<R: Wait + Abort, L: Ledger>(rt: &R, desk: &Desk<L>, pass: &mut Pass<L>) -> Result<u32, u32>
+    requires { IsReady desk.now pass.old }
+    ensures { IsReady desk.now pass.new }
+{
+    match desk.snapshot(rt, pass) {
+        Looked::At(snapshot) => Ok(snapshot.version()),
+        Looked::Full { entries } => Err(entries),
+        Looked::NoMemory => rt.abort(),
+    }
 }
 
 // Posts a change and looks at a permit, so often.
@@ -88,8 +106,8 @@ fn post_and_show<R: Wait, L: Ledger>(rt: &R, desk: &Desk<L>, pass: &mut Pass<L>,
     ensures { IsReady desk.now pass.new }
 {
     for _ in 0..times {
-        drop(post(rt, desk, pass));
-        drop(show(rt, desk, pass));
+        let _full = post(rt, desk, pass);
+        show(rt, desk, pass);
     }
 }
 
@@ -121,18 +139,16 @@ fn count_calls(rt: &impl Abort, office: &Office) -> [u32; 2] {
     counts
 }
 
-// The version of a look that found memory and room.
-fn version_of(rt: &impl Abort, looked: Looked) -> u32 {
-    match looked {
-        Looked::At(snapshot) => snapshot.version(),
-        _ => rt.abort(),
-    }
-}
-
 #[test]
 fn a_look_sees_the_posting_before_it(rt: HostRuntime) {
     look_behind_a_posting::<Brand>(&rt, Blank::new(1));
 }
+
+const BEHIND: &str = "\
+1 post segment 1 closed 1 = posted 1 recalled -
+1 snapshot = at 1
+2 show 0 = unknown
+";
 
 // Looks behind a posting of the same caller.
 fn look_behind_a_posting<L: Ledger + Send + Sync>(
@@ -145,23 +161,16 @@ fn look_behind_a_posting<L: Ledger + Send + Sync>(
 {
     let (desk, mut root) = start::<L>(rt, rt.alloc(), 100, blank);
     let mut one = admit(rt, &desk, &mut root);
-    drop(post(rt, &desk, &mut one));
-    let version = version_of(rt, desk.snapshot(rt, &mut one));
-    let other = admit(rt, &desk, &mut root);
-    let mut seat = sent(Seat::new(rt, &desk, other));
-    drop(seat.show(0));
+    let full = post(rt, &desk, &mut one);
+    let looked = look(rt, &desk, &mut one);
     leave(&desk, &mut root, one);
-    leave(&desk, &mut root, seat.into_pass());
+    let other = admit(rt, &desk, &mut root);
+    let other = show_by_seat(rt, &desk, other);
+    leave(&desk, &mut root, other);
     let office = close(rt, desk, root);
-    assert_eq!(rt; version, 1);
-    let journal = "\
-permit-journal 3
-1 post segment 1 closed 1 = posted 1 recalled -
-1 snapshot = at 1
-2 show 0 = unknown
-end 3
-";
-    compare(rt, rt.alloc(), office, journal);
+    has_lines(rt, rt.alloc(), &office, BEHIND);
+    drop(office);
+    assert!(rt; full == 0 && looked == Ok(1));
 }
 
 #[test]
@@ -177,19 +186,14 @@ fn take_all_turns<L: Ledger>(rt: &(impl Abort + Wait + AllocGlobal + Sync), blan
 {
     let (desk, mut root) = start::<L>(rt, rt.alloc(), 1, blank);
     let mut one = admit(rt, &desk, &mut root);
-    drop(show(rt, &desk, &mut one));
-    let posted = post(rt, &desk, &mut one);
-    let looked = desk.snapshot(rt, &mut one);
+    show(rt, &desk, &mut one);
+    let full = post(rt, &desk, &mut one);
+    let looked = look(rt, &desk, &mut one);
     leave(&desk, &mut root, one);
     let office = close(rt, desk, root);
-    assert!(rt; matches!(posted, Reply::Full { entries: 1 }));
-    assert!(rt; matches!(looked, Looked::Full { entries: 1 }));
-    compare(
-        rt,
-        rt.alloc(),
-        office,
-        "permit-journal 3\n1 show 0 = unknown\nend 1\n",
-    );
+    has_lines(rt, rt.alloc(), &office, "1 show 0 = unknown\n");
+    drop(office);
+    assert!(rt; full == 1 && looked == Err(1));
 }
 
 #[test]

@@ -11,8 +11,6 @@ mod audits;
 #[cfg(test)]
 mod calls;
 #[cfg(test)]
-mod chains;
-#[cfg(test)]
 mod desks;
 #[cfg(test)]
 mod fixtures;

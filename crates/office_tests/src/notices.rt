@@ -1,8 +1,6 @@
-ghost use Rattle.std.specs.Prelude.{OnOk};
 ghost use Rattle.notice_desk.specs.Standings.{AreNew, AreWithinRecalls, standings};
-ghost use Rattle.notice_desk.specs.Deliveries.{EachToldAll};
 
-use crate::fixtures::recall;
+use crate::fixtures::{named, recall};
 use notice_desk::{MemoryNotice, Notice, NoticeFault, Recall, Returned, Subscribers, Whom};
 use std::alloc::Global;
 use std::process::Abort;
@@ -64,123 +62,127 @@ fn deliver_first(subscribers: &mut Subscribers, recalls: &[Recall]) -> Result<()
     deliver_more(subscribers, recalls)
 }
 
-// Delivers, and once more where an object failed.
-fn deliver_twice(subscribers: &mut Subscribers, recalls: &[Recall]) -> Result<(), NoticeFault>
-    requires { AreNew (standings (λ n. (⟦<dyn Notice as Notice>⟧ n.vtable).list n.value) subscribers.old) }
-    ensures { let told = standings (λ n. (⟦<dyn Notice as Notice>⟧ n.vtable).list n.value) in
-        OnOk result (EachToldAll (told subscribers.old) recalls.now (told subscribers.new)) }
-{
-    match subscribers.deliver(recalls) {
-        Ok(()) => Ok(()),
-        Err(_) => subscribers.deliver(recalls),
-    }
-}
-
-// The subscriber at this place goes.
+// The second subscriber goes, where it is to.
 #[tactic(auto, using(notice_desk::proofs::Ready::removed_within))]
-fn leave(rt: &impl Abort, subscribers: &mut Subscribers, at: usize, recalls: &[Recall])
+fn leave(rt: &impl Abort, subscribers: &mut Subscribers, leaves: bool, recalls: &[Recall])
     requires { let told = standings (λ n. (⟦<dyn Notice as Notice>⟧ n.vtable).list n.value) in
         AreWithinRecalls recalls.now (told subscribers.old) }
     ensures { let told = standings (λ n. (⟦<dyn Notice as Notice>⟧ n.vtable).list n.value) in
         AreWithinRecalls recalls.now (told subscribers.new) }
 {
-    let before = subscribers.len();
-    assert!(rt; at < before);
-    subscribers.unsubscribe(at);
-    assert!(rt; subscribers.len() == before - 1);
+    if leaves {
+        let before = subscribers.len();
+        assert!(rt; 1 < before);
+        subscribers.unsubscribe(1);
+        assert!(rt; subscribers.len() == before - 1);
+    }
 }
 
-// The subscriber at this place is through with so many recalls, and its object was told these.
-fn stands(rt: &impl Abort, subscribers: &Subscribers, at: usize, passed: usize, told: &[Recall]) {
-    assert!(rt; at < subscribers.len());
-    assert!(rt; subscribers.passed(at) == passed, "subscriber {at}");
-    assert!(rt; subscribers.told(at) == Some(told), "subscriber {at}");
+// How many recalls a subscriber is through with, and from which on and up to which its object was told of them.
+type Stand = (usize, usize, usize);
+
+// The subscribers stand so.
+fn stand(rt: &impl Abort, subscribers: &Subscribers, recalls: &[Recall], stands: &[Stand]) {
+    for (at, &(passed, from, to)) in stands.iter().enumerate() {
+        assert!(rt; at < subscribers.len() && from <= to && to <= recalls.len());
+        assert!(rt; subscribers.passed(at) == passed, "subscriber {at}");
+        assert!(rt;
+            subscribers.told(at) == Some(&recalls[from..to]),
+            "subscriber {at}"
+        );
+    }
 }
 
-#[test]
-fn tells_each_its_own(rt: HostRuntime) {
-    let recalls = three(&rt);
-    let beta = recalls[1];
-    let mut subscribers = nobody(rt.alloc());
-    add(
-        &rt,
-        &mut subscribers,
-        Whom::All,
-        notice(&rt, rt.alloc(), &[]),
-    );
-    let whom = Whom::Carrier(beta.carrier);
-    add(&rt, &mut subscribers, whom, notice(&rt, rt.alloc(), &[1]));
-    assert!(rt; deliver_twice(&mut subscribers, &recalls) == Ok(()));
-    stands(&rt, &subscribers, 0, 3, &recalls);
-    stands(&rt, &subscribers, 1, 3, &[beta]);
-    subscribers.close();
-}
+// Of how many recalls is told. Who is told: of BETA's alone or of all, and which calls of the object fail. Then what the first delivery
+// answers, and how they stand; whether the second one goes, and how they stand; and how once the rest was delivered.
+type Row = (
+    usize,
+    &'static [(bool, &'static [u32])],
+    Result<(), NoticeFault>,
+    &'static [Stand],
+    bool,
+    &'static [Stand],
+    &'static [Stand],
+);
 
-// The first recall fails, and is told by the next delivery.
-#[test]
-fn tells_what_failed_once_more(rt: HostRuntime) {
-    let recalls = [recall(&rt, 1, 1, b"ACME")];
-    let mut subscribers = nobody(rt.alloc());
-    add(
-        &rt,
-        &mut subscribers,
-        Whom::All,
-        notice(&rt, rt.alloc(), &[1]),
-    );
-    assert!(rt; deliver_first(&mut subscribers, &recalls) == Err(NoticeFault { at: 0 }));
-    stands(&rt, &subscribers, 0, 0, &[]);
-    assert!(rt; deliver_more(&mut subscribers, &recalls) == Ok(()));
-    stands(&rt, &subscribers, 0, 1, &recalls);
-    subscribers.close();
-}
+const ROWS: [Row; 4] = [
+    // each is told its own
+    (
+        3,
+        &[(false, &[]), (true, &[1])],
+        Err(NoticeFault { at: 1 }),
+        &[(3, 0, 3)],
+        false,
+        &[],
+        &[(3, 0, 3), (3, 1, 2)],
+    ),
+    // what failed is told once more
+    (
+        1,
+        &[(false, &[1])],
+        Err(NoticeFault { at: 0 }),
+        &[(0, 0, 0)],
+        false,
+        &[],
+        &[(1, 0, 1)],
+    ),
+    // it goes on where it stopped
+    (
+        3,
+        &[(false, &[]), (false, &[2]), (false, &[])],
+        Err(NoticeFault { at: 1 }),
+        &[(3, 0, 3), (1, 0, 1), (0, 0, 0)],
+        false,
+        &[],
+        &[(3, 0, 3), (3, 0, 3), (3, 0, 3)],
+    ),
+    // the one whose object failed goes, and those who stay are told the rest
+    (
+        3,
+        &[(false, &[]), (false, &[2]), (false, &[])],
+        Err(NoticeFault { at: 1 }),
+        &[(3, 0, 3), (1, 0, 1), (0, 0, 0)],
+        true,
+        &[(3, 0, 3), (0, 0, 0)],
+        &[(3, 0, 3), (3, 0, 3)],
+    ),
+];
 
-// Three who are told of all recalls. The object of the second fails at its second recall.
-fn three_listeners(rt: &impl Abort, alloc: Global) -> Subscribers
+// Those who are told of recalls.
+fn subscribers(rt: &impl Abort, alloc: Global, listeners: &[(bool, &[u32])]) -> Subscribers
     ensures { AreNew (standings (λ n. (⟦<dyn Notice as Notice>⟧ n.vtable).list n.value) result) }
 {
     let mut subscribers = nobody(alloc);
-    add(rt, &mut subscribers, Whom::All, notice(rt, alloc, &[]));
-    add(rt, &mut subscribers, Whom::All, notice(rt, alloc, &[2]));
-    add(rt, &mut subscribers, Whom::All, notice(rt, alloc, &[]));
+    'listeners: for &(of_beta, failing) in listeners {
+        let whom = if of_beta {
+            Whom::Carrier(named(rt, b"BETA"))
+        } else {
+            Whom::All
+        };
+        add(rt, &mut subscribers, whom, notice(rt, alloc, failing));
+    }
     subscribers
 }
 
-// The first delivery stops at the second.
-fn stop_at_the_second(rt: &impl Abort, subscribers: &mut Subscribers, recalls: &[Recall])
+// They are told as a row says.
+fn are_told(rt: &impl Abort, subscribers: &mut Subscribers, recalls: &[Recall], row: &Row)
     requires { AreNew (standings (λ n. (⟦<dyn Notice as Notice>⟧ n.vtable).list n.value) subscribers.old) }
-    ensures { let told = standings (λ n. (⟦<dyn Notice as Notice>⟧ n.vtable).list n.value) in
-        AreWithinRecalls recalls.now (told subscribers.new) }
 {
-    assert!(rt; deliver_first(subscribers, recalls) == Err(NoticeFault { at: 1 }));
-    assert!(rt; recalls.len() == 3);
-    stands(rt, subscribers, 0, 3, recalls);
-    stands(rt, subscribers, 1, 1, &recalls[..1]);
-    stands(rt, subscribers, 2, 0, &[]);
+    assert!(rt; deliver_first(subscribers, recalls) == row.2);
+    stand(rt, subscribers, recalls, row.3);
+    leave(rt, subscribers, row.4, recalls);
+    stand(rt, subscribers, recalls, row.5);
+    assert!(rt; deliver_more(subscribers, recalls) == Ok(()));
+    stand(rt, subscribers, recalls, row.6);
 }
 
 #[test]
-fn goes_on_where_it_stopped(rt: HostRuntime) {
+fn tells_each_its_own_once(rt: HostRuntime) {
     let recalls = three(&rt);
-    let mut subscribers = three_listeners(&rt, rt.alloc());
-    stop_at_the_second(&rt, &mut subscribers, &recalls);
-    assert!(rt; deliver_more(&mut subscribers, &recalls) == Ok(()));
-    stands(&rt, &subscribers, 0, 3, &recalls);
-    stands(&rt, &subscribers, 1, 3, &recalls);
-    stands(&rt, &subscribers, 2, 3, &recalls);
-    subscribers.close();
-}
-
-// The one whose object failed goes, and those who stay are told the rest.
-#[test]
-fn goes_on_without_the_one_that_failed(rt: HostRuntime) {
-    let recalls = three(&rt);
-    let mut subscribers = three_listeners(&rt, rt.alloc());
-    stop_at_the_second(&rt, &mut subscribers, &recalls);
-    leave(&rt, &mut subscribers, 1, &recalls);
-    assert!(rt; subscribers.len() == 2);
-    stands(&rt, &subscribers, 0, 3, &recalls);
-    stands(&rt, &subscribers, 1, 0, &[]);
-    assert!(rt; deliver_more(&mut subscribers, &recalls) == Ok(()));
-    stands(&rt, &subscribers, 1, 3, &recalls);
-    subscribers.close();
+    for row in &ROWS {
+        let mut subscribers = subscribers(&rt, rt.alloc(), row.1);
+        assert!(rt; row.0 <= 3);
+        are_told(&rt, &mut subscribers, &recalls[..row.0], row);
+        subscribers.close();
+    }
 }

@@ -1,23 +1,21 @@
 ghost use Rattle.std.specs.Prelude.{◌≡◌, ◌<◌, ◌≤◌, []};
-ghost use Rattle.trip_analysis.specs.Applications.{Sound};
 ghost use Rattle.office_core.specs.Machine.{MayAsk};
 ghost use Rattle.office_core.specs.Offices.{machine_in};
 ghost use Rattle.reroute_desk.specs.Desks.{KeepsUp, new_desk};
 
-use crate::fixtures::{AROUND, application, base, day, office_about};
-use clearance_rules::Limit;
+use crate::calls::call_again;
+use crate::fixtures::{AROUND, base, entries, has_lines, office_about};
 use office_core::CountedOffice;
-use office_words::{Call, Reply};
+use office_words::{Call, Entry, Reply};
 use reroute_desk::{
     Handled, HandledAs, RerouteRefusal, Rerouter, calls_of_others_keep_up, new_desks_keep_up,
 };
-use restriction_log::Change;
-use std::alloc::Global;
+use std::alloc::{AllocError, Global};
 use std::marker::Brand;
 use std::process::Abort;
 use std::sync::ledger::{Blank, Ledger};
 
-// A desk whose caller is 1, beside an office that caller 0 calls. Its first truck needs a permit; the roads are one segment from
+// A desk whose caller is 2, beside an office that caller 1 calls. Its first truck needs a permit; the roads are one segment from
 // the first node to the second, and a way around it by two others.
 
 // An office about these roads with room for so many entries, and a new desk.
@@ -41,7 +39,7 @@ fn beside<L: Ledger>(
     )
 }
 
-// Caller 0 makes a call.
+// Caller 1 makes a call.
 fn ask<L: Ledger>(desk: &Rerouter, office: &mut CountedOffice<L>, call: Call) -> Reply
     requires caller { desk.now.caller ≡ 1 }
     requires kept { KeepsUp desk.now office.old.office }
@@ -52,128 +50,139 @@ fn ask<L: Ledger>(desk: &Rerouter, office: &mut CountedOffice<L>, call: Call) ->
     office.step(0, call)
 }
 
-// Caller 0 has the first truck's trip from the first node to the second held.
-fn hold<L: Ledger>(rt: &impl Abort, desk: &Rerouter, office: &mut CountedOffice<L>) -> Reply
-    requires caller { desk.now.caller ≡ 1 }
-    requires kept { KeepsUp desk.now office.old.office }
-    ensures { KeepsUp desk.now office.new.office }
-{
-    let application = application(rt, office.office().base(), 0, 1, "2026-03-02");
-    ask(desk, office, Call::Held { application })
-}
-
-// Caller 0 closes a segment, by which this permit is recalled.
-fn close<L: Ledger>(
+// The desk catches up where the entry is its own. Else caller 1 makes its call.
+fn go_on<L: Ledger>(
     rt: &impl Abort,
-    desk: &Rerouter,
+    desk: &mut Rerouter,
     office: &mut CountedOffice<L>,
-    segment: u32,
-    recalls: u32,
+    entry: &Entry,
 )
-    requires caller { desk.now.caller ≡ 1 }
-    requires kept { KeepsUp desk.now office.old.office }
-    ensures { KeepsUp desk.now office.new.office }
+    requires caller { desk.old.caller ≡ 1 }
+    requires kept { KeepsUp desk.old office.old.office }
+    ensures caller { desk.new.caller ≡ 1 }
+    ensures kept { KeepsUp desk.new office.new.office }
 {
-    let change = Change::Closed {
-        segment,
-        closed: true,
-    };
-    match ask(desk, office, Call::Post { change }) {
-        Reply::Posted { recalled, .. } => assert!(rt; recalled.as_slice() == [recalls].as_slice()),
-        _ => rt.abort(),
+    if entry.caller == 1 {
+        assert!(rt; desk.catch_up(office).is_ok());
+    } else {
+        let call = call_again(rt, office.office(), &entry.call);
+        drop(ask(desk, office, call));
     }
 }
 
-// Whether an item says that this permit was replaced by that one, at a version, along one route of these segments.
-fn is_replaced(item: &Handled, old: u32, new: u32, at: u32, along: &[u32]) -> bool {
+// The same with all entries. What the desk answers where it catches up behind them, and once more.
+fn go_through<L: Ledger>(
+    rt: &impl Abort,
+    desk: &mut Rerouter,
+    office: &mut CountedOffice<L>,
+    entries: &[Entry],
+) -> [Result<(), RerouteRefusal>; 2]
+    requires caller { desk.old.caller ≡ 1 }
+    requires kept { KeepsUp desk.old office.old.office }
+{
+    'entries: for entry in entries {
+        go_on(rt, desk, office, entry);
+    }
+    [desk.catch_up(office), desk.catch_up(office)]
+}
+
+// What became of a recalled permit: nothing; the new permit, its version, how many routes it has and their segments; or the version and
+// the limit.
+fn told(alloc: Global, item: &Handled) -> Result<String, AllocError> {
+    let old = item.old;
     match &item.what {
+        HandledAs::Ended => format!(in alloc; "{old} ended\n"),
         HandledAs::Replaced {
             number,
             version,
             routes,
         } => {
-            let is_same = item.old == old && *number == new && *version == at;
-            is_same && routes.len() == 1 && routes.all() == along
+            let (count, all) = (routes.len(), routes.all());
+            format!(in alloc; "{old} replaced {number} at {version} by {count} along {all:?}\n")
         }
-        _ => false,
-    }
-}
-
-// Whether an item says that for this permit no other was issued, at a version, since a segment is closed.
-fn is_refused(item: &Handled, old: u32, at: u32, closed: u32) -> bool {
-    match &item.what {
         HandledAs::Refused { version, limit } => {
-            item.old == old && *version == at && *limit == Limit::Closed { segment: closed }
+            format!(in alloc; "{old} refused at {version} by {limit:?}\n")
         }
-        _ => false,
     }
 }
 
-// The way of permit 1 is closed, so it is replaced by permit 2 along the way around. That is closed too, so permit 2 is not
-// replaced. Each is applied for once.
-fn replaces<L: Ledger>(rt: &impl Abort, alloc: Global, blank: Blank)
+// The desk handled these.
+fn has_handled(rt: &impl Abort, alloc: Global, handled: &[Handled], wanted: &str) {
+    let mut lines = String::new(alloc);
+    for item in handled {
+        let line = told(alloc, item).expect(rt, "memory");
+        lines.push_str(line.as_str()).expect(rt, "memory");
+    }
+    assert!(rt; lines.as_str() == wanted, "{wanted}");
+}
+
+// How many entries the office has room for, and the entries: those of caller 2 are made by the desk, which catches up there. Then what
+// it answers where it catches up behind them and once more, and what became of the permits that were recalled.
+type Row = (u32, &'static str, Result<(), RerouteRefusal>, &'static str);
+
+const ROWS: [Row; 3] = [
+    // The way of permit 1 is closed, so it is replaced by permit 2 along the way around. That is closed too, so permit 2 is not
+    // replaced. Each is applied for once.
+    (
+        100,
+        "\
+1 held truck 1 from 1 to 2 asked none days 2026-03-02 2026-03-06 = issued 1 at 0 route 1
+1 post segment 1 closed 1 = posted 1 recalled 1
+2 held truck 1 from 1 to 2 asked none days 2026-03-02 2026-03-06 = issued 2 at 1 route 2,3
+1 post segment 3 closed 1 = posted 2 recalled 2
+2 held truck 1 from 1 to 2 asked none days 2026-03-02 2026-03-06 = refused 2 segment 1 closed
+",
+        Ok(()),
+        "\
+1 replaced 2 at 1 by 1 along [1, 2]
+2 refused at 2 by Closed { segment: 0 }
+",
+    ),
+    // Permit 1 is recalled, and expires before the desk catches up: nothing is asked for.
+    (
+        100,
+        "\
+1 held truck 1 from 1 to 2 asked none days 2026-03-02 2026-03-06 = issued 1 at 0 route 1
+1 post segment 1 closed 1 = posted 1 recalled 1
+1 day 2026-03-07 = day 2026-03-07
+",
+        Ok(()),
+        "1 ended\n",
+    ),
+    // The history is full before permit 1 is applied for again.
+    (
+        3,
+        "\
+1 snapshot = at 0
+1 held truck 1 from 1 to 2 asked none days 2026-03-02 2026-03-06 = issued 1 at 0 route 1
+1 post segment 1 closed 1 = posted 1 recalled 1
+",
+        Err(RerouteRefusal::Full { entries: 3 }),
+        "",
+    ),
+];
+
+// The desk and the office do what a row says.
+fn catches_up<L: Ledger>(rt: &impl Abort, alloc: Global, row: &Row, blank: Blank)
     requires name { blank.name ≡ L.name }
     requires parts { blank.parts ≡ L.parts }
     requires some { 0 < blank.parts }
 {
-    let (mut office, mut desk) = beside::<L>(rt, alloc, 100, blank);
-    let _issued = hold(rt, &desk, &mut office);
-    close(rt, &desk, &mut office, 0, 1);
-    assert!(rt; desk.catch_up(&mut office).is_ok());
-    close(rt, &desk, &mut office, 2, 2);
-    assert!(rt; desk.catch_up(&mut office).is_ok());
-    assert!(rt; desk.catch_up(&mut office).is_ok());
-    let handled = desk.handled();
-    assert!(rt; handled.len() == 2);
-    assert!(rt; is_replaced(&handled[0], 1, 2, 1, &[1, 2]));
-    assert!(rt; is_refused(&handled[1], 2, 2, 0));
-    assert!(rt; office.office().history().len() == 5);
+    let &(most, lines, answer, handled) = row;
+    let (mut office, mut desk) = beside::<L>(rt, alloc, most, blank);
+    let entries = entries(rt, alloc, lines);
+    let answers = go_through(rt, &mut desk, &mut office, entries.as_slice());
+    drop(entries);
+    has_lines(rt, alloc, office.office(), lines);
+    drop(office);
+    has_handled(rt, alloc, desk.handled(), handled);
+    drop(desk);
+    assert!(rt; answers == [answer, answer], "{lines}");
 }
 
 #[test]
-fn replaces_each_recalled_permit_once(rt: HostRuntime) {
-    replaces::<Brand>(&rt, rt.alloc(), Blank::new(1));
-}
-
-// Permit 1 is recalled, and expires before the desk catches up: nothing is asked for.
-fn leaves<L: Ledger>(rt: &impl Abort, alloc: Global, blank: Blank)
-    requires name { blank.name ≡ L.name }
-    requires parts { blank.parts ≡ L.parts }
-    requires some { 0 < blank.parts }
-{
-    let (mut office, mut desk) = beside::<L>(rt, alloc, 100, blank);
-    let _issued = hold(rt, &desk, &mut office);
-    close(rt, &desk, &mut office, 0, 1);
-    let next = day(rt, "2026-03-07");
-    let _set = ask(&desk, &mut office, Call::Day { day: next });
-    assert!(rt; desk.catch_up(&mut office).is_ok());
-    assert!(rt; desk.catch_up(&mut office).is_ok());
-    let handled = desk.handled();
-    assert!(rt; handled.len() == 1);
-    assert!(rt; handled[0].old == 1 && matches!(&handled[0].what, HandledAs::Ended));
-    assert!(rt; office.office().history().len() == 3);
-}
-
-#[test]
-fn leaves_what_has_expired(rt: HostRuntime) {
-    leaves::<Brand>(&rt, rt.alloc(), Blank::new(1));
-}
-
-// The history is full before permit 1 is applied for again.
-fn stops<L: Ledger>(rt: &impl Abort, alloc: Global, blank: Blank)
-    requires name { blank.name ≡ L.name }
-    requires parts { blank.parts ≡ L.parts }
-    requires some { 0 < blank.parts }
-{
-    let (mut office, mut desk) = beside::<L>(rt, alloc, 3, blank);
-    let _looked = ask(&desk, &mut office, Call::Snapshot);
-    let _issued = hold(rt, &desk, &mut office);
-    close(rt, &desk, &mut office, 0, 1);
-    assert!(rt; desk.catch_up(&mut office) == Err(RerouteRefusal::Full { entries: 3 }));
-    assert!(rt; desk.handled().is_empty());
-}
-
-#[test]
-fn stops_where_the_history_is_full(rt: HostRuntime) {
-    stops::<Brand>(&rt, rt.alloc(), Blank::new(1));
+fn applies_again_once_for_each_recalled_permit(rt: HostRuntime) {
+    for row in &ROWS {
+        catches_up::<Brand>(&rt, rt.alloc(), row, Blank::new(1));
+    }
 }

@@ -1,11 +1,14 @@
-ghost use Rattle.std.specs.Prelude.{◌≡◌, ◌<◌, ◌↔◌, length, All, IfOk, IsTrue};
+ghost use Rattle.std.specs.Prelude.{◌≡◌, ◌<◌, ◌↔◌, length, All, IsTrue};
 ghost use Rattle.restriction_log.specs.States.{AreOf};
-ghost use Rattle.trip_analysis.specs.Applications.{AreAskedThere, Sound};
+ghost use Rattle.trip_analysis.specs.Applications.{AreAskedThere};
 ghost use Rattle.snapshot_store.specs.Stores.{IsLater};
-ghost use Rattle.trip_analysis.specs.Followers.{GoesOn, followed};
+ghost use Rattle.trip_analysis.specs.Followers.{GoesOn};
 
-use crate::fixtures::{after, base_state, day, holds, named, network, number, part, same, train};
+use crate::fixtures::{
+    HEIGHT, Piece, after, base_state, change, day, entries, holds, named, network, same, train,
+};
 use clearance_rules::{Limit, Load, Steps};
+use office_words::{Call, Entry};
 use restriction_log::{Change, State};
 use road_graph::{Network, Numbers, SharedNumbers};
 use snapshot_store::Store;
@@ -16,35 +19,26 @@ use std::process::Abort;
 use std::sync::ledger::{Blank, Ledger};
 use trip_analysis::{
     Application, ApplicationRefusal, Base, Failing, Follower, NodeSet, Proposal, Truck, TruckOn,
-    What, asked_findings_are_of_the_routes, find, findings_hold, first_meeting_out,
-    free_findings_are_of_walks, routes_break_off_where_walks_do,
+    What, asked_findings_are_of_the_routes, find, findings_hold, free_findings_are_of_walks,
+    routes_break_off_where_walks_do,
 };
-use trip_routes::{Routes, SharedRoutes};
+use trip_routes::SharedRoutes;
 
 // What was built is let go by a call of `drop`: where a scope lets it go, the proof of the whole function goes through
 // its parts.
 
-// The numbers of a text, parted by spaces.
-fn numbers(rt: &impl Abort, alloc: Global, text: &str) -> Vec<u32> {
-    let mut list = Vec::new(alloc);
-    for part in text.split_whitespace() {
-        list.push(number(part)).expect(rt, "memory");
-    }
-    list
-}
-
 // Nodes 0, 1 and 2, with two ways from node 0 to node 1: segment 0, and segments 1 and 2 by node 2. On segment 0 are two
 // spans of 360 in, which carry twice the HS20-44 truck.
-const WAYS: &str = "\
-node a
-node b
-node c
-segment ab 0 1 1000
-segment ac 0 2 1000
-segment cb 2 1 1000
-span s 0 360 2000
-span t 0 360 2000
-";
+const WAYS: [Piece; 8] = [
+    Piece::Node(b"a"),
+    Piece::Node(b"b"),
+    Piece::Node(b"c"),
+    Piece::Segment(b"ab", 0, 1, 1_000),
+    Piece::Segment(b"ac", 0, 2, 1_000),
+    Piece::Segment(b"cb", 2, 1, 1_000),
+    Piece::Span(b"s", 0, 360, 2_000),
+    Piece::Span(b"t", 0, 360, 2_000),
+];
 
 // Axles within the limits of 23 CFR 658.17: 20,000 lb an axle, 34,000 lb for the tandem of 48 in, and by the formula 45,000 lb
 // for the first two axles and 50,000 lb for all three.
@@ -69,7 +63,7 @@ fn base(rt: &impl Abort, alloc: Global) -> Base {
     fleet
         .push(truck(rt, alloc, b"legal", 160))
         .expect(rt, "memory");
-    Base::new(network(rt, alloc, WAYS), fleet)
+    Base::new(network(rt, alloc, &WAYS), fleet)
 }
 
 // Whether the segments of a list are there.
@@ -80,162 +74,146 @@ fn are_there(network: &Network, list: &[u32]) -> bool
     list.iter().all(|s| *s < count)
 }
 
-// The routes of a text, parted by bars.
-fn routes(rt: &impl Abort, alloc: Global, text: &str) -> Routes {
-    let mut routes = Routes::one(Numbers::of(numbers(rt, alloc, part(text, '|', 0))));
-    for next in text.split('|').skip(1) {
-        let route = Numbers::of(numbers(rt, alloc, next));
-        routes.push(&route).expect(rt, "a route");
-    }
-    routes
-}
-
-// The routes that a text asks for, along segments that are there; none where it is a dash.
-fn asked(rt: &impl Abort, alloc: Global, network: &Network, text: &str) -> Option<SharedRoutes>
+// The routes that are asked for, along segments that are there.
+fn asked_there(
+    rt: &impl Abort,
+    network: &Network,
+    asked: Option<&SharedRoutes>,
+) -> Option<SharedRoutes>
     ensures { AreAskedThere network.now result }
 {
-    if text == "-" {
-        return None;
-    }
-    let routes = routes(rt, alloc, text);
+    let routes = asked?;
     assert!(rt; are_there(network, routes.all()));
-    Some(SharedRoutes::of(alloc, routes).expect(rt, "memory"))
+    Some(routes.clone().expect(rt, "memory"))
 }
 
-// The application that a text asks for: truck, nodes, asked routes, first and last day, parted by commas.
-fn applied(
-    rt: &impl Abort,
-    alloc: Global,
-    base: &Base,
-    text: &str,
-) -> Result<Application, ApplicationRefusal>
-    ensures { IfOk result (Sound base.now) }
-{
-    let truck = number(part(text, ',', 0));
-    let (from, to) = (number(part(text, ',', 1)), number(part(text, ',', 2)));
-    let (first, last) = (day(rt, part(text, ',', 4)), day(rt, part(text, ',', 5)));
-    let nodes = base.network().nodes();
+// What is answered to these fields of an application, whose truck, nodes and segments are there.
+fn refusal(rt: &impl Abort, base: &Base, of: &Application) -> Option<ApplicationRefusal> {
+    let (truck, from, to, nodes) = (of.truck(), of.from(), of.to(), base.network().nodes());
     assert!(rt; (truck as usize) < base.fleet().len() && from < nodes && to < nodes);
-    let asked = asked(rt, alloc, base.network(), part(text, ',', 3));
-    Application::new(base, truck, from, to, asked, first, last)
+    let asked = asked_there(rt, base.network(), of.asked());
+    Application::new(base, truck, from, to, asked, of.first(), of.last()).err()
 }
 
-// The same, where it is taken.
-fn taken(rt: &impl Abort, alloc: Global, base: &Base, text: &str) -> Application
-    ensures { Sound base.now result }
-{
-    applied(rt, alloc, base, text).expect(rt, "an application")
+// The application of an entry.
+fn asked_for<'a>(rt: &impl Abort, entry: &'a Entry) -> &'a Application {
+    match &entry.call {
+        Call::Held { application } => application,
+        _ => rt.abort(),
+    }
 }
 
-// The same, of which nothing is tested.
-fn untested(rt: &impl Abort, alloc: Global, text: &str) -> Application {
-    let truck = number(part(text, ',', 0));
-    let (from, to) = (number(part(text, ',', 1)), number(part(text, ',', 2)));
-    let (first, last) = (day(rt, part(text, ',', 4)), day(rt, part(text, ',', 5)));
-    let asked = match part(text, ',', 3) {
-        "-" => None,
-        text => Some(SharedRoutes::of(alloc, routes(rt, alloc, text)).expect(rt, "memory")),
-    };
-    Application::of_fields(truck, from, to, asked, first, last)
-}
-
-// What is answered to applications, or none where one is taken. Where several causes apply, the first is named. The days
+// What is answered to applications, or none where they are taken. Where several causes apply, the first is named. The days
 // from 2 March 2026 to 2 March 2027 are 365, and those from 28 February 2024 to 28 February 2025 are 366.
-const ANSWERS: [(&str, Option<ApplicationRefusal>); 19] = [
+const ANSWERS: [(Option<ApplicationRefusal>, &str); 8] = [
     (
-        "0,0,0,2,2026-03-03,2026-03-02",
         Some(ApplicationRefusal::SamePlace),
+        "\
+1 held truck 1 from 1 to 1 asked 3 days 2026-03-03 2026-03-02 = nomemory
+",
     ),
     (
-        "0,0,1,1 0,2026-03-03,2026-03-02",
         Some(ApplicationRefusal::BrokenRoute { route: 0, at: 1 }),
+        "\
+1 held truck 1 from 1 to 2 asked 2,1 days 2026-03-03 2026-03-02 = nomemory
+1 held truck 1 from 1 to 2 asked 2 days 2026-03-02 2026-03-02 = nomemory
+",
     ),
     (
-        "0,0,1,1,2026-03-02,2026-03-02",
-        Some(ApplicationRefusal::BrokenRoute { route: 0, at: 1 }),
-    ),
-    (
-        "0,0,1,2,2026-03-02,2026-03-02",
         Some(ApplicationRefusal::BrokenRoute { route: 0, at: 0 }),
+        "\
+1 held truck 1 from 1 to 2 asked 3 days 2026-03-02 2026-03-02 = nomemory
+1 held truck 1 from 1 to 2 asked - days 2026-03-02 2026-03-02 = nomemory
+",
     ),
     (
-        "0,0,1,,2026-03-02,2026-03-02",
-        Some(ApplicationRefusal::BrokenRoute { route: 0, at: 0 }),
-    ),
-    (
-        "0,0,1,1 2,2026-03-03,2026-03-02",
         Some(ApplicationRefusal::DayOrder),
+        "\
+1 held truck 1 from 1 to 2 asked 2,3 days 2026-03-03 2026-03-02 = nomemory
+1 held truck 1 from 1 to 2 asked none days 2026-03-03 2026-03-02 = nomemory
+1 held truck 1 from 1 to 2 asked 1/2,3 days 2026-03-03 2026-03-02 = nomemory
+",
     ),
     (
-        "0,0,1,-,2026-03-03,2026-03-02",
-        Some(ApplicationRefusal::DayOrder),
+        None,
+        "\
+1 held truck 1 from 1 to 2 asked none days 2026-03-02 2026-03-02 = nomemory
+1 held truck 1 from 1 to 2 asked 2,3 days 2026-03-02 2026-03-03 = nomemory
+1 held truck 1 from 1 to 2 asked 1/2,3 days 2026-03-02 2027-03-02 = nomemory
+1 held truck 1 from 1 to 2 asked 1/1 days 2024-02-28 2025-02-27 = nomemory
+1 held truck 1 from 1 to 2 asked 1 days 2026-03-02 2027-03-03 = nomemory
+1 held truck 1 from 1 to 2 asked none days 2026-03-02 2027-03-03 = nomemory
+1 held truck 1 from 1 to 2 asked 1/1/1/1/1/1/1/2,3 days 2026-03-02 2027-03-02 = nomemory
+",
     ),
-    ("0,0,1,-,2026-03-02,2026-03-02", None),
-    ("0,0,1,1 2,2026-03-02,2026-03-03", None),
     (
-        "0,0,1,0|1,2026-03-02,2027-03-03",
         Some(ApplicationRefusal::BrokenRoute { route: 1, at: 1 }),
+        "\
+1 held truck 1 from 1 to 2 asked 1/2 days 2026-03-02 2027-03-03 = nomemory
+",
     ),
     (
-        "0,0,1,1 2|0|2|1,2026-03-03,2026-03-02",
         Some(ApplicationRefusal::BrokenRoute { route: 2, at: 0 }),
+        "\
+1 held truck 1 from 1 to 2 asked 2,3/1/3/2 days 2026-03-03 2026-03-02 = nomemory
+",
     ),
     (
-        "0,0,1,0|1 2,2026-03-03,2026-03-02",
-        Some(ApplicationRefusal::DayOrder),
-    ),
-    (
-        "0,0,1,0|1 2,2026-03-02,2027-03-03",
         Some(ApplicationRefusal::AnnualDays { days: 366 }),
+        "\
+1 held truck 1 from 1 to 2 asked 1/2,3 days 2026-03-02 2027-03-03 = nomemory
+1 held truck 1 from 1 to 2 asked 1/1 days 2024-02-28 2025-02-28 = nomemory
+",
     ),
-    (
-        "0,0,1,0|0,2024-02-28,2025-02-28",
-        Some(ApplicationRefusal::AnnualDays { days: 366 }),
-    ),
-    ("0,0,1,0|1 2,2026-03-02,2027-03-02", None),
-    ("0,0,1,0|0,2024-02-28,2025-02-27", None),
-    ("0,0,1,0,2026-03-02,2027-03-03", None),
-    ("0,0,1,-,2026-03-02,2027-03-03", None),
-    ("0,0,1,0|0|0|0|0|0|0|1 2,2026-03-02,2027-03-02", None),
 ];
+
+// Applications that name a truck, a node or a segment that is not there.
+const ABSENT: &str = "\
+1 held truck 3 from 1 to 2 asked none days 2026-03-02 2026-03-02 = nomemory
+1 held truck 1 from 4 to 2 asked none days 2026-03-02 2026-03-02 = nomemory
+1 held truck 1 from 1 to 4 asked none days 2026-03-02 2026-03-02 = nomemory
+1 held truck 1 from 1 to 2 asked 1/4 days 2026-03-02 2026-03-02 = nomemory
+";
+
+// These applications are refused for this cause, or else taken. One of which nothing was tested is sound exactly where it is taken.
+fn are_answered(
+    rt: &impl Abort,
+    base: &Base,
+    entries: &[Entry],
+    wanted: Option<ApplicationRefusal>,
+) {
+    for (row, entry) in entries.iter().enumerate() {
+        let application = asked_for(rt, entry);
+        same(rt, row, refusal(rt, base, application), wanted);
+        same(rt, row, application.is_sound(base), wanted.is_none());
+    }
+}
+
+fn are_absent(rt: &impl Abort, base: &Base, entries: &[Entry]) {
+    for (row, entry) in entries.iter().enumerate() {
+        same(rt, row, asked_for(rt, entry).is_sound(base), false);
+    }
+}
+
+fn answer_each(rt: &impl Abort, alloc: Global, base: &Base) {
+    for &(wanted, lines) in &ANSWERS {
+        let entries = entries(rt, alloc, lines);
+        are_answered(rt, base, entries.as_slice(), wanted);
+        drop(entries);
+    }
+    let entries = entries(rt, alloc, ABSENT);
+    are_absent(rt, base, entries.as_slice());
+    drop(entries);
+}
 
 #[test]
 fn refuses_an_application_for_its_first_cause(rt: HostRuntime) {
     let base = base(&rt, rt.alloc());
-    for &(text, wanted) in &ANSWERS {
-        let refusal = applied(&rt, rt.alloc(), &base, text).err();
-        holds(&rt, refusal == wanted, text);
-    }
+    answer_each(&rt, rt.alloc(), &base);
     drop(base);
 }
 
-// Applications that name a truck, a node or a segment that is not there.
-const ABSENT: [&str; 4] = [
-    "2,0,1,-,2026-03-02,2026-03-02",
-    "0,3,1,-,2026-03-02,2026-03-02",
-    "0,0,3,-,2026-03-02,2026-03-02",
-    "0,0,1,0|3,2026-03-02,2026-03-02",
-];
-
-// What a text asks for, of which nothing is tested, is sound or not.
-fn is_sound(rt: &impl Abort, alloc: Global, base: &Base, text: &str, wanted: bool) {
-    let application = untested(rt, alloc, text);
-    holds(rt, application.is_sound(base) == wanted, text);
-    drop(application);
-}
-
-// An application of which nothing was tested is sound exactly where it is taken.
-#[test]
-fn tells_sound_applications(rt: HostRuntime) {
-    let base = base(&rt, rt.alloc());
-    for (text, refusal) in &ANSWERS {
-        is_sound(&rt, rt.alloc(), &base, text, refusal.is_none());
-    }
-    for text in &ABSENT {
-        is_sound(&rt, rt.alloc(), &base, text, false);
-    }
-    drop(base);
-}
+const KEPT: &str = "1 held truck 2 from 1 to 2 asked 2,3/1 days 2026-03-02 2026-03-05 = nomemory\n";
 
 // Whether these are the fields of the application of the test below.
 fn check_fields(rt: &impl Abort, alloc: Global, a: &Application) {
@@ -254,26 +232,24 @@ fn check_fields(rt: &impl Abort, alloc: Global, a: &Application) {
 // An application and a copy of it.
 #[test]
 fn keeps_what_is_asked_for(rt: HostRuntime) {
-    let base = base(&rt, rt.alloc());
-    let taken = taken(&rt, rt.alloc(), &base, "1,0,1,1 2|0,2026-03-02,2026-03-05");
-    drop(base);
-    check_fields(&rt, rt.alloc(), &taken);
-    let copy = taken.try_clone().expect(&rt, "memory");
-    drop(taken);
+    let entries = entries(&rt, rt.alloc(), KEPT);
+    assert!(rt; entries.len() == 1);
+    let copy = asked_for(&rt, &entries[0])
+        .try_clone()
+        .expect(&rt, "memory");
+    check_fields(&rt, rt.alloc(), asked_for(&rt, &entries[0]));
+    drop(entries);
     check_fields(&rt, rt.alloc(), &copy);
     drop(copy);
 }
 
-// The state of the roads where the segments of a text are posted at 167 in, an inch less than truck 0 is high.
-fn lowered(rt: &impl Abort, alloc: Global, network: &Network, text: &str) -> State
+// The state of the roads where these segments are posted at 167 in, an inch less than truck 0 is high.
+fn lowered(rt: &impl Abort, alloc: Global, network: &Network, low: &[u32]) -> State
     ensures { AreOf network.now result }
 {
     let mut state = base_state(rt, alloc, network);
-    'low: for part in text.split_whitespace() {
-        let change = Change::Height {
-            segment: number(part),
-            inches: 167,
-        };
+    'low: for &segment in low {
+        let change = change((HEIGHT, segment, 167));
         state = after(rt, alloc, network, &state, &change);
     }
     state
@@ -298,159 +274,180 @@ fn told(alloc: Global, what: &What) -> Result<String, AllocError> {
     }
 }
 
-// What is found, which is let go then, is what a text says.
-fn check_found(rt: &impl Abort, alloc: Global, what: What, text: &str) {
-    let told = told(alloc, &what).expect(rt, "memory");
+// What is found, which is let go then, is this.
+fn is_found(rt: &impl Abort, alloc: Global, what: What, wanted: &What) {
+    let found = told(alloc, &what).expect(rt, "memory");
     drop(what);
-    holds(rt, told.as_str() == text, text);
+    let wanted = told(alloc, wanted).expect(rt, "memory");
+    holds(rt, found.as_str() == wanted.as_str(), wanted.as_str());
 }
 
-// An application, the segments that are too low for truck 0, and what is found. No road leads from node 1, and none from
-// node 2 to node 0, whatever is posted there.
-const FINDINGS: &str = "\
-0,0,1,-,2026-03-02,2026-03-02//route [0]
-0,0,1,-,2026-03-02,2026-03-02/0/route [1, 2]
-0,0,1,-,2026-03-02,2026-03-02/0 1/cut [0]
-0,0,1,-,2026-03-02,2026-03-02/0 2/cut [0, 2]
-0,1,0,-,2026-03-02,2026-03-02//cut [1]
-0,2,0,-,2026-03-02,2026-03-02/2/cut [1, 2]
-0,0,1,0,2026-03-02,2026-03-02//route [0]
-0,0,1,0,2026-03-02,2026-03-02/0/fails 0
-0,0,1,1 2,2026-03-02,2026-03-02/0/route [1, 2]
-0,0,1,1 2,2026-03-02,2026-03-02/1 2/fails 1
-0,0,1,0|1 2,2026-03-02,2026-03-02//route [0] [1, 2]
-0,0,1,0|0,2026-03-02,2026-03-02//route [0] [0]
-0,0,1,0|1 2,2026-03-02,2026-03-02/2/fails 2
-0,0,1,1 2|0,2026-03-02,2026-03-02/0 2/fails 2
-1,0,1,1 2|0,2026-03-02,2026-03-02/0 2/not needed
-1,0,1,0,2026-03-02,2026-03-02/0/not needed
-";
+// Postings, and submits with what is found then and at which version; the replies are not looked at. Truck 1 fits segments of
+// 168 in, and truck 2 is legal. No road leads from node 2, and none from node 3 to node 1, whatever is posted there. At twice the
+// HS20-44 truck the spans of segment 1 carry truck 1, which weighs less than that truck, and at 0 nothing.
+const HISTORIES: [&str; 5] = [
+    "\
+1 submit truck 1 from 1 to 2 asked none days 2026-03-02 2026-03-02 seen 0 route 1 = nomemory
+1 submit truck 1 from 2 to 1 asked none days 2026-03-02 2026-03-02 seen 0 cut 2 = nomemory
+1 submit truck 1 from 1 to 2 asked 1 days 2026-03-02 2026-03-02 seen 0 route 1 = nomemory
+1 submit truck 1 from 1 to 2 asked 1/2,3 days 2026-03-02 2026-03-02 seen 0 route 1/2,3 = nomemory
+1 submit truck 1 from 1 to 2 asked 1/1 days 2026-03-02 2026-03-02 seen 0 route 1/1 = nomemory
+",
+    "\
+1 post segment 1 height 167 = posted 1 recalled -
+1 submit truck 1 from 1 to 2 asked none days 2026-03-02 2026-03-02 seen 1 route 2,3 = nomemory
+1 submit truck 1 from 1 to 2 asked 1 days 2026-03-02 2026-03-02 seen 1 fails 1 = nomemory
+1 submit truck 1 from 1 to 2 asked 2,3 days 2026-03-02 2026-03-02 seen 1 route 2,3 = nomemory
+1 submit truck 2 from 1 to 2 asked 1 days 2026-03-02 2026-03-02 seen 1 none = nomemory
+1 post segment 2 height 167 = posted 2 recalled -
+1 submit truck 1 from 1 to 2 asked none days 2026-03-02 2026-03-02 seen 2 cut 1 = nomemory
+",
+    "\
+1 post segment 1 height 167 = posted 1 recalled -
+1 post segment 3 height 167 = posted 2 recalled -
+1 submit truck 1 from 1 to 2 asked none days 2026-03-02 2026-03-02 seen 2 cut 1,3 = nomemory
+1 submit truck 1 from 1 to 2 asked 2,3/1 days 2026-03-02 2026-03-02 seen 2 fails 3 = nomemory
+1 submit truck 2 from 1 to 2 asked 2,3/1 days 2026-03-02 2026-03-02 seen 2 none = nomemory
+",
+    "\
+1 post segment 3 height 167 = posted 1 recalled -
+1 submit truck 1 from 3 to 1 asked none days 2026-03-02 2026-03-02 seen 1 cut 2,3 = nomemory
+1 submit truck 1 from 1 to 2 asked 1/2,3 days 2026-03-02 2026-03-02 seen 1 fails 3 = nomemory
+1 post segment 2 height 167 = posted 2 recalled -
+1 submit truck 1 from 1 to 2 asked 2,3 days 2026-03-02 2026-03-02 seen 2 fails 2 = nomemory
+",
+    "\
+1 submit truck 1 from 1 to 2 asked none days 2026-03-02 2026-03-02 seen 0 route 1 = nomemory
+1 submit truck 1 from 1 to 3 asked none days 2026-03-02 2026-03-02 seen 0 route 2 = nomemory
+1 post segment 1 closed 1 = posted 1 recalled -
+1 submit truck 1 from 1 to 2 asked none days 2026-03-02 2026-03-02 seen 1 route 2,3 = nomemory
+1 submit truck 1 from 1 to 2 asked 1 days 2026-03-02 2026-03-02 seen 1 fails 1 = nomemory
+1 post segment 1 closed 0 = posted 2 recalled -
+1 post span 2 rating 0 = posted 3 recalled -
+1 submit truck 1 from 1 to 2 asked none days 2026-03-02 2026-03-02 seen 3 route 2,3 = nomemory
+1 post span 2 rating 2000 = posted 4 recalled -
+1 submit truck 1 from 1 to 2 asked none days 2026-03-02 2026-03-02 seen 4 route 1 = nomemory
+1 post span 1 rating 0 = posted 5 recalled -
+1 post segment 3 height 160 = posted 6 recalled -
+1 submit truck 1 from 1 to 2 asked none days 2026-03-02 2026-03-02 seen 6 cut 1,3 = nomemory
+1 submit truck 2 from 1 to 2 asked 1 days 2026-03-02 2026-03-02 seen 6 none = nomemory
+1 post segment 3 height 168 = posted 7 recalled -
+1 submit truck 1 from 1 to 2 asked 2,3 days 2026-03-02 2026-03-02 seen 7 route 2,3 = nomemory
+1 post span 1 rating 2000 = posted 8 recalled -
+1 submit truck 1 from 2 to 1 asked none days 2026-03-02 2026-03-02 seen 8 cut 2 = nomemory
+1 post segment 1 height 160 = posted 9 recalled -
+1 post segment 1 height 168 = posted 10 recalled -
+1 submit truck 1 from 1 to 2 asked none days 2026-03-02 2026-03-02 seen 10 route 1 = nomemory
+1 post segment 2 closed 1 = posted 11 recalled -
+1 submit truck 1 from 1 to 2 asked none days 2026-03-02 2026-03-02 seen 11 route 1 = nomemory
+1 post segment 1 closed 1 = posted 12 recalled -
+1 submit truck 1 from 1 to 2 asked none days 2026-03-02 2026-03-02 seen 12 cut 1 = nomemory
+1 post segment 2 closed 0 = posted 13 recalled -
+1 submit truck 1 from 1 to 2 asked none days 2026-03-02 2026-03-02 seen 13 route 2,3 = nomemory
+1 post segment 1 closed 0 = posted 14 recalled -
+1 submit truck 1 from 1 to 2 asked none days 2026-03-02 2026-03-02 seen 14 route 1 = nomemory
+1 submit truck 1 from 1 to 2 asked 2,3/1 days 2026-03-02 2026-03-02 seen 14 route 2,3/1 = nomemory
+1 post segment 1 closed 1 = posted 15 recalled -
+1 submit truck 1 from 1 to 2 asked 2,3/1 days 2026-03-02 2026-03-02 seen 15 fails 1 = nomemory
+",
+];
 
-// Looks for what a line says, with this counter.
-fn find_line<L: Ledger>(
-    rt: &impl Abort,
-    alloc: Global,
-    base: &Base,
-    line: &str,
-    steps: &mut Steps<L>,
-) {
-    let application = taken(rt, alloc, base, part(line, '/', 0));
-    let state = lowered(rt, alloc, base.network(), part(line, '/', 1));
-    let what = find(alloc, base, &state, &application, steps).expect(rt, "memory");
-    drop(state);
-    drop(application);
-    check_found(rt, alloc, what, part(line, '/', 2));
-}
-
-fn find_lines<L: Ledger>(rt: &impl Abort, alloc: Global, base: &Base, blank: Blank)
-    requires name { blank.name ≡ L.name }
-    requires parts { blank.parts ≡ L.parts }
-    requires some { 0 < blank.parts }
-{
-    let mut steps = Steps::<L>::new(blank);
-    for line in FINDINGS.lines() {
-        find_line(rt, alloc, base, line, &mut steps);
-    }
-}
-
-fn find_each(rt: &impl Abort, alloc: Global, base: &Base) {
-    find_lines::<Brand>(rt, alloc, base, Blank::new(1));
-}
-
-#[test]
-fn finds_a_route_or_why_there_is_none(rt: HostRuntime) {
-    let base = base(&rt, rt.alloc());
-    find_each(&rt, rt.alloc(), &base);
-    drop(base);
-}
-
-// What is posted, what is asked for then, the version, and what is found, one after another. At twice the HS20-44 truck the
-// spans of segment 0 carry truck 0, which weighs less than that truck, and at 0 nothing.
-const HISTORY: &str = "\
-/0,0,1,-,2026-03-02,2026-03-02/0/route [0]
-/0,0,2,-,2026-03-02,2026-03-02/0/route [1]
-closed,0,1/0,0,1,-,2026-03-02,2026-03-02/1/route [1, 2]
-/0,0,1,0,2026-03-02,2026-03-02/1/fails 0
-closed,0,0 rating,1,0/0,0,1,-,2026-03-02,2026-03-02/3/route [1, 2]
-rating,1,2000/0,0,1,-,2026-03-02,2026-03-02/4/route [0]
-rating,0,0 height,2,160/0,0,1,-,2026-03-02,2026-03-02/6/cut [0, 2]
-/1,0,1,0,2026-03-02,2026-03-02/6/not needed
-height,2,168/0,0,1,1 2,2026-03-02,2026-03-02/7/route [1, 2]
-rating,0,2000/0,1,0,-,2026-03-02,2026-03-02/8/cut [1]
-height,0,160 height,0,168/0,0,1,-,2026-03-02,2026-03-02/10/route [0]
-closed,1,1/0,0,1,-,2026-03-02,2026-03-02/11/route [0]
-closed,0,1/0,0,1,-,2026-03-02,2026-03-02/12/cut [0]
-closed,1,0/0,0,1,-,2026-03-02,2026-03-02/13/route [1, 2]
-closed,0,0/0,0,1,-,2026-03-02,2026-03-02/14/route [0]
-/0,0,1,1 2|0,2026-03-02,2026-03-02/14/route [1, 2] [0]
-closed,0,1/0,0,1,1 2|0,2026-03-02,2026-03-02/15/fails 0
-";
-
-// What a text posts: KIND,NUMBER,VALUE.
-fn posted(text: &str) -> Change {
-    let (named, value) = (number(part(text, ',', 1)), number(part(text, ',', 2)));
-    match part(text, ',', 0) {
-        "closed" => Change::Closed {
-            segment: named,
-            closed: value == 1,
-        },
-        "height" => Change::Height {
-            segment: named,
-            inches: value,
-        },
-        _ => Change::Rating {
-            span: named,
-            permille: value,
-        },
-    }
-}
-
-// Posts each of the changes of a text.
-#[tactic(auto, using(snapshot_store::proofs::Later::later_same, snapshot_store::proofs::Later::later_posted, snapshot_store::proofs::Later::later_on))]
-fn post_each(rt: &impl Abort, network: &Network, store: &mut Store, text: &str)
+// Posts a change.
+#[tactic(auto, using(snapshot_store::proofs::Later::later_same, snapshot_store::proofs::Later::later_posted))]
+fn post(rt: &impl Abort, network: &Network, store: &mut Store, change: Change)
     requires { network.now ≡ store.old.roads }
     ensures { IsLater store.old store.new }
 {
-    'postings: for change in text.split_whitespace() {
-        store.post(network, posted(change)).expect(rt, "a posting");
-    }
+    store.post(network, change).expect(rt, "a posting");
 }
 
-// Posts what a line says, and compares what a follower finds then, and at which version.
+// What is found for an application in the state as it is, with this counter.
+fn find_now<L: Ledger>(
+    rt: &impl Abort,
+    alloc: Global,
+    base: &Base,
+    store: &Store,
+    application: &Application,
+    steps: &mut Steps<L>,
+) -> What
+    requires { store.now.roads ≡ base.now.roads }
+{
+    assert!(rt; application.is_sound(base));
+    find(alloc, base, store.now(), application, steps).expect(rt, "memory")
+}
+
+// Compares what is found for an application with a proposal, and so what a follower finds.
+#[tactic(auto, using(trip_analysis::proofs::Following::goes_on_here))]
+fn follow<L: Ledger>(
+    rt: &impl Abort,
+    alloc: Global,
+    base: &Base,
+    store: &Store,
+    follower: &mut Follower,
+    submitted: (&Application, &Proposal),
+    steps: &mut Steps<L>,
+)
+    requires base { follower.old.base ≡ base.now }
+    requires roads { store.now.roads ≡ base.now.roads }
+    requires later { GoesOn follower.old.last store.now }
+    ensures base { follower.new.base ≡ base.now }
+    ensures later { GoesOn follower.new.last store.now }
+{
+    let (application, wanted) = submitted;
+    let what = find_now(rt, alloc, base, store, application, steps);
+    is_found(rt, alloc, what, &wanted.what);
+    let snapshot = store.snapshot().expect(rt, "memory");
+    assert!(rt; application.is_sound(base));
+    let proposal = follower.analyse(alloc, base, snapshot, application, steps);
+    let Proposal { seen, what } = proposal.expect(rt, "memory");
+    is_found(rt, alloc, what, &wanted.what);
+    same(rt, 0, seen, wanted.seen);
+}
+
+// Posts what an entry posts, or compares what it submits.
 #[tactic(auto, using(trip_analysis::proofs::Following::goes_on_later))]
-fn follow_line<L: Ledger>(
+fn follow_entry<L: Ledger>(
     rt: &impl Abort,
     alloc: Global,
     base: &Base,
     store: &mut Store,
     follower: &mut Follower,
-    line: &str,
+    entry: &Entry,
     steps: &mut Steps<L>,
 )
     requires base { follower.old.base ≡ base.now }
     requires roads { store.old.roads ≡ base.now.roads }
     requires later { GoesOn follower.old.last store.old }
-    ensures followed { follower.new ≡ followed base.now store.new }
+    ensures base { follower.new.base ≡ base.now }
     ensures roads { store.new.roads ≡ base.now.roads }
+    ensures later { GoesOn follower.new.last store.new }
 {
-    post_each(rt, base.network(), store, part(line, '/', 0));
-    let application = taken(rt, alloc, base, part(line, '/', 1));
-    let snapshot = store.snapshot().expect(rt, "memory");
-    let proposal = follower.analyse(alloc, base, snapshot, &application, steps);
-    drop(application);
-    let Proposal { seen, what } = proposal.expect(rt, "memory");
-    check_found(rt, alloc, what, part(line, '/', 3));
-    holds(rt, seen == number(part(line, '/', 2)), line);
+    match &entry.call {
+        Call::Post { change } => post(rt, base.network(), store, *change),
+        Call::Submit {
+            application,
+            proposal,
+        } => follow(
+            rt,
+            alloc,
+            base,
+            store,
+            follower,
+            (application, proposal),
+            steps,
+        ),
+        _ => rt.abort(),
+    }
 }
 
-// Follows a store over all lines.
-#[tactic(auto, using(trip_analysis::proofs::Following::goes_on_here))]
-fn follow_lines<L: Ledger>(
+// Follows a store over all entries.
+fn follow_entries<L: Ledger>(
     rt: &impl Abort,
     alloc: Global,
     base: &Base,
     store: &mut Store,
     follower: &mut Follower,
+    entries: &[Entry],
     blank: Blank,
 )
     requires name { blank.name ≡ L.name }
@@ -461,24 +458,40 @@ fn follow_lines<L: Ledger>(
     requires later { GoesOn follower.old.last store.old }
 {
     let mut steps = Steps::<L>::new(blank);
-    'lines: for line in HISTORY.lines() {
-        follow_line(rt, alloc, base, store, follower, line, &mut steps);
+    'entries: for entry in entries {
+        follow_entry(rt, alloc, base, store, follower, entry, &mut steps);
     }
 }
 
 // The same from the first version on.
-fn follow_store(rt: &impl Abort, alloc: Global, base: &Base) {
+fn follow_store(rt: &impl Abort, alloc: Global, base: &Base, entries: &[Entry]) {
     let mut store = Store::start(alloc, base.network()).expect(rt, "memory");
     let mut follower = Follower::new(alloc, base).expect(rt, "memory");
-    follow_lines::<Brand>(rt, alloc, base, &mut store, &mut follower, Blank::new(1));
+    follow_entries::<Brand>(
+        rt,
+        alloc,
+        base,
+        &mut store,
+        &mut follower,
+        entries,
+        Blank::new(1),
+    );
     drop(follower);
     drop(store);
 }
 
+fn follow_each(rt: &impl Abort, alloc: Global, base: &Base) {
+    for lines in &HISTORIES {
+        let entries = entries(rt, alloc, lines);
+        follow_store(rt, alloc, base, entries.as_slice());
+        drop(entries);
+    }
+}
+
 #[test]
-fn follows_a_store_from_version_to_version(rt: HostRuntime) {
+fn finds_a_route_or_why_there_is_none(rt: HostRuntime) {
     let base = base(&rt, rt.alloc());
-    follow_store(&rt, rt.alloc(), &base);
+    follow_each(&rt, rt.alloc(), &base);
     drop(base);
 }
 
@@ -516,12 +529,11 @@ fn learned_base(rt: &impl Abort, alloc: Global) -> Base {
     base
 }
 
-// The findings and the history of the tests above.
+// The histories of the test above.
 #[test]
 fn finds_the_same_by_what_a_base_keeps(rt: HostRuntime) {
     let base = learned_base(&rt, rt.alloc());
-    find_each(&rt, rt.alloc(), &base);
-    follow_store(&rt, rt.alloc(), &base);
+    follow_each(&rt, rt.alloc(), &base);
     drop(base);
 }
 
@@ -562,59 +574,30 @@ fn set_of(rt: &impl Abort, alloc: Global, nodes: &[u32]) -> NodeSet {
     set
 }
 
-// The first segment that leaves some nodes of the network of three: segments lead from node 0 to 1 and 2, and from 2 to 1.
-const LEAVING: [(&[u32], Option<u32>); 5] = [
-    (&[], None),
-    (&[0], Some(0)),
-    (&[1], None),
-    (&[0, 1], Some(1)),
-    (&[2], Some(2)),
+// Some nodes of the network of three: segments lead from node 0 to 1 and 2, and from 2 to 1. The first segment that leaves them,
+// whether segment 1 leaves them, and which is the next that does from 1 and from 2 on.
+const LEAVING: [(&[u32], Option<u32>, bool, [Option<u32>; 2]); 5] = [
+    (&[], None, false, [None, None]),
+    (&[0], Some(0), true, [Some(1), None]),
+    (&[1], None, false, [None, None]),
+    (&[0, 1], Some(1), true, [Some(1), None]),
+    (&[2], Some(2), false, [Some(2), Some(2)]),
 ];
 
-// The first segment that leaves some nodes.
-fn first_leaving_of(
-    rt: &impl Abort,
-    alloc: Global,
-    network: &Network,
-    nodes: &[u32],
-) -> Option<u32> {
-    let set = set_of(rt, alloc, nodes);
-    let first = set.first_leaving(network);
-    drop(set);
-    first
-}
-
-fn tell_first_leaving(rt: &impl Abort, alloc: Global, network: &Network) {
-    for (row, (nodes, leaving)) in LEAVING.iter().enumerate() {
-        let first = first_leaving_of(rt, alloc, network, nodes);
-        same(rt, row, first, *leaving);
+fn tell_leaving(rt: &impl Abort, alloc: Global, network: &Network) {
+    assert!(rt; network.segments() == 3);
+    for (row, (nodes, first, is_left, next)) in LEAVING.iter().enumerate() {
+        let set = set_of(rt, alloc, nodes);
+        same(rt, row, set.first_leaving(network), *first);
+        same(rt, row, set.is_left_by(network, 1), *is_left);
+        let found = [set.next_leaving(network, 1), set.next_leaving(network, 2)];
+        drop(set);
+        same(rt, row, found, *next);
     }
 }
 
-// A node, whether segment 1 leaves it, and which segments are the next that leaves it from 1 and from 2 on, and the first that
-// leaves it and that the truck may pass.
-fn tell_leaving<L: Ledger>(
-    rt: &impl Abort,
-    alloc: Global,
-    on: &TruckOn,
-    node: u32,
-    wanted: (bool, [Option<u32>; 3]),
-    steps: &mut Steps<L>,
-) {
-    let (network, set) = (on.base.network(), set_of(rt, alloc, &[node]));
-    assert!(rt; network.segments() == 3);
-    let is_left = set.is_left_by(network, 1);
-    let next = [
-        set.next_leaving(network, 1),
-        set.next_leaving(network, 2),
-        first_meeting_out(on.base, on.state, on.truck, &set, steps),
-    ];
-    drop(set);
-    same(rt, node as usize, (is_left, next), wanted);
-}
-
 // All with one counter.
-fn tell_all<L: Ledger>(rt: &impl Abort, alloc: Global, base: &Base, state: &State, blank: Blank)
+fn tell_all<L: Ledger>(rt: &impl Abort, base: &Base, state: &State, blank: Blank)
     requires state { AreOf base.now.roads state.now }
     requires name { blank.name ≡ L.name }
     requires parts { blank.parts ≡ L.parts }
@@ -628,17 +611,14 @@ fn tell_all<L: Ledger>(rt: &impl Abort, alloc: Global, base: &Base, state: &Stat
     let high = TruckOn { base, state, truck };
     tell_limit(rt, &high, Some(TOO_LOW), &mut steps);
     tell_first(rt, &high, &mut steps);
-    let (from_0, from_2) = ([Some(1), None, None], [Some(2); 3]);
-    tell_leaving(rt, alloc, &high, 0, (true, from_0), &mut steps);
-    tell_leaving(rt, alloc, &high, 2, (false, from_2), &mut steps);
 }
 
 // The same where segments 0 and 1 are too low for truck 0.
 fn tell_lowered(rt: &impl Abort, alloc: Global, base: &Base) {
-    let state = lowered(rt, alloc, base.network(), "0 1");
-    tell_all::<Brand>(rt, alloc, base, &state, Blank::new(1));
+    let state = lowered(rt, alloc, base.network(), &[0, 1]);
+    tell_all::<Brand>(rt, base, &state, Blank::new(1));
     drop(state);
-    tell_first_leaving(rt, alloc, base.network());
+    tell_leaving(rt, alloc, base.network());
 }
 
 #[test]

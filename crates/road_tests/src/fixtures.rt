@@ -3,7 +3,9 @@
 ghost use Rattle.restriction_log.specs.States.{AreOf};
 
 use axle_train::{Axle, Train};
+use journal_reader::read;
 use names::Name;
+use office_words::Entry;
 use permit_days::Day;
 use restriction_log::{Change, State, takes};
 use road_graph::{AddRefusal, Network, What};
@@ -27,16 +29,6 @@ pub fn says<T: Display>(rt: &impl Abort, alloc: Global, value: &T, wanted: &str)
     holds(rt, text.as_str() == wanted, wanted);
 }
 
-// The number that a text writes, or 0.
-pub fn number(text: &str) -> u32 {
-    text.parse().unwrap_or(0)
-}
-
-// The part of a text with this number, from 0, or nothing where there are fewer.
-pub fn part(text: &str, separator: char, i: usize) -> &str {
-    text.split(separator).nth(i).unwrap_or("")
-}
-
 // A name of these bytes, which are one.
 pub fn named(rt: &impl Abort, bytes: &[u8]) -> Name {
     Name::new(bytes).expect(rt, "a name")
@@ -45,6 +37,13 @@ pub fn named(rt: &impl Abort, bytes: &[u8]) -> Name {
 // The day of a text, which writes one.
 pub fn day(rt: &impl Abort, text: &str) -> Day {
     Day::read(text.as_bytes()).expect(rt, text)
+}
+
+// The entries of these lines of a journal.
+pub fn entries(rt: &impl Abort, alloc: Global, lines: &str) -> Vec<Entry> {
+    let count = lines.lines().count();
+    let text = format!(in alloc; "permit-journal 3\n{lines}end {count}\n").expect(rt, "memory");
+    read(alloc, text.as_bytes()).expect(rt, lines)
 }
 
 // A train of axles at these places, in inches, with these weights in pounds.
@@ -58,38 +57,46 @@ pub fn train(rt: &impl Abort, alloc: Global, pairs: &[(u32, u32)]) -> Train {
     train
 }
 
-// Adds what a line says: `node NAME`, `segment NAME FROM TO FEET`, or `span NAME SEGMENT INCHES RATING`. Nodes and segments
-// go by their numbers.
-pub fn add(rt: &impl Abort, network: &mut Network, line: &str) -> Result<u32, AddRefusal> {
-    let name = named(rt, part(line, ' ', 1).as_bytes());
-    let (first, second) = (number(part(line, ' ', 2)), number(part(line, ' ', 3)));
-    let third = number(part(line, ' ', 4));
-    match part(line, ' ', 0) {
-        "node" => network.add_node(name),
-        "segment" => network.add_segment(name, first, second, third),
-        _ => network.add_span(name, first, second, third),
+// What is added to a network, behind its name: a segment from one node to another and its feet, or a span on a segment, its inches and
+// its rating. Nodes and segments go by their numbers.
+pub enum Piece {
+    Node(&'static [u8]),
+    Segment(&'static [u8], u32, u32, u32),
+    Span(&'static [u8], u32, u32, u32),
+}
+
+// Adds it.
+pub fn add(rt: &impl Abort, network: &mut Network, piece: &Piece) -> Result<u32, AddRefusal> {
+    match *piece {
+        Piece::Node(name) => network.add_node(named(rt, name)),
+        Piece::Segment(name, from, to, feet) => {
+            network.add_segment(named(rt, name), from, to, feet)
+        }
+        Piece::Span(name, segment, inches, rating) => {
+            network.add_span(named(rt, name), segment, inches, rating)
+        }
     }
 }
 
-// A network of these lines.
-pub fn network(rt: &impl Abort, alloc: Global, lines: &str) -> Network {
+// A network of these.
+pub fn network(rt: &impl Abort, alloc: Global, pieces: &[Piece]) -> Network {
     let mut network = Network::new(alloc);
-    for line in lines.lines() {
-        holds(rt, add(rt, &mut network, line).is_ok(), line);
+    for piece in pieces {
+        assert!(rt; add(rt, &mut network, piece).is_ok());
     }
     network
 }
 
 // Segments 0 and 1 between two nodes, with the spans 0 and 2 on segment 0 and span 1 on segment 1.
-pub const ROADS: &str = "\
-node a
-node b
-segment ab 0 1 5280
-segment ba 1 0 5280
-span s 0 360 1000
-span t 1 360 900
-span u 0 360 800
-";
+pub const ROADS: [Piece; 7] = [
+    Piece::Node(b"a"),
+    Piece::Node(b"b"),
+    Piece::Segment(b"ab", 0, 1, 5_280),
+    Piece::Segment(b"ba", 1, 0, 5_280),
+    Piece::Span(b"s", 0, 360, 1_000),
+    Piece::Span(b"t", 1, 360, 900),
+    Piece::Span(b"u", 0, 360, 800),
+];
 
 // Which limit of a segment is posted, or none for the rating of a span; the segment or the span; the value.
 pub type Posted = (Option<What>, u32, u32);

@@ -2,15 +2,15 @@ ghost use Rattle.std.specs.Prelude.{◌≡◌, ◌<◌, length};
 ghost use Rattle.restriction_log.specs.States.{AreOf};
 
 use crate::fixtures::{
-    ALLOWANCE, CLOSED, GROSS, HEIGHT, LENGTH, Posted, RATING, TRIDEM, WIDTH, after, base_state,
-    change, network, same, says, train,
+    ALLOWANCE, CLOSED, GROSS, HEIGHT, LENGTH, Piece, Posted, RATING, TRIDEM, WIDTH, after,
+    base_state, change, holds, network, same, says, train,
 };
 use axle_limits::WorstGroup;
 use clearance_rules::{
     Limit, Load, Range, Steps, first_failing, limits_are_of_their_segment, meets,
 };
 use hs20_truck::Live;
-use influence_line::Frac;
+use journal_text::limit_text;
 use restriction_log::State;
 use road_graph::Network;
 use std::alloc::Global;
@@ -47,15 +47,15 @@ const TWO_AXLES: [(u32, u32); 2] = [(0, 30_000), (120, 30_000)];
 
 // Segments 0 and 1 between two nodes, with the spans 0 and 2 on segment 0 and span 1 on segment 1, which carry what they may
 // at most.
-const STRONG: &str = "\
-node a
-node b
-segment ab 0 1 5280
-segment ba 1 0 5280
-span s 0 240 100000
-span t 1 240 100000
-span u 0 240 100000
-";
+const STRONG: [Piece; 7] = [
+    Piece::Node(b"a"),
+    Piece::Node(b"b"),
+    Piece::Segment(b"ab", 0, 1, 5280),
+    Piece::Segment(b"ba", 1, 0, 5280),
+    Piece::Span(b"s", 0, 240, 100000),
+    Piece::Span(b"t", 1, 240, 100000),
+    Piece::Span(b"u", 0, 240, 100000),
+];
 
 // What was built is let go by a call of `drop`: where a scope lets it go, the proof of the whole function
 // goes through its parts. For the same reason no function both builds and goes through a table.
@@ -66,45 +66,21 @@ fn loaded(rt: &impl Abort, alloc: Global, sizes: (u32, u32, u32), pairs: &[(u32,
     Load::new(sizes.0, sizes.1, sizes.2, train).expect(rt, "a load")
 }
 
-// What fails a load: nothing, a limit, or on a span of segment 0 a moment or a shear, each a whole number, over what the span
-// may carry: the span, what the load and the design truck have, and the rating.
-#[derive(Clone, Copy)]
-enum Fails {
-    No,
-    By(Limit),
-    Moment(u32, u128, u128, u32),
-    Shear(u32, u128, u128, u32),
-}
+// What is posted, and the limit that fails a load after it and the postings of the rows behind it, in the words of a journal; no words
+// where none fails.
+type Row = (Posted, &'static str);
 
-// A whole number as a fraction.
-fn whole(rt: &impl Abort, number: u128) -> Frac {
-    Frac::of(number, 1).expect(rt, "lowest terms")
-}
-
-// The limit that fails a load, or none.
-fn limit_of(rt: &impl Abort, fails: Fails) -> Option<Limit> {
-    match fails {
-        Fails::No => None,
-        Fails::By(limit) => Some(limit),
-        Fails::Moment(span, has, design, rating) => Some(Limit::Moment {
-            segment: 0,
-            span,
-            has: whole(rt, has),
-            design: whole(rt, design),
-            rating,
-        }),
-        Fails::Shear(span, has, design, rating) => Some(Limit::Shear {
-            segment: 0,
-            span,
-            has: whole(rt, has),
-            design: whole(rt, design),
-            rating,
-        }),
+// The limit is the one of these words, if any are.
+fn is_limit(rt: &impl Abort, alloc: Global, limit: Option<Limit>, words: &str) {
+    match limit {
+        Some(limit) => {
+            let text = limit_text(alloc, &limit).expect(rt, "memory");
+            holds(rt, text.as_slice() == words.as_bytes(), words);
+            drop(text);
+        }
+        None => holds(rt, words.is_empty(), words),
     }
 }
-
-// What is posted, and what fails a load after it and the postings of the rows behind it.
-type Row = (Posted, Fails);
 
 // The state after what these rows post.
 fn state_after(rt: &impl Abort, alloc: Global, network: &Network, rows: &[Row]) -> State
@@ -180,216 +156,149 @@ fn try_each(
             rows.len()
         };
         let limit = limit_after(rt, alloc, network, load, &rows[i..end]);
-        same(rt, i, limit, limit_of(rt, rows[i].1));
+        is_limit(rt, alloc, limit, rows[i].1);
     }
 }
 
-// The same on the strong roads.
-fn judge(rt: &impl Abort, alloc: Global, load: Load, standing: Standing, rows: &[Row]) {
-    let network = network(rt, alloc, STRONG);
-    try_each(rt, alloc, &network, &load, standing, rows);
-    drop(network);
-    drop(load);
-}
-
 const AT_EQUALITY: [Row; 10] = [
-    ((HEIGHT, 0, 168), Fails::No),
-    (
-        (HEIGHT, 0, 167),
-        Fails::By(Limit::Height {
-            segment: 0,
-            has: 168,
-            allowed: 167,
-        }),
-    ),
-    ((WIDTH, 0, 144), Fails::No),
-    (
-        (WIDTH, 0, 143),
-        Fails::By(Limit::Width {
-            segment: 0,
-            has: 144,
-            allowed: 143,
-        }),
-    ),
-    ((LENGTH, 0, 720), Fails::No),
-    (
-        (LENGTH, 0, 719),
-        Fails::By(Limit::Length {
-            segment: 0,
-            has: 720,
-            allowed: 719,
-        }),
-    ),
-    ((GROSS, 0, 80_000), Fails::No),
-    (
-        (GROSS, 0, 79_999),
-        Fails::By(Limit::Gross {
-            segment: 0,
-            has: 80_000,
-            allowed: 79_999,
-        }),
-    ),
+    ((HEIGHT, 0, 168), ""),
+    ((HEIGHT, 0, 167), "segment 1 height 168 over 167"),
+    ((WIDTH, 0, 144), ""),
+    ((WIDTH, 0, 143), "segment 1 width 144 over 143"),
+    ((LENGTH, 0, 720), ""),
+    ((LENGTH, 0, 719), "segment 1 length 720 over 719"),
+    ((GROSS, 0, 80_000), ""),
+    ((GROSS, 0, 79_999), "segment 1 gross 80000 over 79999"),
     // 68,000 lb of 65,500 lb are 1,038.2 thousandths
-    ((ALLOWANCE, 0, 1_039), Fails::No),
+    ((ALLOWANCE, 0, 1_039), ""),
     (
         (ALLOWANCE, 0, 1_038),
-        Fails::By(Limit::Group {
-            segment: 0,
-            i: 1,
-            j: 4,
-            weight: 68_000,
-            limit: 65_500,
-            allowance: 1_038,
-        }),
+        "segment 1 group 2-5 weight 68000 limit 65500 allowance 1038",
     ),
 ];
 
-#[test]
-fn passes_at_equality(rt: HostRuntime) {
-    let load = loaded(&rt, rt.alloc(), (168, 144, 720), &OVER_THE_FORMULA);
-    judge(&rt, rt.alloc(), load, Standing::Its, &AT_EQUALITY);
-}
-
 const IN_ORDER: [Row; 9] = [
-    ((CLOSED, 0, 1), Fails::By(Limit::Closed { segment: 0 })),
-    (
-        (HEIGHT, 0, 1),
-        Fails::By(Limit::Height {
-            segment: 0,
-            has: 168,
-            allowed: 1,
-        }),
-    ),
-    (
-        (WIDTH, 0, 1),
-        Fails::By(Limit::Width {
-            segment: 0,
-            has: 144,
-            allowed: 1,
-        }),
-    ),
-    (
-        (LENGTH, 0, 1),
-        Fails::By(Limit::Length {
-            segment: 0,
-            has: 720,
-            allowed: 1,
-        }),
-    ),
-    (
-        (GROSS, 0, 1),
-        Fails::By(Limit::Gross {
-            segment: 0,
-            has: 72_000,
-            allowed: 1,
-        }),
-    ),
+    ((CLOSED, 0, 1), "segment 1 closed"),
+    ((HEIGHT, 0, 1), "segment 1 height 168 over 1"),
+    ((WIDTH, 0, 1), "segment 1 width 144 over 1"),
+    ((LENGTH, 0, 1), "segment 1 length 720 over 1"),
+    ((GROSS, 0, 1), "segment 1 gross 72000 over 1"),
     (
         (ALLOWANCE, 0, 0),
-        Fails::By(Limit::Group {
-            segment: 0,
-            i: 1,
-            j: 1,
-            weight: 32_000,
-            limit: 20_000,
-            allowance: 0,
-        }),
+        "segment 1 group 2-2 weight 32000 limit 20000 allowance 0",
     ),
     // 32,000 lb at the middle of 20 ft
     (
         (RATING, 0, 999),
-        Fails::Moment(0, 1_920_000, 1_920_000, 999),
+        "segment 1 span 1 moment 1920000/1 hs20 1920000/1 rating 999",
     ),
-    ((RATING, 2, 0), Fails::Moment(2, 1_920_000, 1_920_000, 0)),
+    (
+        (RATING, 2, 0),
+        "segment 1 span 3 moment 1920000/1 hs20 1920000/1 rating 0",
+    ),
     // a span of another segment
-    ((RATING, 1, 0), Fails::No),
+    ((RATING, 1, 0), ""),
 ];
-
-// Of all changes the first fails the load; of those after it the next one does, and so on.
-#[test]
-fn names_the_first_limit(rt: HostRuntime) {
-    let load = loaded(&rt, rt.alloc(), (168, 144, 720), &HS20);
-    judge(
-        &rt,
-        rt.alloc(),
-        load,
-        Standing::ItsAndThoseBehind,
-        &IN_ORDER,
-    );
-}
 
 // The group of 51,000 lb is over this posted weight of tridem groups by a pound.
 const OVER_TRIDEM: Row = (
     (TRIDEM, 0, 50_999),
-    Fails::By(Limit::Tridem {
-        segment: 0,
-        i: 1,
-        j: 3,
-        weight: 51_000,
-        allowed: 50_999,
-    }),
+    "segment 1 tridem 2-4 weight 51000 over 50999",
 );
 
-const TRIDEMS: [Row; 2] = [((TRIDEM, 0, 51_000), Fails::No), OVER_TRIDEM];
+const TRIDEMS: [Row; 2] = [((TRIDEM, 0, 51_000), ""), OVER_TRIDEM];
 
 const AROUND_TRIDEMS: [Row; 3] = [
     // 51,000 lb of 42,500 lb are 1,200 thousandths
     (
         (ALLOWANCE, 0, 1_199),
-        Fails::By(Limit::Group {
-            segment: 0,
-            i: 1,
-            j: 3,
-            weight: 51_000,
-            limit: 42_500,
-            allowance: 1_199,
-        }),
+        "segment 1 group 2-4 weight 51000 limit 42500 allowance 1199",
     ),
     OVER_TRIDEM,
     // on 20 ft: 17,000/4*240 of the axle in the middle, and 17,000*66/240*120 of each at its side, twice
-    ((RATING, 0, 0), Fails::Moment(0, 2_142_000, 1_920_000, 0)),
-];
-
-// A tridem group passes at equality, is judged behind the groups and before the spans, and by its own weight: the allowance, which is
-// the greatest here, does not scale it.
-#[test]
-fn weighs_tridem_groups(rt: HostRuntime) {
-    let load = loaded(&rt, rt.alloc(), (168, 102, 720), &THREE_AXLES);
-    judge(&rt, rt.alloc(), load, Standing::Its, &TRIDEMS);
-    let load = loaded(&rt, rt.alloc(), (168, 102, 720), &THREE_AXLES);
-    judge(
-        &rt,
-        rt.alloc(),
-        load,
-        Standing::ItsAndThoseBehind,
-        &AROUND_TRIDEMS,
-    );
-}
-
-const RATINGS: [Row; 4] = [
-    ((RATING, 0, 1_082), Fails::No),
-    ((RATING, 0, 1_081), Fails::Shear(0, 45_000, 41_600, 1_081)),
-    ((RATING, 0, 1_055), Fails::Shear(0, 45_000, 41_600, 1_055)),
     (
-        (RATING, 0, 1_054),
-        Fails::Moment(0, 2_025_000, 1_920_000, 1_054),
+        (RATING, 0, 0),
+        "segment 1 span 1 moment 2142000/1 hs20 1920000/1 rating 0",
     ),
 ];
 
-// By what the load keeps of what its axles ask of spans of 20 ft.
-#[test]
-fn judges_spans_by_both_effects(rt: HostRuntime) {
-    let mut load = loaded(&rt, rt.alloc(), (168, 144, 720), &TWO_AXLES);
-    load.keep(rt.alloc(), 240).expect(&rt, "memory");
-    judge(&rt, rt.alloc(), load, Standing::Its, &RATINGS);
+const RATINGS: [Row; 4] = [
+    ((RATING, 0, 1_082), ""),
+    (
+        (RATING, 0, 1_081),
+        "segment 1 span 1 shear 45000/1 hs20 41600/1 rating 1081",
+    ),
+    (
+        (RATING, 0, 1_055),
+        "segment 1 span 1 shear 45000/1 hs20 41600/1 rating 1055",
+    ),
+    (
+        (RATING, 0, 1_054),
+        "segment 1 span 1 moment 2025000/1 hs20 1920000/1 rating 1054",
+    ),
+];
+
+const DESIGN: [Row; 1] = [((RATING, 0, 1_000), "")];
+
+// Height and width of a load that is 720 in long, and its axles; whether it keeps what they ask of spans of 20 ft; which postings stand,
+// and the rows.
+type Judged = (
+    (u32, u32),
+    &'static [(u32, u32)],
+    bool,
+    Standing,
+    &'static [Row],
+);
+
+const JUDGED: [Judged; 6] = [
+    (
+        (168, 144),
+        &OVER_THE_FORMULA,
+        false,
+        Standing::Its,
+        &AT_EQUALITY,
+    ),
+    // Of all changes the first fails the load; of those after it the next one does, and so on.
+    (
+        (168, 144),
+        &HS20,
+        false,
+        Standing::ItsAndThoseBehind,
+        &IN_ORDER,
+    ),
+    // A tridem group passes at equality, is judged behind the groups and before the spans, and by its own weight: the allowance, which
+    // is the greatest here, does not scale it.
+    ((168, 102), &THREE_AXLES, false, Standing::Its, &TRIDEMS),
+    (
+        (168, 102),
+        &THREE_AXLES,
+        false,
+        Standing::ItsAndThoseBehind,
+        &AROUND_TRIDEMS,
+    ),
+    // by both effects, as the load keeps them
+    ((168, 144), &TWO_AXLES, true, Standing::Its, &RATINGS),
+    ((168, 144), &HS20, false, Standing::Its, &DESIGN),
+];
+
+// A load is judged on the strong roads.
+fn judge(rt: &impl Abort, alloc: Global, network: &Network, judged: &Judged) {
+    let &((height, width), axles, keeps, standing, rows) = judged;
+    let mut load = loaded(rt, alloc, (height, width, 720), axles);
+    if keeps {
+        load.keep(alloc, 240).expect(rt, "memory");
+    }
+    try_each(rt, alloc, network, &load, standing, rows);
+    drop(load);
 }
 
-const DESIGN: [Row; 1] = [((RATING, 0, 1_000), Fails::No)];
-
 #[test]
-fn carries_the_design_truck_at_a_rating_of_1000(rt: HostRuntime) {
-    let load = loaded(&rt, rt.alloc(), (168, 144, 720), &HS20);
-    judge(&rt, rt.alloc(), load, Standing::Its, &DESIGN);
+fn names_the_first_limit_that_fails(rt: HostRuntime) {
+    let network = network(&rt, rt.alloc(), &STRONG);
+    for judged in &JUDGED {
+        judge(&rt, rt.alloc(), &network, judged);
+    }
+    drop(network);
     limits_are_of_their_segment();
 }
 

@@ -1,4 +1,4 @@
-use crate::fixtures::{add, holds, named, network, same, says};
+use crate::fixtures::{Piece, add, named, network, same, says};
 use names::Name;
 use road_graph::{AddRefusal, Arrival, Network, Numbers, Segment, Span, Values, What};
 use std::alloc::Global;
@@ -28,87 +28,87 @@ fn numbered(rt: &impl Abort, number: u32) -> Name {
 type Posted = (u32, What, u32);
 
 // What is added, and its number or why it is not.
-type Added = (&'static str, Result<u32, AddRefusal>);
+type Added = (Piece, Result<u32, AddRefusal>);
 
 // A limit was set, or why it was not.
 type Taken = Result<(), AddRefusal>;
 
 // A segment from node a to node b, and a span on it.
-const SMALL: &str = "\
-node a
-node b
-segment ab 0 1 5280
-span s 0 360 1000
-";
+const SMALL: [Piece; 4] = [
+    Piece::Node(b"a"),
+    Piece::Node(b"b"),
+    Piece::Segment(b"ab", 0, 1, 5280),
+    Piece::Span(b"s", 0, 360, 1000),
+];
 
 // The same with the way back, a second way there and a loop at b, and a span more on each of two segments.
-const GROWN: &str = "\
-node a
-node b
-segment ab 0 1 5280
-segment ba 1 0 100
-segment way-2 0 1 200
-segment loop 1 1 300
-span s 0 360 1000
-span t 2 480 900
-span u 0 600 800
-";
+const GROWN: [Piece; 9] = [
+    Piece::Node(b"a"),
+    Piece::Node(b"b"),
+    Piece::Segment(b"ab", 0, 1, 5280),
+    Piece::Segment(b"ba", 1, 0, 100),
+    Piece::Segment(b"way-2", 0, 1, 200),
+    Piece::Segment(b"loop", 1, 1, 300),
+    Piece::Span(b"s", 0, 360, 1000),
+    Piece::Span(b"t", 2, 480, 900),
+    Piece::Span(b"u", 0, 600, 800),
+];
 
 fn add_each(rt: &impl Abort, network: &mut Network, cases: &[Added]) {
-    for &(line, answer) in cases {
-        holds(rt, add(rt, network, line) == answer, line);
+    for (row, (piece, answer)) in cases.iter().enumerate() {
+        same(rt, row, add(rt, network, piece), *answer);
     }
 }
 
 // Adds each to the small network.
 fn add_to_small(rt: &impl Abort, alloc: Global, cases: &[Added]) {
-    let mut small = network(rt, alloc, SMALL);
+    let mut small = network(rt, alloc, &SMALL);
     add_each(rt, &mut small, cases);
     drop(small);
 }
 
 const NODES: [Added; 5] = [
-    ("node a", Err(AddRefusal::SameName)),
-    ("node b", Err(AddRefusal::SameName)),
-    ("node c", Ok(2)),
-    ("node c", Err(AddRefusal::SameName)),
+    (Piece::Node(b"a"), Err(AddRefusal::SameName)),
+    (Piece::Node(b"b"), Err(AddRefusal::SameName)),
+    (Piece::Node(b"c"), Ok(2)),
+    (Piece::Node(b"c"), Err(AddRefusal::SameName)),
     // a segment and a span may have the name of a node
-    ("node s", Ok(3)),
+    (Piece::Node(b"s"), Ok(3)),
 ];
-
-#[test]
-fn refuses_a_node_by_the_first_cause_that_applies(rt: HostRuntime) {
-    add_to_small(&rt, rt.alloc(), &NODES);
-}
 
 const SEGMENTS: [Added; 7] = [
-    ("segment ab 2 2 0", Err(AddRefusal::SameName)),
-    ("segment ba 2 0 0", Err(AddRefusal::UnknownNode)),
-    ("segment ba 0 2 0", Err(AddRefusal::UnknownNode)),
-    ("segment ba 1 0 0", Err(AddRefusal::Range)),
-    ("segment ba 1 0 10000001", Err(AddRefusal::Range)),
-    ("segment ba 1 0 10000000", Ok(1)),
-    ("segment aa 0 0 1", Ok(2)),
+    (Piece::Segment(b"ab", 2, 2, 0), Err(AddRefusal::SameName)),
+    (Piece::Segment(b"ba", 2, 0, 0), Err(AddRefusal::UnknownNode)),
+    (Piece::Segment(b"ba", 0, 2, 0), Err(AddRefusal::UnknownNode)),
+    (Piece::Segment(b"ba", 1, 0, 0), Err(AddRefusal::Range)),
+    (
+        Piece::Segment(b"ba", 1, 0, 10000001),
+        Err(AddRefusal::Range),
+    ),
+    (Piece::Segment(b"ba", 1, 0, 10000000), Ok(1)),
+    (Piece::Segment(b"aa", 0, 0, 1), Ok(2)),
 ];
-
-#[test]
-fn refuses_a_segment_by_the_first_cause_that_applies(rt: HostRuntime) {
-    add_to_small(&rt, rt.alloc(), &SEGMENTS);
-}
 
 const SPANS: [Added; 7] = [
-    ("span s 1 0 0", Err(AddRefusal::SameName)),
-    ("span t 1 0 100001", Err(AddRefusal::UnknownSegment)),
-    ("span t 0 0 0", Err(AddRefusal::Range)),
-    ("span t 0 6001 0", Err(AddRefusal::Range)),
-    ("span t 0 1 100001", Err(AddRefusal::Range)),
-    ("span t 0 6000 100000", Ok(1)),
-    ("span u 0 1 0", Ok(2)),
+    (Piece::Span(b"s", 1, 0, 0), Err(AddRefusal::SameName)),
+    (
+        Piece::Span(b"t", 1, 0, 100001),
+        Err(AddRefusal::UnknownSegment),
+    ),
+    (Piece::Span(b"t", 0, 0, 0), Err(AddRefusal::Range)),
+    (Piece::Span(b"t", 0, 6001, 0), Err(AddRefusal::Range)),
+    (Piece::Span(b"t", 0, 1, 100001), Err(AddRefusal::Range)),
+    (Piece::Span(b"t", 0, 6000, 100000), Ok(1)),
+    (Piece::Span(b"u", 0, 1, 0), Ok(2)),
 ];
 
+const ADDED: [&[Added]; 3] = [&NODES, &SEGMENTS, &SPANS];
+
 #[test]
-fn refuses_a_span_by_the_first_cause_that_applies(rt: HostRuntime) {
-    add_to_small(&rt, rt.alloc(), &SPANS);
+fn refuses_what_is_added_by_the_first_cause_that_applies(rt: HostRuntime) {
+    for cases in &ADDED {
+        add_to_small(&rt, rt.alloc(), cases);
+    }
 }
 
 fn set_limits(rt: &impl Abort, network: &mut Network, cases: &[(Posted, Taken)]) {
@@ -141,7 +141,7 @@ const LIMITS: [(Posted, Taken); 19] = [
 
 #[test]
 fn refuses_a_limit_by_the_first_cause_that_applies(rt: HostRuntime) {
-    let mut network = network(&rt, rt.alloc(), SMALL);
+    let mut network = network(&rt, rt.alloc(), &SMALL);
     set_limits(&rt, &mut network, &LIMITS);
     drop(network);
 }
@@ -172,13 +172,6 @@ const NAMES: [Numbered; 8] = [
     (b"way-3", [None, None, None]),
 ];
 
-#[test]
-fn finds_each_name_among_its_kind(rt: HostRuntime) {
-    let network = network(&rt, rt.alloc(), GROWN);
-    find_each(&rt, &network, &NAMES);
-    drop(network);
-}
-
 fn tell_segment(rt: &impl Abort, segment: Segment, name: &[u8], ends: (u32, u32), feet: u32) {
     same(rt, 0, segment.name, named(rt, name));
     same(rt, 1, (segment.from, segment.to), ends);
@@ -197,13 +190,6 @@ fn tell(rt: &impl Abort, network: &Network) {
     tell_span(rt, network.span(1), b"t", (2, 480, 900));
 }
 
-#[test]
-fn tells_segments_and_spans_by_number(rt: HostRuntime) {
-    let network = network(&rt, rt.alloc(), GROWN);
-    tell(&rt, &network);
-    drop(network);
-}
-
 fn has_set(rt: &impl Abort, network: &Network, segment: u32, values: Values) {
     assert!(rt; segment < network.segments());
     same(rt, segment as usize, network.segment(segment).base, values);
@@ -219,7 +205,7 @@ const SET: [(Posted, Taken); 5] = [
 
 #[test]
 fn sets_one_limit_and_leaves_the_others(rt: HostRuntime) {
-    let mut network = network(&rt, rt.alloc(), GROWN);
+    let mut network = network(&rt, rt.alloc(), &GROWN);
     set_limits(&rt, &mut network, &SET);
     same(&rt, 0, network.segments(), 4);
     let values = Values {
@@ -272,21 +258,29 @@ fn carries(rt: &impl Abort, network: &Network, segment: u32, spans: &[u32]) {
     same(rt, segment as usize, network.spans_of(segment), spans);
 }
 
+// A segment, and the spans on it.
+const CARRIED: [(u32, &[u32]); 4] = [(0, &[0, 2]), (1, &[]), (2, &[1]), (3, &[])];
+
+fn tell_all(rt: &impl Abort, network: &Network) {
+    find_each(rt, network, &NAMES);
+    tell(rt, network);
+    meets(rt, network, 0, &[0, 2], &INTO_A);
+    meets(rt, network, 1, &[1, 3], &INTO_B);
+    for &(segment, spans) in &CARRIED {
+        carries(rt, network, segment, spans);
+    }
+}
+
 #[test]
-fn lists_what_begins_and_ends_at_a_node_and_what_a_segment_carries(rt: HostRuntime) {
-    let network = network(&rt, rt.alloc(), GROWN);
-    meets(&rt, &network, 0, &[0, 2], &INTO_A);
-    meets(&rt, &network, 1, &[1, 3], &INTO_B);
-    carries(&rt, &network, 0, &[0, 2]);
-    carries(&rt, &network, 1, &[]);
-    carries(&rt, &network, 2, &[1]);
-    carries(&rt, &network, 3, &[]);
+fn tells_what_stands_in_a_network(rt: HostRuntime) {
+    let network = network(&rt, rt.alloc(), &GROWN);
+    tell_all(&rt, &network);
     drop(network);
 }
 
 const NODES_BEYOND: [Added; 2] = [
-    ("node c", Err(AddRefusal::TooMany)),
-    ("node a", Err(AddRefusal::SameName)),
+    (Piece::Node(b"c"), Err(AddRefusal::TooMany)),
+    (Piece::Node(b"a"), Err(AddRefusal::SameName)),
 ];
 
 fn add_numbered_nodes(rt: &impl Abort, network: &mut Network, first: u32, end: u32) {
@@ -297,7 +291,7 @@ fn add_numbered_nodes(rt: &impl Abort, network: &mut Network, first: u32, end: u
 
 #[test]
 fn has_room_for_4096_nodes(rt: HostRuntime) {
-    let mut network = network(&rt, rt.alloc(), SMALL);
+    let mut network = network(&rt, rt.alloc(), &SMALL);
     add_numbered_nodes(&rt, &mut network, 2, 4_096);
     add_each(&rt, &mut network, &NODES_BEYOND);
     same(
@@ -310,8 +304,8 @@ fn has_room_for_4096_nodes(rt: HostRuntime) {
 }
 
 const SEGMENTS_BEYOND: [Added; 2] = [
-    ("segment c 0 0 1", Err(AddRefusal::TooMany)),
-    ("segment c 0 0 0", Err(AddRefusal::Range)),
+    (Piece::Segment(b"c", 0, 0, 1), Err(AddRefusal::TooMany)),
+    (Piece::Segment(b"c", 0, 0, 0), Err(AddRefusal::Range)),
 ];
 
 // Adds the segments of these numbers, from one node and the other in turns.
@@ -324,7 +318,7 @@ fn add_numbered_segments(rt: &impl Abort, network: &mut Network, first: u32, end
 
 #[test]
 fn has_room_for_16384_segments(rt: HostRuntime) {
-    let mut network = network(&rt, rt.alloc(), SMALL);
+    let mut network = network(&rt, rt.alloc(), &SMALL);
     add_numbered_segments(&rt, &mut network, 1, 16_384);
     add_each(&rt, &mut network, &SEGMENTS_BEYOND);
     same(
@@ -344,13 +338,13 @@ fn add_numbered_spans(rt: &impl Abort, network: &mut Network, first: u32, end: u
     }
 }
 
-const SPANS_BEYOND_16: [Added; 1] = [("span t 0 1 0", Err(AddRefusal::TooMany))];
+const SPANS_BEYOND_16: [Added; 1] = [(Piece::Span(b"t", 0, 1, 0), Err(AddRefusal::TooMany))];
 
-const SPANS_BEYOND_2048: [Added; 1] = [("span t 129 1 0", Err(AddRefusal::TooMany))];
+const SPANS_BEYOND_2048: [Added; 1] = [(Piece::Span(b"t", 129, 1, 0), Err(AddRefusal::TooMany))];
 
 #[test]
 fn has_room_for_2048_spans_and_16_on_a_segment(rt: HostRuntime) {
-    let mut network = network(&rt, rt.alloc(), SMALL);
+    let mut network = network(&rt, rt.alloc(), &SMALL);
     add_numbered_segments(&rt, &mut network, 1, 130);
     add_numbered_spans(&rt, &mut network, 1, 16);
     add_each(&rt, &mut network, &SPANS_BEYOND_16);

@@ -82,7 +82,7 @@ fn post_on(rt: &impl Abort, alloc: Global, network: &Network) {
 
 #[test]
 fn takes_what_is_there_and_in_range(rt: HostRuntime) {
-    let network = network(&rt, rt.alloc(), ROADS);
+    let network = network(&rt, rt.alloc(), &ROADS);
     post_on(&rt, rt.alloc(), &network);
     drop(network);
 }
@@ -148,7 +148,7 @@ fn replace_each(rt: &impl Abort, alloc: Global, network: &Network) {
 
 #[test]
 fn replaces_one_value_at_each_posting(rt: HostRuntime) {
-    let network = network(&rt, rt.alloc(), ROADS);
+    let network = network(&rt, rt.alloc(), &ROADS);
     replace_each(&rt, rt.alloc(), &network);
     drop(network);
     states_are_of_their_network();
@@ -196,7 +196,7 @@ fn tell_changes(rt: &impl Abort, alloc: Global, network: &Network) {
 
 #[test]
 fn tells_what_changed_after_a_version(rt: HostRuntime) {
-    let network = network(&rt, rt.alloc(), ROADS);
+    let network = network(&rt, rt.alloc(), &ROADS);
     same(&rt, 0, network.segments(), 2);
     tell_changes(&rt, rt.alloc(), &network);
     drop(network);

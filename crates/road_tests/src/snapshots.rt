@@ -170,7 +170,7 @@ fn check_store(rt: &impl Abort, alloc: Global, network: &Network, in_two_steps: 
 }
 
 fn check_over_roads(rt: &impl Abort, alloc: Global, in_two_steps: bool) {
-    let network = network(rt, alloc, ROADS);
+    let network = network(rt, alloc, &ROADS);
     check_store(rt, alloc, &network, in_two_steps);
     drop(network);
 }

@@ -1,4 +1,4 @@
-use Rattle.std.proofs.Common.{◌≡◌, ◌≢◌, ap, arith, inl, inr, length, subst, sym}
+use Rattle.std.proofs.Common.{◌≢◌, ap, arith, inl, inr, length, subst, sym}
 use Rattle.std.proofs.lemmas.Bool.{cases_lt}
 use Rattle.office_core.specs.Offices.{Opened, entry}
 use Rattle.reroute_desk.specs.Desks.{KeepsUp}

@@ -1,9 +1,9 @@
 use Rattle.std.proofs.Common.{◌≡◌}
 use Rattle.trip_analysis.specs.Followers.{GoesOn}
-use Rattle.road_tests.proofs.analyses.follow_lines.Given as goal
+use Rattle.road_tests.proofs.analyses.follow_entries.Given as goal
 
-abbrev pub invariant-lines : goal.invariant-lines
-invariant-lines g l = record {
+abbrev pub invariant-entries : goal.invariant-entries
+invariant-entries g l = record {
   base : l.follower.base ≡ l.base;
   roads : l.store.roads ≡ l.base.roads;
   later : GoesOn l.follower.last l.store;

@@ -1,5 +1,0 @@
-use Rattle.office_tests.proofs.chains.submit_after.Goals as goal
-
--- what was found may still be submitted after the posting
-pub answer-reply-requires-clause-asked : goal.answer-reply-requires-clause-asked
-answer-reply-requires-clause-asked g c = c.answer-posted.ensures _ c.found_now-call.ensures
