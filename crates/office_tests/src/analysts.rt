@@ -1,5 +1,6 @@
 ghost use Rattle.std.specs.Prelude.{◌≡◌, ◌<◌, ◌≤◌, [], All, IfOk, false, vec_len};
 ghost use Rattle.std.specs.Arc.{arc_value};
+ghost use Rattle.clearance_rules.specs.Counters.{IsBlankOf};
 ghost use Rattle.office_core.specs.Replies.{is_full};
 ghost use Rattle.office_core.specs.Seats.{calls_of};
 ghost use Rattle.office_core.specs.Calls.{Answered};
@@ -167,9 +168,7 @@ fn carry_out_one<C: OfficeCalls, G: Gate, L: Ledger>(
     kind: u32,
     blank: Blank,
 ) -> Reply
-    requires name { blank.name ≡ L.name }
-    requires parts { blank.parts ≡ L.parts }
-    requires some { 0 < blank.parts }
+    requires counter { IsBlankOf L.name L.parts blank }
     requires base { errand.now.base.now ≡ (C.view calls.old).who.base }
 {
     let command = command(rt, errand.base, kind);
@@ -190,9 +189,7 @@ fn tell<C: OfficeCalls, L: Ledger>(
     told: u64,
     blank: Blank,
 ) -> u32
-    requires name { blank.name ≡ L.name }
-    requires parts { blank.parts ≡ L.parts }
-    requires some { 0 < blank.parts }
+    requires counter { IsBlankOf L.name L.parts blank }
     requires base { base.now ≡ (C.view calls.old).who.base }
 {
     let gate = Digits { told: Cell::new(1) };
@@ -482,9 +479,7 @@ fn run_one<R: Threads + Abort + Sync, L: Ledger + Send + Sync>(
     scripted: &Scripted,
     blank: Blank,
 )
-    requires name { blank.name ≡ L.name }
-    requires parts { blank.parts ≡ L.parts }
-    requires some { 0 < blank.parts }
+    requires counter { IsBlankOf L.name L.parts blank }
     requires base { office.base ≡ base.now }
     requires opened { office.history ≡ [] }
 {

@@ -1,4 +1,5 @@
 ghost use Rattle.std.specs.Prelude.{◌≡◌, ◌<◌, ◌++◌, [], List, IfOk, IfSome};
+ghost use Rattle.clearance_rules.specs.Counters.{IsBlankOf};
 ghost use Rattle.snapshot_store.specs.Stores.{store_version_of as postings_of};
 ghost use Rattle.trip_analysis.specs.Applications.{Sound};
 ghost use Rattle.trip_analysis.specs.Findings.{IsFoundAt};
@@ -69,9 +70,7 @@ fn call_of(rt: &impl Abort, office: &Office, found: &mut Option<Call>, call: &Ca
 
 // Makes a call of the office, with this counter.
 fn step<L: Ledger>(office: &mut Office, caller: u32, call: Call, blank: Blank) -> Reply
-    requires name { blank.name ≡ L.name }
-    requires parts { blank.parts ≡ L.parts }
-    requires some { 0 < blank.parts }
+    requires counter { IsBlankOf L.name L.parts blank }
     requires caller { caller < 65536 }
     requires asked { MayAsk office.old.base (machine_in office.old) call }
     ensures { (c : Call) → MayAsk office.old.base (machine_in office.old) c
@@ -189,9 +188,7 @@ fn look_for<L: Ledger>(
     application: &Application,
     blank: Blank,
 ) -> Result<Proposal, NoMemory>
-    requires name { blank.name ≡ L.name }
-    requires parts { blank.parts ≡ L.parts }
-    requires some { 0 < blank.parts }
+    requires counter { IsBlankOf L.name L.parts blank }
     requires roads { snapshot.now.roads ≡ base.now.roads }
     requires sound { Sound base.now application.now }
     ensures seen { IfOk result (λ proposal. proposal.seen ≡ postings_of snapshot.now) }
@@ -296,9 +293,7 @@ fn full_in<L: Ledger>(
     by_seat: bool,
     blank: Blank,
 ) -> u32
-    requires name { blank.name ≡ L.name }
-    requires parts { blank.parts ≡ L.parts }
-    requires some { 0 < blank.parts }
+    requires counter { IsBlankOf L.name L.parts blank }
     requires opened { office.history ≡ [] }
 {
     let mut office = CountedOffice::<L>::new(office, blank);

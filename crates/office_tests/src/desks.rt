@@ -1,5 +1,6 @@
 //! What no clause says: that calls are answered, on threads that run at once.
 ghost use Rattle.std.specs.Prelude.{◌≡◌, ◌<◌};
+ghost use Rattle.clearance_rules.specs.Counters.{IsBlankOf};
 ghost use Rattle.office_turn.specs.Told.{IsReady};
 
 use crate::fixtures::{ALONE, base, day, full_at, has_lines};
@@ -16,9 +17,7 @@ use std::thread::{Threads, join_mut};
 
 // A desk of an office about one segment.
 fn start<L: Ledger>(rt: &impl Abort, alloc: Global, most: u32, blank: Blank) -> (Desk<L>, Root<L>)
-    requires name { blank.name ≡ L.name }
-    requires parts { blank.parts ≡ L.parts }
-    requires some { 0 < blank.parts }
+    requires counter { IsBlankOf L.name L.parts blank }
     ensures { result.1.lock ≡ result.0 }
 {
     assert!(rt; 1 <= most && most <= 1_000_000);
@@ -155,9 +154,7 @@ fn look_behind_a_posting<L: Ledger + Send + Sync>(
     rt: &(impl Abort + Wait + AllocGlobal + Sync),
     blank: Blank,
 )
-    requires name { blank.name ≡ L.name }
-    requires parts { blank.parts ≡ L.parts }
-    requires some { 0 < blank.parts }
+    requires counter { IsBlankOf L.name L.parts blank }
 {
     let (desk, mut root) = start::<L>(rt, rt.alloc(), 100, blank);
     let mut one = admit(rt, &desk, &mut root);
@@ -180,9 +177,7 @@ fn is_full_once_all_turns_are_taken(rt: HostRuntime) {
 
 // Takes the one turn that there is, and two more.
 fn take_all_turns<L: Ledger>(rt: &(impl Abort + Wait + AllocGlobal + Sync), blank: Blank)
-    requires name { blank.name ≡ L.name }
-    requires parts { blank.parts ≡ L.parts }
-    requires some { 0 < blank.parts }
+    requires counter { IsBlankOf L.name L.parts blank }
 {
     let (desk, mut root) = start::<L>(rt, rt.alloc(), 1, blank);
     let mut one = admit(rt, &desk, &mut root);
@@ -206,9 +201,7 @@ fn call_at_once<L: Ledger + Send + Sync>(
     rt: &(impl Abort + Wait + Threads + AllocGlobal + Sync),
     blank: Blank,
 )
-    requires name { blank.name ≡ L.name }
-    requires parts { blank.parts ≡ L.parts }
-    requires some { 0 < blank.parts }
+    requires counter { IsBlankOf L.name L.parts blank }
 {
     let (desk, mut root) = start::<L>(rt, rt.alloc(), 1_000, blank);
     let mut one = admit(rt, &desk, &mut root);

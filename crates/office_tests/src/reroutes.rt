@@ -1,4 +1,5 @@
 ghost use Rattle.std.specs.Prelude.{◌≡◌, ◌<◌, ◌≤◌, []};
+ghost use Rattle.clearance_rules.specs.Counters.{IsBlankOf};
 ghost use Rattle.office_core.specs.Machine.{MayAsk};
 ghost use Rattle.office_core.specs.Offices.{machine_in};
 ghost use Rattle.reroute_desk.specs.Desks.{KeepsUp, new_desk};
@@ -25,9 +26,7 @@ fn beside<L: Ledger>(
     most: u32,
     blank: Blank,
 ) -> (CountedOffice<L>, Rerouter)
-    requires name { blank.name ≡ L.name }
-    requires parts { blank.parts ≡ L.parts }
-    requires some { 0 < blank.parts }
+    requires counter { IsBlankOf L.name L.parts blank }
     ensures caller { result.1.caller ≡ 1 }
     ensures kept { KeepsUp result.1 result.0.office }
 {
@@ -164,9 +163,7 @@ const ROWS: [Row; 3] = [
 
 // The desk and the office do what a row says.
 fn catches_up<L: Ledger>(rt: &impl Abort, alloc: Global, row: &Row, blank: Blank)
-    requires name { blank.name ≡ L.name }
-    requires parts { blank.parts ≡ L.parts }
-    requires some { 0 < blank.parts }
+    requires counter { IsBlankOf L.name L.parts blank }
 {
     let &(most, lines, answer, handled) = row;
     let (mut office, mut desk) = beside::<L>(rt, alloc, most, blank);

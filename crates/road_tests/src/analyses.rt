@@ -1,4 +1,5 @@
 ghost use Rattle.std.specs.Prelude.{◌≡◌, ◌<◌, ◌↔◌, length, All, IsTrue};
+ghost use Rattle.clearance_rules.specs.Counters.{IsBlankOf};
 ghost use Rattle.restriction_log.specs.States.{AreOf};
 ghost use Rattle.trip_analysis.specs.Applications.{AreAskedThere};
 ghost use Rattle.snapshot_store.specs.Stores.{IsLater};
@@ -450,9 +451,7 @@ fn follow_entries<L: Ledger>(
     entries: &[Entry],
     blank: Blank,
 )
-    requires name { blank.name ≡ L.name }
-    requires parts { blank.parts ≡ L.parts }
-    requires some { 0 < blank.parts }
+    requires counter { IsBlankOf L.name L.parts blank }
     requires base { follower.old.base ≡ base.now }
     requires roads { store.old.roads ≡ base.now.roads }
     requires later { GoesOn follower.old.last store.old }
@@ -599,9 +598,7 @@ fn tell_leaving(rt: &impl Abort, alloc: Global, network: &Network) {
 // All with one counter.
 fn tell_all<L: Ledger>(rt: &impl Abort, base: &Base, state: &State, blank: Blank)
     requires state { AreOf base.now.roads state.now }
-    requires name { blank.name ≡ L.name }
-    requires parts { blank.parts ≡ L.parts }
-    requires some { 0 < blank.parts }
+    requires counter { IsBlankOf L.name L.parts blank }
 {
     let mut steps = Steps::<L>::new(blank);
     assert!(rt; base.fleet().len() == 2);

@@ -1,4 +1,5 @@
 ghost use Rattle.std.specs.Prelude.{◌≡◌, ◌<◌, length};
+ghost use Rattle.clearance_rules.specs.Counters.{IsBlankOf};
 ghost use Rattle.restriction_log.specs.States.{AreOf};
 
 use crate::fixtures::{
@@ -104,9 +105,7 @@ fn limit_on<L: Ledger>(
 ) -> Option<Limit>
     requires segment { segment < length network.now.segments }
     requires state { AreOf network.now state.now }
-    requires name { blank.name ≡ L.name }
-    requires parts { blank.parts ≡ L.parts }
-    requires some { 0 < blank.parts }
+    requires counter { IsBlankOf L.name L.parts blank }
 {
     let mut steps = Steps::<L>::new(blank);
     let study = Live {
