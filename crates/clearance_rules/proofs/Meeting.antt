@@ -171,7 +171,7 @@ span_only axles inches rating s i train some long h =
     let both = fits_only (effects_of axles inches) (design_of inches) rating s i h in
     let says = says_of_peaks (IsTrainPlaced axles) IsHs20Placed inches rating (effects_of axles inches) (design_of inches) some
     (effects_are_the_peaks axles inches train some long) (design_is_the_peaks inches some long) in
-    let fits = says.fits both in
+    let fits = says.fits.0 both in
     record { moment = fits.0; shear = fits.1 }
 
 pub span_none : (axles : List Axle) (inches rating s i : ℕ) → IsTrain axles → 1 ≤ inches → inches ≤ 6000
@@ -180,7 +180,7 @@ unfolding span_limit
 span_none axles inches rating s i train some long is =
     let says = says_of_peaks (IsTrainPlaced axles) IsHs20Placed inches rating (effects_of axles inches) (design_of inches) some
     (effects_are_the_peaks axles inches train some long) (design_is_the_peaks inches some long) in
-    fits_none (effects_of axles inches) (design_of inches) rating s i (λ over. says.moment over is.moment) (λ over. (says.shear over).1 is.shear)
+    fits_none (effects_of axles inches) (design_of inches) rating s i (λ over. says.moment.0 over is.moment) (λ over. (says.shear.0 over).1 is.shear)
 
 -- the spans of a list
 abbrev AreInRange : Roads → List ℕ → Type 0

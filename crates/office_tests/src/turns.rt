@@ -1,8 +1,8 @@
 //! What no clause says: that turns are taken and the calls return, on threads that run at once.
-ghost use Rattle.std.specs.Prelude.{◌≡◌, ◌<◌, ◌∷◌, ◌++◌, [], false, Some, All, length};
+ghost use Rattle.std.specs.Prelude.{◌≡◌, ◌<◌, false, Some, All, length};
 ghost use Rattle.office_turn.specs.Told.{Lock, IsReady};
 
-use office_turn::{Notes, Pass, Root, Turn, Worn};
+use office_turn::{Notes, Pass, Root, Turn, Worn, note_once};
 use std::alloc::Global;
 use std::process::Abort;
 use std::sync::Wait;
@@ -45,16 +45,7 @@ fn close(rt: &impl Abort, turn: Turn<Notes>, root: Root<Notes>) -> Notes
     turn.close(root)
 }
 
-// Notes a pair, for which there is room.
-fn add(notes: &mut Notes, caller: u32, number: u32)
-    requires { length notes.old.pairs.items < notes.old.room }
-    ensures pairs { notes.new.pairs.items ≡ notes.old.pairs.items ++ (caller, number) ∷ [] }
-    ensures room { notes.new.room ≡ notes.old.room }
-{
-    notes.pairs.push_reserved((caller, number));
-}
-
-// Takes one turn, and notes a number in it. The lock gives as many turns as the notes have room.
+// Notes a number in a turn.
 fn note<R: Wait>(
     rt: &R,
     turn: &Turn<Notes>,
@@ -65,10 +56,7 @@ fn note<R: Wait>(
     requires ready { IsReady turn.now pass.old }
     ensures { IsReady turn.now pass.new }
 {
-    let mut held = turn.hold(rt, pass)?;
-    add(held.value(), pass.number(), number);
-    turn.pass_on(pass, held);
-    Ok(())
+    note_once(rt, turn, pass, number)
 }
 
 // Notes the numbers below `count`, each in a turn of its own.
