@@ -90,11 +90,7 @@ fn reactions(rt: &impl Abort, train: &Train, cases: &[Reactions]) {
 #[test]
 fn reactions_by_hand(rt: HostRuntime) -> Result<(), Fail> {
     // The middle axle on the left support: 32000 * (240 + 72) / 240, and 32000 * 168 / 240.
-    reactions(
-        &rt,
-        &truck(),
-        &[(240, 1, -168, (41600, 1), (22400, 1))],
-    );
+    reactions(&rt, &truck(), &[(240, 1, -168, (41600, 1), (22400, 1))]);
     reactions(
         &rt,
         &Train::new(&[axle(0, 1000), axle(48, 2000)])?,

@@ -1,3 +1,4 @@
+pub use Rattle.influence_line.specs.Spans
 pub use Rattle.span_rating.specs.Loading
 pub use Rattle.span_rating.specs.Judgement
 pub mod Lane
