@@ -18,8 +18,8 @@ returns c =
       (
         moment.result,
         shear.result,
-        record { peak = moment.ensures.peak; lowest = moment.ensures.lowest; first = moment.ensures.first },
-        record { peak = shear.ensures.peak; lowest = shear.ensures.lowest; first = shear.ensures.first },
+        record { peak = moment.ensures.peak; lowest = moment.ensures.small.lowest; first = moment.ensures.first },
+        record { peak = shear.ensures.peak; lowest = shear.ensures.small.lowest; first = shear.ensures.first },
         refl,
       ),
       rw (last, c.in_ok-add_design.ensures, c.in_ok-add_shear.ensures, c.in_ok-add_moment.ensures, c.in_ok-add_span.ensures, c.fits.ensures.computed, c.effects-design.ensures.value) (simp append_assoc refl),
