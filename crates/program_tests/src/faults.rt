@@ -1,7 +1,8 @@
 // Runs whose reads or writes fail in turn, and what only calls show of a run and of those who are told of recalls.
 
-use crate::cases::{FHWA, Notices};
+use crate::cases::Notices;
 use crate::days::{Front, ISSUED, RECALLING, RECALLING_JOURNAL};
+use crate::report_cases::FHWA;
 use crate::runs::{bytes_of, hear, joined, list_of, run_words, same, sink_of, source_of};
 use names::Name;
 use notice_desk::{Notice, Recall};

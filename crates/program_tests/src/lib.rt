@@ -15,8 +15,16 @@ mod faults;
 #[cfg(test)]
 mod inputs;
 #[cfg(test)]
+mod journal_cases;
+#[cfg(test)]
 mod made_days;
 #[cfg(test)]
 mod meetings;
+#[cfg(test)]
+mod record_cases;
+#[cfg(test)]
+mod refusal_cases;
+#[cfg(test)]
+mod report_cases;
 #[cfg(test)]
 mod runs;
