@@ -8,12 +8,12 @@ ghost use Rattle.csv.specs.Records.{fields_of};
 ghost use Rattle.day_text.specs.Causes.{Judges};
 ghost use Rattle.day_text.specs.Days.{come_to, judge_day, judge_kind};
 
+use crate::actors::Actors;
 use crate::adding::add;
 use crate::day_so_far::{DaySoFar, Growing};
 use crate::demands::{day_in, has_only, or_bad};
 use crate::fields::field;
 use crate::kind::{RecordKind, parse_kind};
-use crate::actors::Actors;
 use crate::orders::Orders;
 use crate::records::Progress;
 use crate::refusal::{RecordCause, RecordRefusal};
