@@ -113,7 +113,7 @@ class Entry:
     limit: Limit | None = None
     segment: int = 0
     status: str = ""
-    shown: tuple[int, int, str, str, int, int] | None = None
+    shown: tuple[int, int, int, str, str, int, int] | None = None
 
 
 class Bad(Exception):
@@ -231,9 +231,9 @@ def reply_of(text: str) -> dict[str, object]:
         if kind == "notinforce":
             return {"reply": kind, "status": status_of(found[1])}
         if kind == "shown":
-            who = index(found[2]), index(found[3]), calendar_day(found[4]), calendar_day(found[5])
+            who = number(found[1]), index(found[2]), index(found[3]), calendar_day(found[4]), calendar_day(found[5])
             shown = (*who, number(found[6]), number(found[7]))
-            return {"reply": kind, "shown": shown, "number": number(found[1]), "status": status_of(found[8])}
+            return {"reply": kind, "shown": shown, "status": status_of(found[8])}
         set_here: dict[str, object] = {"reply": kind, "version": number(found[1])}
         if kind == "issued":
             set_here |= {"number": number(found[1]), "version": number(found[2]), "routes": routes_of(found[3])}
