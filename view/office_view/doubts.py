@@ -18,8 +18,9 @@ class Doubts(Warnings):
 
     def __init__(self, sheet: Lenient) -> None:
         self.roads = Roads(sheet)
-        # what stands in the file, refused or not
-        self.all_actors = sheet.all_kinds.count("actor")
+        # what stands in the file above its end, refused or not
+        kinds = sheet.all_kinds
+        self.all_actors = kinds[:kinds.index("end")].count("actor") if "end" in kinds else kinds.count("actor")
         self.all_applications = [row for row, kind in enumerate(sheet.all_kinds, 1) if kind == "apply"]
         # the rows of refused records that were to set the office's day, and the last row that did set it
         self.unsure, self.set_at = unsure_rows(sheet), 1
@@ -71,10 +72,11 @@ class Doubts(Warnings):
 
     def one_way(self, record: Accepted, segment: str, what: str, column: int) -> Iterator[str]:
         """Whether a limit holds in one direction alone."""
-        if others := self.roads.without_limit(segment, what):
+        is_closed = what == "closed" and record.values[-1] == 1
+        if others := self.roads.without_limit(segment, "closed 1" if is_closed else what):
+            never = "is never closed" if is_closed else f"its {what} is never set or posted"
             yield self.at(record, column) + (
-                f"{others} leads the other way, and its {what} is never set or posted: what holds in both directions "
-                "is said of both stretches"
+                f"{others} leads the other way, and {never}: what holds in both directions is said of both stretches"
             )
 
 
@@ -97,8 +99,9 @@ class Roads:
                 self.ends[name] = (start, end)
                 self.by_ends.setdefault((start, end), []).append(name)
         self.spans = {name: segment for name, segment in spans_of(sheet)}
-        self.limits = {(record.values[0], record.values[1]) for record in sheet.accepted if record.kind == "limit"}
-        self.limits |= {(record.values[1], record.values[2]) for record in sheet.accepted if record.kind == "post"}
+        said = [record.values[-3:] for record in sheet.accepted if record.kind in ("limit", "post")]
+        self.limits = {(item, what) for item, what, _ in said}
+        self.limits |= {(item, "closed 1") for item, what, value in said if (what, value) == ("closed", 1)}
 
     def opposite(self, segment: str) -> list[str]:
         """The stretches that lead the other way between the same two nodes."""

@@ -76,11 +76,11 @@ def and_text(parts: Sequence[str]) -> str:
     return " and ".join(filter(None, [", ".join(parts[:-1]), parts[-1]]))
 
 
-def refused(sheet: Lenient, data: bytes, check: bool) -> list[Entry]:
+def refused(sheet: Lenient, check: bool) -> list[Entry]:
     """What is refused, in the order of the first row of each mistake."""
     found: dict[str, Entry] = {}
     for refusal in sheet.refusals:
-        made = hint(refusal, sheet, data, check)
+        made = hint(refusal, sheet, check)
         column = letter_of(refusal.column) if refusal.column else None
         found.setdefault(made.what, Entry(made)).add(refusal.row, refusal.line, column, cell_of(refusal))
     return merged(list(found.values()))

@@ -11,6 +11,7 @@ from typing import BinaryIO
 from model.records import MOST_BYTES, unmarked
 
 from .command import printable, read_by
+from .sayings import SEPARATORS
 from .sheet import kind_of, kinds_of_all, plain_kind
 
 SAVE = "save the sheet as CSV, with commas, in UTF-8"
@@ -27,7 +28,6 @@ MAGIC = (
     (b"\xfe\xff", UTF_16),
 )
 MARKUP = re.compile(rb"\s*<(\?xml|!doctype|html|table|office:)", re.I)
-SEPARATORS = ((b";", "semicolons"), (b"\t", "tabs"), (b"|", "bars"))
 LOOKED_AT = 200
 LEAST_KINDS = 3
 

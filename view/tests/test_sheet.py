@@ -336,6 +336,13 @@ class Folded(unittest.TestCase):
             ],
         )
 
+    def test_many_lists_with_the_same_mistake_are_one_line(self) -> None:
+        trucks = b"".join(b"truck,T%d,ACME,168,120,780,0:12000 %d:30000lb,\n" % (at, 180 + at) for at in range(40))
+        _, said = sheet(GOOD.replace(b"actor,ann", trucks + b"actor,ann"), "--no-warnings")
+        self.assertEqual(len(said), 2, said)
+        self.assertTrue(said[0].startswith('rows 15 to 54, column G, first "0:12000 180:30000lb": the list of axles: '))
+        self.assertIn("in a pair a number has no unit behind it", said[0])
+
     def test_at_most_fifty_lines_and_a_total(self) -> None:
         rows = b"".join(b"limit,S-E,height,%d,,,,\n" % at for at in range(170, 240))
         _, said = sheet(TWO_WAYS.replace(b"span,MILL-E", rows + b"span,MILL-E"))
@@ -379,7 +386,12 @@ class Cells(unittest.TestCase):
             b"63.360": "with no point: write 63360 where the point parts thousands, and else round it",
             b"63 360": "has no separators: write 63360",
             b"'63,360'": "an apostrophe stands in front, which some spreadsheets save with the text, and it has no",
-            b"63360 ft": "has no unit behind it: digits alone",
+            b"1,234.567": "has no separators, and it is a whole number, and here is a fraction: round it",
+            b"63,360.00": "has no separators, and it is a whole number, with nothing behind a point: write 63360",
+            b"63.360,00": "has no separators, and it is a whole number, with nothing behind a point: write 63360",
+            b"1.234,567": "has no separators, and it is a whole number, and here is a fraction: round it",
+            b"63360.": "is a whole number, with nothing behind a point: write 63360",
+            b"63360 ft": "has no unit behind it: digits alone, and converted where it is another unit",
             b"12mi": "has no unit behind it: digits alone",
             b"6.336E+04": "a spreadsheet wrote it as a power of ten, perhaps rounded: write 63360",
             b"-63360": "has no sign",
@@ -388,8 +400,9 @@ class Cells(unittest.TestCase):
             b"1234567890": "has at most 9 digits, and here are 10",
             "\u0666\u0663".encode(): "its digits are those of another script",
             "63360 §".encode(): "is a number: one to nine digits, and nothing else",
-            b"63360x2": "is a number: one to nine digits, no signs",
-            b"far": "one to nine digits",
+            b"63360x2": "is a number: one to nine digits, and nothing else",
+            b"far": "is a number: one to nine digits, and nothing else",
+            b"": "a length in feet is missing",
         }
         for cell, words in cases.items():
             said = self.of(b"63360", cell if b"," not in cell else b'"' + cell + b'"')
@@ -531,7 +544,8 @@ class Warned(unittest.TestCase):
         cases = (
             ('row 6, column C "S-E": S-W leads the other way and has no span', b"span,MILL-W,S-W,480,1300,,,\n", b""),
             ('row 6, column C "S-W": S-E leads the other way and has no span', b"span,MILL-E,S-E,480,1300,,,\n", b""),
-            ('"S-E": S-W leads the other way, and its closed is never set', b"post,ann,S-W,closed,1,,,\n", b""),
+            ('"S-E": S-W leads the other way, and is never closed', b"post,ann,S-W,closed,1,,,\n", b""),
+            ('"S-E": S-W leads the other way, and is never closed', b"S-W,closed,1", b"S-W,closed,0"),
             ('row 6, column B "S-W": S-E leads the other way, and its height', b"span,", height + b"span,"),
             ("no rating is posted on its spans", b"post,ann,S-E,closed,1", b"post,ann,MILL-E,rating,900"),
         )
@@ -541,6 +555,12 @@ class Warned(unittest.TestCase):
     def test_a_road_in_one_direction_is_warned_of_nowhere(self) -> None:
         # RING-E has no stretch of the other way
         self.assertNotIn('"RING-E"', self.warned(GOOD))
+
+    def test_what_stands_behind_the_end_has_no_actor(self) -> None:
+        # two files that were put together; the first has one actor
+        _, said = sheet(TWO_WAYS + TWO_WAYS)
+        self.assertNotIn("actors work at once", "".join(said))
+        self.assertIn("the day stands once, in row 1", said[0])
 
     def test_a_refused_span_counts_on_the_other_way(self) -> None:
         _, said = sheet(TWO_WAYS.replace(b"S-W,480,1300", b"S-W,480,1300.5"))
@@ -552,13 +572,38 @@ class Warned(unittest.TestCase):
 
 
 class Words(unittest.TestCase):
+    def test_streams_that_are_closed(self) -> None:
+        """All three programs: a line and a status, and no word of Python's."""
+        day, journal, check, report = (EXAMPLES / name for name in (
+            "recall.csv", "recall.journal", "two-trucks.csv", "two-trucks.convoy"
+        ))
+        unread = "standard input cannot be read: Bad file descriptor"
+        unwritten = "standard output cannot be written: Bad file descriptor"
+        cases: tuple[tuple[str, tuple[object, ...], str, int, str], ...] = (
+            ("sheet", ("-",), "<&-", 3, unread),
+            ("sheet", (day,), ">&-", 4, unwritten),
+            ("day", (day, "-"), "<&-", 3, unread),
+            ("day", (day, journal), ">&-", 4, unwritten),
+            ("truck", ("-", report), "<&-", 3, unread),
+            ("truck", (check, report, "--table"), ">&-", 4, unwritten),
+        )
+        for name, words, closed, status, line in cases:
+            told = subprocess.run(
+                ["/bin/sh", "-c", f'exec "$0" "$@" {closed}', VIEW / name, *map(str, words)], capture_output=True
+            )
+            self.assertEqual((told.returncode, told.stderr.decode()), (status, f"{name}: {line}\n"))
+        told = subprocess.run(["/bin/sh", "-c", 'exec "$0" /no/file 2>&-', VIEW / "sheet"], capture_output=True)
+        self.assertEqual((told.returncode, told.stdout), (3, b""))
+
     def test_a_file_that_is_not_there(self) -> None:
         told = ran("sheet", "/no/such/file")
         self.assertEqual((told.returncode, told.stdout), (3, b""))
         self.assertEqual(told.stderr, b"sheet: /no/such/file cannot be read: No such file or directory\n")
 
     def test_words_that_ask_for_nothing(self) -> None:
-        self.assertEqual(ran("sheet").returncode, 2)
+        told = ran("sheet")
+        line = b"sheet: the following arguments are required: FILE: --help says how it is used\n"
+        self.assertEqual((told.returncode, told.stdout, told.stderr), (2, b"", line))
         self.assertEqual(ran("sheet", "--check", "--day", "x").returncode, 2)
         self.assertEqual(ran("sheet", "--help").returncode, 0)
 
