@@ -275,8 +275,9 @@ class OfPermit(Handout):
         """What is decided, why, for which days, and what to do next."""
         permit = self.permit
         issued = f"at version {permit.version}, by {self.words.actors[permit.caller]}"
+        stands = f'<span class="state">{safe(STATUS[permit.status])}.</span> So it stands on {safe(self.made.day)}'
         facts = (
-            ("How it stands", f'<span class="state">{safe(STATUS[permit.status])}</span> on {safe(self.made.day)}'),
+            ("How it stands", f"{stands}, the office's day"),
             ("Why", safe(self.why(permit))),
             ("Days", f"{days(permit.trip)}, both among them"),
             ("What to do next", safe(self.next_step(permit))),

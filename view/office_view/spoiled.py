@@ -140,7 +140,11 @@ def of_name(text: str) -> Spoiled | None:
         mended = re.sub(f"[{DASHES}]", "-", text)
         return Spoiled("here is a longer dash than -", mended)
     bad = next((letter for letter in text if not re.match("[A-Za-z0-9_ -]", letter)), None)
-    return Spoiled(f"it has the letters A to Z, digits, - and _ alone, and not {printable(bad)}") if bad else None
+    if bad is None:
+        return None
+    # a letter of another alphabet may look like one from A to Z
+    shown = printable(bad) if bad.isascii() else f"{printable(bad)} (U+{ord(bad):04X})"
+    return Spoiled(f"it has the letters A to Z, digits, - and _ alone, and not {shown}")
 
 
 def of_day(text: str) -> Spoiled | None:

@@ -644,7 +644,7 @@ class Handouts(unittest.TestCase):
         text = self.shown("--permit", "1")
         for words in (
             "Permit 1: ACME LOWBOY",
-            "How it standsRecalled on 2026-03-04",
+            "How it standsRecalled. So it stands on 2026-03-04, the office's day",
             "By posting 1: bridge MILL-BR-E on US20-E has a rating of 1,250 thousandths of HS20-44. "
             f"M{CARRIED[1:]}",
             "Days2026-03-02 to 2026-03-06",

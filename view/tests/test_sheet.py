@@ -429,7 +429,9 @@ class Cells(unittest.TestCase):
         cases = {
             b" BOLT": "a blank stands in front of it, which no eye sees: write BOLT",
             "BOLT\u2013A".encode(): "here is a longer dash than -: write BOLT-A",
-            "BÖLT".encode(): "has the letters A to Z, digits, - and _ alone, and not Ö",
+            "BÖLT".encode(): "has the letters A to Z, digits, - and _ alone, and not Ö (U+00D6)",
+            # a Greek letter that looks like a B
+            "\u0392OLT".encode(): "digits, - and _ alone, and not \u0392 (U+0392)",
             b"BOLT&CO": "digits, - and _ alone, and not &",
             b"BOLT CO": "is a name: letters, digits, - and _, no spaces",
             b"B" * 17: "at most 16 letters, digits, - and _, and this has 17",
