@@ -85,7 +85,7 @@ class Page:
     def summary(self) -> str:
         made = self.made
         counts = Counter(permit.status for permit in made.permits)
-        parts = ", ".join(f"{counts[status]} {status}" for status in STATES if counts[status])
+        parts = ", ".join(f"{counts[status]:,} {status}" for status in STATES if counts[status])
         said = f"{plural(len(made.permits), 'permit')}{': ' + parts if parts else ''}"
         return (
             f"{said}. {plural(len(made.answers), 'application')} without a permit, "

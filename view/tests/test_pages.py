@@ -403,6 +403,33 @@ class Pages(unittest.TestCase):
                 self.browser.open(path, anchor)
                 self.assertEqual(self.browser.value(LABELS), [])
 
+    def test_a_telephone_shows_the_reason_whole(self) -> None:
+        day = made_day(5, 4)
+        paths = [self.template(), self.template(name="annual"), self.page(day, journal_of(day))]
+        self.browser.wide(360, 780)
+        for path in paths:
+            self.browser.open(path)
+            seen = 0
+            for it in self.browser.value("[...choice.options].map((it) => it.value)")[1:]:
+                self.set("choice", it, "change")
+                outside = self.browser.value(
+                    "(() => { const frame = document.getElementById('frame').getBoundingClientRect(); return "
+                    "[...document.querySelectorAll('#frame .reason, #frame .alarm')].map((it) => "
+                    "it.getBoundingClientRect()).map((it) => it.left >= frame.left && it.right <= frame.right && "
+                    "it.top >= frame.top && it.bottom <= frame.bottom); })()"
+                )
+                seen += len(outside)
+                self.assertNotIn(False, outside, (path, it))
+            self.assertGreater(seen, 0)
+
+    def test_a_network_of_few_places_is_laid_so_that_it_fits_a_telephone(self) -> None:
+        path = self.template(name="annual")
+        self.browser.wide(360, 780)
+        for it in ("#permit-1", "#permit-2"):
+            self.browser.open(path, it)
+            wide = self.browser.value("[document.querySelector('#frame svg').width.baseVal.value, frame.clientWidth]")
+            self.assertLessEqual(*wide)
+
     def test_the_drawing_points_at_what_fails(self) -> None:
         path = self.template()
         self.browser.open(path, "#permit-1")
