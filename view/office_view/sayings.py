@@ -3,10 +3,9 @@ import re
 
 from model import forms
 from model.files import CHECK_KINDS, DAY_KINDS, MOST, MOST_ANNUAL_DAYS, MOST_SPANS_OF_SEGMENT, Column, Values
-from model.records import MOST_BYTES
 
 from .command import printable
-from .sheet import WHOLE_RECORD, Lenient, Refusal, kinds_of_all
+from .sheet import Lenient, Refusal, kinds_of_all
 
 COLUMNS = {
     "day": ("an opening day",),
