@@ -7,6 +7,7 @@ import pathlib
 import random
 import re
 import resource
+import shutil
 import signal
 import subprocess
 import tempfile
@@ -625,6 +626,13 @@ class Audits(unittest.TestCase):
             self.assertIn(words, told.stderr.decode(), name)
         self.assertEqual(page(DAY, JOURNAL, "--program", "/no/program").returncode, 3)
 
+    def test_the_name_of_a_program_is_shown_escaped(self) -> None:
+        path = pathlib.Path(self.folder.name, "a\x1b[2Jb<i>")
+        shutil.copy(self.program, path)
+        told = page(DAY, JOURNAL, "--program", str(path))
+        self.assertNotIn(b"\x1b", told.stdout)
+        self.assertIn(r"The program a\x1b[2Jb<i> (sha256", Shown(told.stdout).text)
+
     def test_a_page_of_a_permit_says_it_too(self) -> None:
         told = page(DAY, JOURNAL, "--permit", "3", "--program", self.program)
         self.assertIn("Audited: legal.", Shown(told.stdout).text)
@@ -757,6 +765,16 @@ class Outputs(unittest.TestCase):
         self.assertEqual((told.returncode, told.stdout), (7, b""), told.stderr[-300:])
         self.assertEqual(told.stderr.count(b"\n"), 1)
         self.assertIn(b"there was no memory", told.stderr)
+
+    def test_out_of_memory_while_it_is_loaded_is_one_too(self) -> None:
+        # too little for the modules, and enough for Python
+        ends = {}
+        for megabytes in range(16, 40, 2):
+            told = ran("day", self.day, self.journal, "-o", self.page, preexec_fn=lambda: limited("AS", megabytes << 20))
+            ends[told.returncode] = told.stderr
+            self.assertIn(told.returncode, (0, 7), (megabytes, told.stderr[-300:]))
+        self.assertEqual(ends[7].count(b"\n"), 1)
+        self.assertIn(b"there was no memory", ends[7])
 
     def test_devices_and_pipes_are_written_to_as_they_stand(self) -> None:
         self.assertEqual(ran("day", self.day, self.journal, "-o", "/dev/null").returncode, 0)
