@@ -768,13 +768,11 @@ class Outputs(unittest.TestCase):
 
     def test_out_of_memory_while_it_is_loaded_is_one_too(self) -> None:
         # too little for the modules, and enough for Python
-        ends = {}
-        for megabytes in range(16, 40, 2):
-            told = ran("day", self.day, self.journal, "-o", self.page, preexec_fn=lambda: limited("AS", megabytes << 20))
-            ends[told.returncode] = told.stderr
-            self.assertIn(told.returncode, (0, 7), (megabytes, told.stderr[-300:]))
-        self.assertEqual(ends[7].count(b"\n"), 1)
-        self.assertIn(b"there was no memory", ends[7])
+        for name, words in (("day", (self.day, self.journal)), ("sheet", (self.day,)), ("truck", (self.day, self.day))):
+            for megabytes in range(18, 30, 3):
+                told = ran(name, *words, preexec_fn=lambda: limited("AS", megabytes << 20))
+                line = f"{name}: there was no memory\n".encode()
+                self.assertEqual((told.returncode, told.stdout, told.stderr), (7, b"", line), megabytes)
 
     def test_devices_and_pipes_are_written_to_as_they_stand(self) -> None:
         self.assertEqual(ran("day", self.day, self.journal, "-o", "/dev/null").returncode, 0)
