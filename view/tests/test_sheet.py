@@ -381,16 +381,6 @@ class Cells(unittest.TestCase):
             b"6336O": "the letter O stands among its digits: write 63360",
             b"6336l": "the letter l stands among its digits: write 63361",
             b"'63360": "an apostrophe stands in front, which some spreadsheets save with the text: write 63360",
-            b"63360.00": "is a whole number, with nothing behind a point: write 63360",
-            b"63360.50": "is a whole number, and here is a fraction: round it",
-            b"63.360": "with no point: write 63360 where the point parts thousands, and else round it",
-            b"63 360": "has no separators: write 63360",
-            b"'63,360'": "an apostrophe stands in front, which some spreadsheets save with the text, and it has no",
-            b"1,234.567": "has no separators, and it is a whole number, and here is a fraction: round it",
-            b"63,360.00": "has no separators, and it is a whole number, with nothing behind a point: write 63360",
-            b"63.360,00": "has no separators, and it is a whole number, with nothing behind a point: write 63360",
-            b"1.234,567": "has no separators, and it is a whole number, and here is a fraction: round it",
-            b"63360.": "is a whole number, with nothing behind a point: write 63360",
             b"63360 ft": "has no unit behind it: digits alone, and converted where it is another unit",
             b"12mi": "has no unit behind it: digits alone",
             b"6.336E+04": "a spreadsheet wrote it as a power of ten, perhaps rounded: write 63360",
@@ -404,6 +394,25 @@ class Cells(unittest.TestCase):
             b"far": "is a number: one to nine digits, and nothing else",
             b"": "a length in feet is missing",
         }
+        self.numbers(cases)
+
+    def test_separators_and_fractions(self) -> None:
+        cases = {
+            b"63360.00": "is a whole number, with nothing behind a point: write 63360",
+            b"63360.50": "is a whole number, and here is a fraction: round it",
+            b"63.360": "with no point: write 63360 where the point parts thousands, and else round it",
+            b"63 360": "has no separators: write 63360",
+            b"'63,360'": "an apostrophe stands in front, which some spreadsheets save with the text, and it has no",
+            b"1,234.567": "has no separators, and it is a whole number, and here is a fraction: round it",
+            b"63,360.00": "has no separators, and it is a whole number, with nothing behind a point: write 63360",
+            b"63.360,00": "has no separators, and it is a whole number, with nothing behind a point: write 63360",
+            b"1.234,567": "has no separators, and it is a whole number, and here is a fraction: round it",
+            b"63360.": "is a whole number, with nothing behind a point: write 63360",
+        }
+        self.numbers(cases)
+
+    def numbers(self, cases: dict[bytes, str]) -> None:
+        """What is said of cells that stand in place of a number of feet."""
         for cell, words in cases.items():
             said = self.of(b"63360", cell if b"," not in cell else b'"' + cell + b'"')
             self.assertTrue(said.startswith("row 9, column E "), said)
