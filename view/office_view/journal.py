@@ -8,11 +8,14 @@ from dataclasses import dataclass
 from fractions import Fraction
 from typing import NamedTuple
 
+from model.files import MOST
 from model.forms import is_day
 
 from .command import BAD, Fault
 
 MOST_NUMBER, MOST_INDEX, MOST_PART = 2**32 - 1, 65536, 2**128 - 1
+# a command is tried eight times at most, each time with a look, and then held
+MOST_ENTRIES = 17 * MOST["commands"]
 N, I, D = r"(0|[1-9][0-9]*)", r"([1-9][0-9]*)", r"([0-9]{4}-[0-9]{2}-[0-9]{2})"
 LIST = r"(?:-|[1-9][0-9]*(?:,[1-9][0-9]*)*)"
 INDEXES, NUMBERS = rf"({LIST})", r"(-|(?:0|[1-9][0-9]*)(?:,(?:0|[1-9][0-9]*))*)"
@@ -270,6 +273,8 @@ def first_format(entry: Entry) -> int:
 
 def read_journal(data: bytes, path: str) -> list[Entry]:
     """The entries of a journal, or a fault that names the first bad line."""
+    if data.count(b"\n") > MOST_ENTRIES + 2:
+        raise Fault(BAD, f"{path} is no journal: it has more than the {MOST_ENTRIES + 2:,} lines that a day may write")
     lines = data.decode("utf-8", "backslashreplace").split("\n")
     whole = lines.pop()
 

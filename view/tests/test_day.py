@@ -366,6 +366,13 @@ class BadInput(unittest.TestCase):
         self.refuses(DAY, DAY, 5, f"is no journal: {first}")
         self.refuses(b"nothing", JOURNAL, 5, "is no day file (refused: record 1 fields)")
 
+    def test_a_journal_of_more_lines_than_a_day_writes(self) -> None:
+        # 17 entries of each of 4,096 commands, the first line and the last
+        for lines, words in ((69634, "line 2 is of no form"), (69635, "more than the 69,634 lines")):
+            with self.assertRaises(Fault) as caught:
+                read_journal(b"permit-journal 3\n" + b"x\n" * (lines - 1), "J")
+            self.assertIn(words, str(caught.exception))
+
     def test_names_the_first_bad_line(self) -> None:
         lines = JOURNAL.split(b"\n")
         cases = [
