@@ -549,6 +549,13 @@ class Warned(unittest.TestCase):
             self.assertIn(words, self.warned(data))
             self.assertNotIn(words, good)
 
+    def test_a_rating_of_nothing_or_of_everything_is_meant(self) -> None:
+        good = self.warned(GOOD)
+        for rating, is_warned in ((b"0", False), (b"100000", False), (b"99999", True), (b"199", True), (b"200", False)):
+            for old in (b"480,1300", b"rating,1250"):
+                new = old[:-4] + rating
+                self.assertEqual(self.warned(GOOD.replace(old, new)) != good, is_warned, (old, rating))
+
     def test_warns_of_what_stands_on_one_of_two_ways(self) -> None:
         self.assertEqual(self.warned(TWO_WAYS), "")
         height = b"limit,S-W,height,168,,,,\n"
