@@ -87,6 +87,7 @@ class Handout:
         self.file, self.words = made.file, Words(made.file)
         self.values, self.ratings = posted_at(made, version)
         # a journal may have used up the work that it may take
+        self.reckoned = made.reckoning.left_out_text()
         made.reckoning.work = MOST_WORK
 
     def filled(self, title: str, summary: str, parts: Iterable[str]) -> str:
@@ -99,6 +100,7 @@ class Handout:
             summary=safe(summary),
             audited=audited_text(self.audited),
             parts="\n".join(parts),
+            reckoned=safe(self.reckoned),
             sources=sources_text(self.sources),
             made_by=safe(VERSION),
         )

@@ -24,6 +24,7 @@ from office_view import reckoning  # noqa: E402
 from office_view.command import Fault  # noqa: E402
 from office_view.handout import handout  # noqa: E402
 from office_view.journal import read_journal  # noqa: E402
+from office_view.page import Page  # noqa: E402
 from office_view.replay import replay  # noqa: E402
 
 DAY = (EXAMPLES / "template.csv").read_bytes()
@@ -551,6 +552,9 @@ class Forged(unittest.TestCase):
         finally:
             reckoning.MOST_WORK = whole
         self.assertGreater(made.reckoning.left_out, 0)
+        said = f"this was left out {made.reckoning.left_out} times."
+        for text in (Page(made, (None, ""), [], None).markup(), handout(made, [], None, None, 1)):
+            self.assertIn(said, text)
         self.assertEqual([permit.status for permit in made.permits][:2], ["recalled", "recalled"])
         self.assertEqual(replay(DayFile(DAY), read_journal(JOURNAL, "J"), "D", "J").reckoning.left_out, 0)
 
