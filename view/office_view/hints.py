@@ -5,6 +5,7 @@ where the office would take it there.
 """
 import re
 from collections.abc import Callable
+from dataclasses import replace
 from typing import NamedTuple
 
 from model import forms
@@ -45,7 +46,7 @@ def hint(refusal: Refusal, sheet: Lenient, check: bool) -> Hint:
     word = refusal.cause.partition(" ")[0]
     made = None
     if word == "field":
-        made = of_field(refusal)
+        made = of_field(refusal, sheet, check)
     elif word == "extra":
         made = of_extra(refusal)
     elif word == "kind":
@@ -68,7 +69,7 @@ def of_many(word: str, text: str) -> str | None:
     return None
 
 
-def of_field(refusal: Refusal) -> Hint:
+def of_field(refusal: Refusal, sheet: Lenient, check: bool) -> Hint:
     """A field that has not its form."""
     column, values = column_of(refusal)
     text = refusal.field_text.decode("utf-8", "replace")
@@ -84,10 +85,29 @@ def of_field(refusal: Refusal) -> Hint:
         words = forms.POSTED if column.form is forms.posted else forms.LIMITS if column.form is forms.limit else ()
         small = text.lower() in words
         return Hint(f"{what} is written in small letters", text.lower()) if small else Hint(form_text(refusal))
-    fits = found.mended is not None and column.form(found.mended.encode()) not in (None, "")
+    left = mended(refusal, found.mended, sheet)
+    if left is not None and left.cause != refusal.cause:
+        return Hint(f"{joined(what, found.what)}, and {text_of(left, sheet, check)}")
     of_pairs = re.sub('in pair [0-9]+, "[^"]*", ', "in a pair ", found.what)
     of_many = joined(what if of_pairs != found.what else "a cell", of_pairs)
-    return Hint(joined(what, found.what), found.mended if fits else None, of_many)
+    return Hint(joined(what, found.what), found.mended if left is None else None, of_many)
+
+
+def mended(refusal: Refusal, text: str | None, sheet: Lenient) -> Refusal | None:
+    """What the office would still refuse in a cell with this text in it, or nothing where it would take it."""
+    if not text:
+        return refusal
+    at, row = refusal.column or 0, refusal.row
+    record = [*refusal.record[:at - 1], text.encode(), *refusal.record[at:]]
+    column, values = column_of(left := replace(refusal, record=record))
+    kind, is_axles = column.referred(values), column.form is forms.axles
+    causes = [it for it in sheet.column_causes(record) if it.endswith(f" {at}") or is_axles and it.startswith("train")]
+    causes = [it for it in causes if not sheet.is_doubted(record, it)]
+    if column.defines and sheet.rows.get((column.defines, text), row) < row:
+        causes.append("same")
+    if kind and any(sheet.rows.get((kind, name), 0) > row for name in column.names(values[at - 2] or [])):
+        causes.append(f"unknown {at}")
+    return replace(left, cause=causes[0]) if causes else None
 
 
 def joined(what: str, is_wrong: str) -> str:

@@ -506,6 +506,26 @@ class Cells(unittest.TestCase):
         self.assertIn("a blank stands in a column in which nothing is to stand, and no eye sees it", said[0])
         self.assertIn("a blank stands in front of it, which no eye sees", said[1])
 
+    def test_what_would_still_be_refused_is_not_to_be_written(self) -> None:
+        cases = (
+            (b"63360", b"0.00", "with nothing behind a point, and a length in feet is 1 to 10,000,000"),
+            (b"168,120", b'"16,800",120', "has no separators, and a height in inches is 1 to 999"),
+            (b"480,1300", b"480,13OOOO", "among its digits, and a rating in thousandths is 0 to 100,000"),
+            (b"closed,1", b"closed,1O", "among its digits, and the value of a posting of closed is 0 to 1"),
+            (b"2026-03-04", b"2026-2-30", "with - between, and there is no such day in the calendar"),
+            (b" 234:30000", b"  54:30000", "two spaces side by side, and places begin with 0 and rise"),
+            (b"show,ann", b"show,anm ", "which no eye sees, and no actor above is called anm"),
+            (b"truck,VAN", b"truck,LOWBOY ", "which no eye sees, and there is a truck LOWBOY already, in row 13"),
+        )
+        for old, new, words in cases:
+            _, said = sheet(GOOD.replace(old, new, 1), "--no-warnings")
+            self.assertIn(words, said[0])
+            self.assertNotIn(": write ", said[0])
+        # PLANT is defined below the row that names it with a blank behind it
+        data = GOOD.replace(b"node,PLANT,,,,,,\n", b"").replace(b"CREEK,PLANT,15840", b"CREEK,PLANT ,15840")
+        _, said = sheet(data.replace(b"end,", b"node,PLANT,,,,,,\nend,"), "--no-warnings")
+        self.assertIn("which no eye sees, and the node PLANT is defined further below, in row 30", said[0])
+
     def test_what_is_to_be_written_is_taken(self) -> None:
         cells = (b"63360", b"6336O"), (b"63360", b"'63360 "), (b"1300", b"1.3"), (b"BOLT", b"BOLT" + HARD_SPACE)
         for old, new in cells:
