@@ -150,7 +150,7 @@
     };
   };
   /* What is to be drawn, below and above, is made into elements when the drawing is chosen. What is to be seen first, where not
-     all can be, is a place: the mark and the reason of what fails, or where the trip begins. */
+     all can be, is where the trip begins, or what fails: along both axes the mark, and the ends of the reason. */
   const makeScene = (few) => ({ few, room: makeRoom(), below: [], above: [], labels: [], box: [0, 0, 0, 0], unnamed: 0, seen: null });
   const claim = (scene, box) => {
     scene.room.add(box);
@@ -207,7 +207,7 @@
       const [x, y] = label.from, to = [Math.max(box[0], Math.min(x, box[2])), Math.max(box[1], Math.min(y, box[3]))];
       scene.above.unshift(() => make("path", { class: "leader", d: `M${x} ${y}L${to}` }));
       for (let part = 0; part <= 1; part += 0.04) claim(scene, around([x + part * (to[0] - x), y + part * (to[1] - y)], 3));
-      scene.seen = [(Math.min(x, box[0]) + Math.max(x, box[2])) / 2, (Math.min(y, box[1]) + Math.max(y, box[3])) / 2];
+      scene.seen = [[x, box[0], box[2]], [y, box[1], box[3]]];
       scene.above.push(() => make("rect", { class: "reason", x: box[0], y: box[1], width: box[2] - box[0], height: box[3] - box[1], rx: 3 }));
     }
     scene.above.push(() => {
@@ -291,7 +291,7 @@
     scene.above.push(() => ends ? make("rect", { class: kind, ...id, x: x - 6, y: y - 6, width: 12, height: 12 })
       : make("circle", { class: kind, ...id, cx: x, cy: y, r: radius }));
     claim(scene, around(place, radius + 2));
-    if (ends === "from ") scene.seen = place;
+    if (ends === "from ") scene.seen = [[x, x, x], [y, y, y]];
     return ends || "";
   };
 
@@ -386,6 +386,13 @@
     return rank(turned) < rank(upright) ? turned : upright;
   };
 
+  /* Where a frame begins so that a mark and a reason are seen along one axis, or the whole reason where there is no room for both. */
+  const scrolled = ([mark, begin, end], size) => {
+    const low = Math.min(mark, begin), high = Math.max(mark, end);
+    if (high - low + 32 <= size) return (low + high - size) / 2;
+    return mark < begin ? end + 12 - size : begin - 12;
+  };
+
   const failsText = (state, segment) => {
     if (!failsAt(state, segment)) return "";
     return `fails, ${state.fails[1] < 0 ? "" : "bridge "}${state.reason}; `;
@@ -441,7 +448,10 @@
     const left = scene ? scene.unnamed : 0;
     byId("unnamed").textContent = !left ? (scene && !scene.few ? "Names stand along what is chosen; the table has the others." : "")
       : `${counted(left, "name")} found no room in the drawing; the table has ${left === 1 ? "it" : "them"}.`;
-    if (scene && scene.seen) frame.scrollTo(scene.seen[0] - scene.box[0] - frame.clientWidth / 2, scene.seen[1] - scene.box[1] - frame.clientHeight / 2);
+    if (scene && scene.seen) {
+      const [x, y] = scene.seen;
+      frame.scrollTo(scrolled(x, frame.clientWidth) - scene.box[0] + 8, scrolled(y, frame.clientHeight) - scene.box[1] + 8);
+    }
     listRoads(state);
   };
 
