@@ -343,6 +343,35 @@ class Folded(unittest.TestCase):
         self.assertTrue(said[0].startswith('rows 15 to 54, column G, first "0:12000 180:30000lb": the list of axles: '))
         self.assertIn("in a pair a number has no unit behind it", said[0])
 
+    def test_many_bridges_on_one_of_two_ways_are_one_warning(self) -> None:
+        nodes = b"".join(b"node,N%d,,,,,,\n" % at for at in range(10))
+        ends = [(at, at, at + 1) for at in range(9)]
+        roads = b"".join(b"segment,E%d,N%d,N%d,900,,,\nsegment,W%d,N%d,N%d,900,,,\n" % (*it, *it[:1], *it[:0:-1])
+                         for it in ends)
+        bridges = b"".join(b"span,B%d,E%d,480,1300,,,\n" % (at, at) for at in range(9))
+        _, said = sheet(TWO_WAYS.replace(b"span,MILL-E", nodes + roads + bridges + b"span,MILL-E"))
+        self.assertEqual(len(said), 2, said)
+        self.assertEqual(
+            said[0],
+            'warning: rows 34 to 42, column C, first "E0": another one leads the other way and has no span: a bridge '
+            "on a road in both directions is a span on both stretches",
+        )
+
+    def test_many_axles_with_the_same_doubt_are_one_warning(self) -> None:
+        train = b" ".join(b"%d:%d" % (10 * at, 30 + at) for at in range(12))
+        _, said = sheet(TWO_WAYS.replace(b"0:12000 180:17000 228:17000", train))
+        self.assertIn('row 8, column G "0:30 10:31', said[0])
+        self.assertTrue(said[0].endswith(": an axle has such a weight; were kips written?"), said[0])
+        self.assertTrue(said[1].endswith(": two axles are so near each other; were feet written?"), said[1])
+        # twelve weights, and eleven distances
+        self.assertIn("in all 23 warnings", said[-2])
+
+    def test_several_roads_that_lead_the_other_way_are_said_in_short(self) -> None:
+        roads = b"".join(b"segment,W%d,B,A,900,,,\n" % at for at in range(9))
+        data = TWO_WAYS.replace(b"span,MILL-W,S-W,480,1300,,,\n", roads)
+        _, said = sheet(data)
+        self.assertIn("S-W and 9 more lead the other way and have no span: a bridge", said[0])
+
     def test_at_most_fifty_lines_and_a_total(self) -> None:
         rows = b"".join(b"limit,S-E,height,%d,,,,\n" % at for at in range(170, 240))
         _, said = sheet(TWO_WAYS.replace(b"span,MILL-E", rows + b"span,MILL-E"))
