@@ -7,8 +7,8 @@ that there is one reader in Python. Read it in this order:
 - `command`    words, files and the one line of a fault, for all three;
 - `writing`    outputs, written whole or not at all;
 - `sheet`      a file that is read on behind each record that is refused;
-- `whole`      what is wrong with a file as a whole;
 - `sayings`    what is said of a refused record, in words;
+- `whole`      what is wrong with a file as a whole;
 - `spoiled`    what spreadsheets and hands do to a cell;
 - `hints`      both: what befell a cell or a row, or else what has to stand there;
 - `plausible`  what is accepted and yet is hardly meant;

@@ -47,7 +47,7 @@ def audit(path: str, journal: bytes, day: bytes, journal_path: str, entries: int
         raise Fault(NOT_LEGAL, f"{journal_path}: {line}{entry_text(line, journal)} ({shown} {WORD})")
     if status != 0 or line != f"legal {entries}":
         raise Fault(BAD, f"{shown} {WORD} does not say that {journal_path} is legal: status {status}, {line}")
-    return Audited(os.path.basename(path), hashlib.sha256(data).hexdigest(), entries, data.startswith(b"#!"))
+    return Audited(printable(os.path.basename(path)), hashlib.sha256(data).hexdigest(), entries, data.startswith(b"#!"))
 
 
 def said_by(path: str, shown: str, data: bytes) -> tuple[int, str]:

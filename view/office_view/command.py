@@ -5,16 +5,17 @@ missing, 3 where a file cannot be read, 4 where the output cannot be written, 5 
 7 where there was no memory. Outputs are written by `writing`.
 """
 import argparse
+import errno
 import os
 import sys
 from collections.abc import Callable, Sequence
-from typing import BinaryIO, NoReturn
+from typing import BinaryIO, NoReturn, TextIO, TypeVar
 
 from . import VERSION
 
 USAGE, UNREAD, UNWRITTEN, BAD = 2, 3, 4, 5
 NO_MEMORY = 7
-
+Kind = TypeVar("Kind")
 
 INSTALLED = "permit-view-"
 
@@ -43,10 +44,10 @@ def missing(name: str, package: str) -> Fault:
 
 
 class Parser(argparse.ArgumentParser):
-    """A parser of words that shows none of them to a terminal as something to obey."""
+    """A parser of words whose fault is one line, as any other."""
 
     def error(self, message: str) -> NoReturn:
-        super().error(printable(message))
+        raise Fault(USAGE, f"{message}: --help says how it is used")
 
 
 def parser(name: str, text: str) -> argparse.ArgumentParser:
@@ -58,13 +59,25 @@ def parser(name: str, text: str) -> argparse.ArgumentParser:
 
 def read(path: str) -> bytes:
     """All bytes of a file, or of standard input where the path is `-`."""
+    return read_by(path, lambda file: file.read())
+
+
+def read_by(path: str, reader: Callable[[BinaryIO], Kind]) -> Kind:
+    """What a reader takes from a file, or from standard input where the path is `-`."""
     try:
         if path == "-":
-            return sys.stdin.buffer.read()
+            return reader(binary(sys.stdin))
         with open(path, "rb") as file:
-            return file.read()
+            return reader(file)
     except OSError as fault:
         raise Fault(UNREAD, f"{shown_path(path)} cannot be read: {fault.strerror}") from fault
+
+
+def binary(stream: TextIO | None) -> BinaryIO:
+    """The bytes of a standard stream, where it was not closed before the program began."""
+    if stream is None:
+        raise OSError(errno.EBADF, os.strerror(errno.EBADF))
+    return stream.buffer
 
 
 def shown_path(path: str) -> str:
@@ -85,12 +98,18 @@ def run(main: Callable[[Sequence[str]], int], name: str) -> int:
     try:
         return main(sys.argv[1:])
     except Fault as fault:
-        print(f"{name}: {printable(str(fault))}", file=sys.stderr)
+        tell(f"{name}: {printable(str(fault))}")
         return fault.status
     except MemoryError:
-        print(f"{name}: there was no memory: end other programs, or give this one more", file=sys.stderr)
+        tell(f"{name}: there was no memory: end other programs, or give this one more")
         return NO_MEMORY
     except BrokenPipeError:
         sink: BinaryIO = open(os.devnull, "wb")
         os.dup2(sink.fileno(), sys.stdout.fileno())
         return UNWRITTEN
+
+
+def tell(line: str) -> None:
+    """Says a line on standard error, where that is open."""
+    if sys.stderr is not None:
+        print(line, file=sys.stderr)

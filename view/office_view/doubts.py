@@ -18,8 +18,9 @@ class Doubts(Warnings):
 
     def __init__(self, sheet: Lenient) -> None:
         self.roads = Roads(sheet)
-        # what stands in the file, refused or not
-        self.all_actors = sheet.all_kinds.count("actor")
+        # what stands in the file above its end, refused or not
+        kinds = sheet.all_kinds
+        self.all_actors = kinds[:kinds.index("end")].count("actor") if "end" in kinds else kinds.count("actor")
         self.all_applications = [row for row, kind in enumerate(sheet.all_kinds, 1) if kind == "apply"]
         # the rows of refused records that were to set the office's day, and the last row that did set it
         self.unsure, self.set_at = unsure_rows(sheet), 1
@@ -50,8 +51,8 @@ class Doubts(Warnings):
         segment = record.values[1]
         if others := self.roads.without_span(segment):
             yield self.at(record, 3) + (
-                f"{others} leads the other way and has no span: a bridge on a road in both directions is a span on "
-                "both stretches"
+                f"{lead(others)} and {'has' if len(others) == 1 else 'have'} no span: a bridge on a road in both "
+                "directions is a span on both stretches"
             )
 
     def of_limit(self, record: Accepted) -> Iterator[str]:
@@ -65,16 +66,19 @@ class Doubts(Warnings):
             yield from self.one_way(record, item, what, 3)
         elif others := self.roads.without_rating(item):
             yield self.at(record, 3) + (
-                f"{others} leads the other way, and no rating is posted on its spans: a bridge on a road in both "
+                f"{lead(others)}, and no rating is posted on {its(others)} spans: a bridge on a road in both "
                 "directions is rated on both stretches"
             )
 
     def one_way(self, record: Accepted, segment: str, what: str, column: int) -> Iterator[str]:
         """Whether a limit holds in one direction alone."""
-        if others := self.roads.without_limit(segment, what):
+        is_closed = what == "closed" and record.values[-1] == 1
+        if others := self.roads.without_limit(segment, "closed 1" if is_closed else what):
+            never = f"{its(others)} {'closure' if what == 'closed' else what} is never set or posted"
+            if is_closed:
+                never = "is never closed" if len(others) == 1 else "none of these is ever closed"
             yield self.at(record, column) + (
-                f"{others} leads the other way, and its {what} is never set or posted: what holds in both directions "
-                "is said of both stretches"
+                f"{lead(others)}, and {never}: what holds in both directions is said of both stretches"
             )
 
 
@@ -97,30 +101,42 @@ class Roads:
                 self.ends[name] = (start, end)
                 self.by_ends.setdefault((start, end), []).append(name)
         self.spans = {name: segment for name, segment in spans_of(sheet)}
-        self.limits = {(record.values[0], record.values[1]) for record in sheet.accepted if record.kind == "limit"}
-        self.limits |= {(record.values[1], record.values[2]) for record in sheet.accepted if record.kind == "post"}
+        self.with_spans = set(self.spans.values())
+        said = [record.values[-3:] for record in sheet.accepted if record.kind in ("limit", "post")]
+        self.limits = {(item, what) for item, what, _ in said}
+        self.limits |= {(item, "closed 1") for item, what, value in said if (what, value) == ("closed", 1)}
 
     def opposite(self, segment: str) -> list[str]:
         """The stretches that lead the other way between the same two nodes."""
         start, end = self.ends.get(segment, (-1, -1))
         return self.by_ends.get((end, start), [])
 
-    def without_span(self, segment: str) -> str:
+    def without_span(self, segment: str) -> list[str]:
         """The stretches of the other way, where none of them has a span."""
         others = self.opposite(segment)
-        return "" if set(others) & set(self.spans.values()) else " and ".join(others)
+        return [] if self.with_spans.intersection(others) else others
 
-    def without_limit(self, segment: str, what: str) -> str:
+    def without_limit(self, segment: str, what: str) -> list[str]:
         """The same, where of none of them this limit is set or posted."""
         others = self.opposite(segment)
-        return "" if any((other, what) in self.limits for other in others) else " and ".join(others)
+        return [] if any((other, what) in self.limits for other in others) else others
 
-    def without_rating(self, span: str) -> str:
+    def without_rating(self, span: str) -> list[str]:
         """The same, where they have spans, and of none of these a rating is posted."""
         others = self.opposite(self.spans.get(span, ""))
         there = [name for name, segment in self.spans.items() if segment in others]
         posted = any((name, "rating") in self.limits for name in there)
-        return "" if posted or not there else " and ".join(others)
+        return [] if posted or not there else others
+
+
+def lead(others: list[str]) -> str:
+    """That some stretches lead the other way: of several the first is named."""
+    more = len(others) - 1
+    return f"{others[0]} and {more} more lead the other way" if more else f"{others[0]} leads the other way"
+
+
+def its(others: list[str]) -> str:
+    return "its" if len(others) == 1 else "their"
 
 
 def spans_of(sheet: Lenient) -> Iterator[tuple[str, str]]:

@@ -87,6 +87,7 @@ class Handout:
         self.file, self.words = made.file, Words(made.file)
         self.values, self.ratings = posted_at(made, version)
         # a journal may have used up the work that it may take
+        self.reckoned = made.reckoning.left_out_text()
         made.reckoning.work = MOST_WORK
 
     def filled(self, title: str, summary: str, parts: Iterable[str]) -> str:
@@ -99,6 +100,7 @@ class Handout:
             summary=safe(summary),
             audited=audited_text(self.audited),
             parts="\n".join(parts),
+            reckoned=safe(self.reckoned),
             sources=sources_text(self.sources),
             made_by=safe(VERSION),
         )
@@ -275,8 +277,9 @@ class OfPermit(Handout):
         """What is decided, why, for which days, and what to do next."""
         permit = self.permit
         issued = f"at version {permit.version}, by {self.words.actors[permit.caller]}"
+        stands = f'<span class="state">{safe(STATUS[permit.status])}.</span> So it stands on {safe(self.made.day)}'
         facts = (
-            ("How it stands", f'<span class="state">{safe(STATUS[permit.status])}</span> on {safe(self.made.day)}'),
+            ("How it stands", f"{stands}, the office's day"),
             ("Why", safe(self.why(permit))),
             ("Days", f"{days(permit.trip)}, both among them"),
             ("What to do next", safe(self.next_step(permit))),

@@ -5,16 +5,16 @@ where the office would take it there.
 """
 import re
 from collections.abc import Callable
+from dataclasses import replace
 from typing import NamedTuple
 
 from model import forms
 
 from . import spoiled
-from .sayings import SINGULAR, column_of, number_hint, quoted, routes_hint, text_of, what_of
+from .sayings import SINGULAR, column_of, form_text, quoted, text_of, what_of
 from .sheet import Lenient, Refusal, kind_of, kinds_of_all, plain_kind
 from .spoiled import Spoiled
 
-HARD_TO_GUESS = "set the column to the format Text, and write it again"
 Befalls = Callable[[str], Spoiled | None]
 BEFALLS: dict[Callable[[bytes], object], Befalls] = {
     forms.number: spoiled.of_number,
@@ -41,12 +41,12 @@ class Hint(NamedTuple):
         return self.what + (f": write {self.instead}" if self.instead else "")
 
 
-def hint(refusal: Refusal, sheet: Lenient, data: bytes, check: bool) -> Hint:
+def hint(refusal: Refusal, sheet: Lenient, check: bool) -> Hint:
     """What is wrong with a record, and what to do."""
     word = refusal.cause.partition(" ")[0]
     made = None
     if word == "field":
-        made = of_field(refusal)
+        made = of_field(refusal, sheet, check)
     elif word == "extra":
         made = of_extra(refusal)
     elif word == "kind":
@@ -55,7 +55,7 @@ def hint(refusal: Refusal, sheet: Lenient, data: bytes, check: bool) -> Hint:
         made = of_fields(refusal)
     elif word == "unknown":
         made = of_another_kind(refusal, sheet)
-    return made or Hint(text := text_of(refusal, sheet, data, check), None, of_many(word, text))
+    return made or Hint(text := text_of(refusal, sheet, check), None, of_many(word, text))
 
 
 def of_many(word: str, text: str) -> str | None:
@@ -69,7 +69,7 @@ def of_many(word: str, text: str) -> str | None:
     return None
 
 
-def of_field(refusal: Refusal) -> Hint | None:
+def of_field(refusal: Refusal, sheet: Lenient, check: bool) -> Hint:
     """A field that has not its form."""
     column, values = column_of(refusal)
     text = refusal.field_text.decode("utf-8", "replace")
@@ -82,9 +82,32 @@ def of_field(refusal: Refusal) -> Hint | None:
     is_thousandths = "thousandths" in what or limit in ("allowance", "rating")
     found = (spoiled.of_thousandths(text) if is_thousandths else None) or befell(text, column.form)
     if found is None:
-        return of_form(refusal, text)
-    fits = found.mended is not None and column.form(found.mended.encode()) not in (None, "")
-    return Hint(joined(what, found.what), found.mended if fits else None, joined("a cell", found.what))
+        words = forms.POSTED if column.form is forms.posted else forms.LIMITS if column.form is forms.limit else ()
+        small = text.lower() in words
+        return Hint(f"{what} is written in small letters", text.lower()) if small else Hint(form_text(refusal))
+    left = mended(refusal, found.mended, sheet)
+    if left is not None and left.cause != refusal.cause:
+        return Hint(f"{joined(what, found.what)}, and {text_of(left, sheet, check)}")
+    of_pairs = re.sub('in pair [0-9]+, "[^"]*", ', "in a pair ", found.what)
+    of_many = joined(what if of_pairs != found.what else "a cell", of_pairs)
+    return Hint(joined(what, found.what), found.mended if left is None else None, of_many)
+
+
+def mended(refusal: Refusal, text: str | None, sheet: Lenient) -> Refusal | None:
+    """What the office would still refuse in a cell with this text in it, or nothing where it would take it."""
+    if not text:
+        return refusal
+    at, row = refusal.column or 0, refusal.row
+    record = [*refusal.record[:at - 1], text.encode(), *refusal.record[at:]]
+    column, values = column_of(left := replace(refusal, record=record))
+    kind, is_axles = column.referred(values), column.form is forms.axles
+    causes = [it for it in sheet.column_causes(record) if it.endswith(f" {at}") or is_axles and it.startswith("train")]
+    causes = [it for it in causes if not sheet.is_doubted(record, it)]
+    if column.defines and sheet.rows.get((column.defines, text), row) < row:
+        causes.append("same")
+    if kind and any(sheet.rows.get((kind, name), 0) > row for name in column.names(values[at - 2] or [])):
+        causes.append(f"unknown {at}")
+    return replace(left, cause=causes[0]) if causes else None
 
 
 def joined(what: str, is_wrong: str) -> str:
@@ -104,24 +127,6 @@ def befell(text: str, form: Callable[[bytes], object]) -> Spoiled | None:
         found.append(one.what)
         mended = one.mended
     return Spoiled(", and ".join(found), mended) if found else None
-
-
-def of_form(refusal: Refusal, text: str) -> Hint | None:
-    """What is said of a field that nothing known befell, where `sayings` would guess a unit."""
-    column, _ = column_of(refusal)
-    what = what_of(refusal)
-    if column.form is forms.number and number_hint(refusal.field_text).startswith("has no unit"):
-        return Hint(f"{what} is a number: one to nine digits, and nothing else")
-    if column.form is forms.day:
-        return Hint(f"{what} is written YYYY-MM-DD, as 2026-03-02: {HARD_TO_GUESS}" if text else f"{what} is missing")
-    if column.form is forms.axles and not text:
-        return Hint(f"{what} is missing")
-    if column.form is forms.routes:
-        return Hint(f"{what} {routes_hint(refusal.field_text)}")
-    words = forms.POSTED if column.form is forms.posted else forms.LIMITS if column.form is forms.limit else ()
-    if text.lower() in words:
-        return Hint(f"{what} is written in small letters", text.lower())
-    return None
 
 
 def of_extra(refusal: Refusal) -> Hint | None:

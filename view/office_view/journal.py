@@ -8,11 +8,14 @@ from dataclasses import dataclass
 from fractions import Fraction
 from typing import NamedTuple
 
+from model.files import MOST
 from model.forms import is_day
 
 from .command import BAD, Fault
 
 MOST_NUMBER, MOST_INDEX, MOST_PART = 2**32 - 1, 65536, 2**128 - 1
+# a command is tried eight times at most, each time with a look, and then held
+MOST_ENTRIES = 17 * MOST["commands"]
 N, I, D = r"(0|[1-9][0-9]*)", r"([1-9][0-9]*)", r"([0-9]{4}-[0-9]{2}-[0-9]{2})"
 LIST = r"(?:-|[1-9][0-9]*(?:,[1-9][0-9]*)*)"
 INDEXES, NUMBERS = rf"({LIST})", r"(-|(?:0|[1-9][0-9]*)(?:,(?:0|[1-9][0-9]*))*)"
@@ -113,7 +116,7 @@ class Entry:
     limit: Limit | None = None
     segment: int = 0
     status: str = ""
-    shown: tuple[int, int, str, str, int, int] | None = None
+    shown: tuple[int, int, int, str, str, int, int] | None = None
 
 
 class Bad(Exception):
@@ -231,9 +234,9 @@ def reply_of(text: str) -> dict[str, object]:
         if kind == "notinforce":
             return {"reply": kind, "status": status_of(found[1])}
         if kind == "shown":
-            who = index(found[2]), index(found[3]), calendar_day(found[4]), calendar_day(found[5])
+            who = number(found[1]), index(found[2]), index(found[3]), calendar_day(found[4]), calendar_day(found[5])
             shown = (*who, number(found[6]), number(found[7]))
-            return {"reply": kind, "shown": shown, "number": number(found[1]), "status": status_of(found[8])}
+            return {"reply": kind, "shown": shown, "status": status_of(found[8])}
         set_here: dict[str, object] = {"reply": kind, "version": number(found[1])}
         if kind == "issued":
             set_here |= {"number": number(found[1]), "version": number(found[2]), "routes": routes_of(found[3])}
@@ -270,6 +273,8 @@ def first_format(entry: Entry) -> int:
 
 def read_journal(data: bytes, path: str) -> list[Entry]:
     """The entries of a journal, or a fault that names the first bad line."""
+    if data.count(b"\n") > MOST_ENTRIES + 2:
+        raise Fault(BAD, f"{path} is no journal: it has more than the {MOST_ENTRIES + 2:,} lines that a day may write")
     lines = data.decode("utf-8", "backslashreplace").split("\n")
     whole = lines.pop()
 

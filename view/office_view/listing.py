@@ -12,6 +12,13 @@ MOST_LINES = 50
 MOST_RUNS = 4
 MOST_NAMES = 5
 WARNING = re.compile(r'row [0-9]+, column ([A-Z]) ("[^"]*"): (.*)', re.S)
+# names and numbers in warnings, and what is said in their place where there are many
+OF_MANY = (
+    (re.compile(r"[\w-]+ leads the other way"), "another one leads the other way"),
+    (re.compile(r"axle [0-9]+ weighs [0-9,]+ lb"), "an axle has such a weight"),
+    (re.compile(r"axles [0-9]+ and [0-9]+ are [0-9]+ in apart"), "two axles are so near each other"),
+    (re.compile(r"a span of [0-9]+ ft( [0-9]+ in)?:"), "a span is so short:"),
+)
 
 
 @dataclass
@@ -76,11 +83,11 @@ def and_text(parts: Sequence[str]) -> str:
     return " and ".join(filter(None, [", ".join(parts[:-1]), parts[-1]]))
 
 
-def refused(sheet: Lenient, data: bytes, check: bool) -> list[Entry]:
+def refused(sheet: Lenient, check: bool) -> list[Entry]:
     """What is refused, in the order of the first row of each mistake."""
     found: dict[str, Entry] = {}
     for refusal in sheet.refusals:
-        made = hint(refusal, sheet, data, check)
+        made = hint(refusal, sheet, check)
         column = letter_of(refusal.column) if refusal.column else None
         found.setdefault(made.what, Entry(made)).add(refusal.row, refusal.line, column, cell_of(refusal))
     return merged(list(found.values()))
@@ -113,8 +120,9 @@ def warned(lines: Sequence[tuple[int, str]]) -> list[Entry]:
     for row, text in lines:
         parted = WARNING.fullmatch(text)
         column, cell, what = (parted[1], parted[2], parted[3]) if parted else (None, "", text)
-        found.setdefault(what, Entry(Hint(what))).add(row, 0, column, cell)
-    return list(found.values())
+        of_many = next((form.sub(said, what) for form, said in OF_MANY if form.match(what)), None)
+        found.setdefault(what, Entry(Hint(what, None, of_many))).add(row, 0, column, cell)
+    return merged(list(found.values()))
 
 
 def listed(refusals: Sequence[Entry], warnings: Sequence[Entry], is_cut: bool) -> Iterator[str]:

@@ -149,8 +149,9 @@
       isFree: (box) => !some(box, (key) => (cells.get(key) || []).some(meets(box))),
     };
   };
-  /* What is to be drawn, below and above, is made into elements when the drawing is chosen. */
-  const makeScene = (few) => ({ few, room: makeRoom(), below: [], above: [], labels: [], box: [0, 0, 0, 0], unnamed: 0, mark: null });
+  /* What is to be drawn, below and above, is made into elements when the drawing is chosen. What is to be seen first, where not
+     all can be, is where the trip begins, or what fails: along both axes the mark, and the ends of the reason. */
+  const makeScene = (few) => ({ few, room: makeRoom(), below: [], above: [], labels: [], box: [0, 0, 0, 0], unnamed: 0, seen: null });
   const claim = (scene, box) => {
     scene.room.add(box);
     scene.box = [Math.min(scene.box[0], box[0]), Math.min(scene.box[1], box[1]), Math.max(scene.box[2], box[2]), Math.max(scene.box[3], box[3])];
@@ -206,6 +207,7 @@
       const [x, y] = label.from, to = [Math.max(box[0], Math.min(x, box[2])), Math.max(box[1], Math.min(y, box[3]))];
       scene.above.unshift(() => make("path", { class: "leader", d: `M${x} ${y}L${to}` }));
       for (let part = 0; part <= 1; part += 0.04) claim(scene, around([x + part * (to[0] - x), y + part * (to[1] - y)], 3));
+      scene.seen = [[x, box[0], box[2]], [y, box[1], box[3]]];
       scene.above.push(() => make("rect", { class: "reason", x: box[0], y: box[1], width: box[2] - box[0], height: box[3] - box[1], rx: 3 }));
     }
     scene.above.push(() => {
@@ -239,7 +241,6 @@
     scene.above.push(() => make("rect", { class: "alarm", x: place[0] - 6, y: place[1] - 8, width: 12, height: 16 }),
       () => make("text", { class: "alarm-text", x: place[0], y: place[1] + 5 }, "!"));
     claim(scene, around(place, 9));
-    scene.mark = place;
     scene.labels.push({ rank: -1, kind: "reason-text", lines: folded(state.reason), reason: true, from: place, anchors: about(place), clear: Infinity,
       gaps: [14, 24, 36, 52, 72, 96, 124, 160, 220, 300] });
   };
@@ -290,12 +291,13 @@
     scene.above.push(() => ends ? make("rect", { class: kind, ...id, x: x - 6, y: y - 6, width: 12, height: 12 })
       : make("circle", { class: kind, ...id, cx: x, cy: y, r: radius }));
     claim(scene, around(place, radius + 2));
+    if (ends === "from ") scene.seen = [[x, x, x], [y, y, y]];
     return ends || "";
   };
 
   /* The whole network: a curve for each segment, bent to its right, so that the two directions of a road lie apart. */
-  const networkScene = (state, scale) => {
-    const places = data.places.map((it) => it.map((axis) => axis * scale)), scene = makeScene(places.length <= FEW_NODES);
+  const networkScene = (state, layout, scale) => {
+    const places = layout.map((it) => it.map((axis) => axis * scale)), scene = makeScene(places.length <= FEW_NODES);
     const used = new Map(), order = [...data.segments.keys()];
     const rank = (segment) => state.route.has(segment) + 2 * failsAt(state, segment);
     const ends = places.map((place, node) => addNode(scene, node, place, state, true));
@@ -354,14 +356,14 @@
     svg.append(make("title", { id: "drawing-title" }, title), ...scene.below.map((it) => it()), ...scene.above.map((it) => it()));
     return svg;
   };
+  const widthOfScene = (scene) => scene.box[2] - scene.box[0];
   /* As large as the frame lets it be with its labels, and larger where labels want the room. */
-  const drawNetwork = (state) => {
-    const wide = Math.max(1, ...data.places.map((at) => at[0])), high = Math.max(1, ...data.places.map((at) => at[1]));
-    const room = byId("frame").clientWidth - 16, least = (scale) => Math.max(0.5, Math.min(2, scale, 440 / high));
-    const widthOfScene = (scene) => scene.box[2] - scene.box[0];
+  const fitted = (state, layout, room) => {
+    const wide = Math.max(1, ...layout.map((at) => at[0])), high = Math.max(1, ...layout.map((at) => at[1]));
+    const least = (scale) => Math.max(0.5, Math.min(2, scale, 440 / high));
     let best = null, scale = least((room - 40) / wide);
     for (let tries = 0; tries < 6; tries += 1) {
-      const scene = networkScene(state, scale);
+      const scene = networkScene(state, layout, scale);
       if (!best || (!scene.unnamed && widthOfScene(scene) < widthOfScene(best))) best = scene;
       const smaller = least(Math.min(0.94 * scale, scale - (widthOfScene(scene) - room) / wide));
       if (scene.unnamed || widthOfScene(scene) <= room || smaller >= scale) break;
@@ -370,10 +372,25 @@
     if (best.unnamed) scale = least((room - 40) / wide);
     for (const more of SCALES) {
       if (!best.unnamed || scale * more * Math.max(wide, high) > MOST_WIDE) break;
-      const scene = networkScene(state, scale * more);
+      const scene = networkScene(state, layout, scale * more);
       if (scene.unnamed < best.unnamed) best = scene;
     }
     return best;
+  };
+  /* A network of few places that does not fit its frame is tried lying on its side, too: it is no map. */
+  const drawNetwork = (state) => {
+    const room = byId("frame").clientWidth - 16, upright = fitted(state, data.places, room);
+    if (!upright.few || (!upright.unnamed && widthOfScene(upright) <= room)) return upright;
+    const turned = fitted(state, data.places.map(([x, y]) => [y, x]), room);
+    const rank = (scene) => 1e6 * scene.unnamed + widthOfScene(scene);
+    return rank(turned) < rank(upright) ? turned : upright;
+  };
+
+  /* Where a frame begins so that a mark and a reason are seen along one axis, or the whole reason where there is no room for both. */
+  const scrolled = ([mark, begin, end], size) => {
+    const low = Math.min(mark, begin), high = Math.max(mark, end);
+    if (high - low + 32 <= size) return (low + high - size) / 2;
+    return mark < begin ? end + 12 - size : begin - 12;
   };
 
   const failsText = (state, segment) => {
@@ -431,7 +448,10 @@
     const left = scene ? scene.unnamed : 0;
     byId("unnamed").textContent = !left ? (scene && !scene.few ? "Names stand along what is chosen; the table has the others." : "")
       : `${counted(left, "name")} found no room in the drawing; the table has ${left === 1 ? "it" : "them"}.`;
-    if (scene && scene.mark) frame.scrollTo(scene.mark[0] - scene.box[0] - frame.clientWidth / 2, scene.mark[1] - scene.box[1] - frame.clientHeight / 2);
+    if (scene && scene.seen) {
+      const [x, y] = scene.seen;
+      frame.scrollTo(scrolled(x, frame.clientWidth) - scene.box[0] + 8, scrolled(y, frame.clientHeight) - scene.box[1] + 8);
+    }
     listRoads(state);
   };
 

@@ -70,22 +70,15 @@ class Page:
             postings=self.postings(),
             last=self.made.version,
             others=self.others(),
-            reckoned=safe(self.reckoned()),
+            reckoned=safe(self.made.reckoning.left_out_text()),
             sources=sources_text(self.sources),
             made_by=safe(VERSION),
         )
 
-    def reckoned(self) -> str:
-        """What the page worked out itself, and what it left out."""
-        times = self.made.reckoning.left_out
-        if not times:
-            return ""
-        return f"The day has so many trucks and bridges that this was left out {plural(times, 'time')}."
-
     def summary(self) -> str:
         made = self.made
         counts = Counter(permit.status for permit in made.permits)
-        parts = ", ".join(f"{counts[status]} {status}" for status in STATES if counts[status])
+        parts = ", ".join(f"{counts[status]:,} {status}" for status in STATES if counts[status])
         said = f"{plural(len(made.permits), 'permit')}{': ' + parts if parts else ''}"
         return (
             f"{said}. {plural(len(made.answers), 'application')} without a permit, "

@@ -7,6 +7,7 @@ import datetime
 from collections.abc import Callable, Iterator
 from typing import Any
 
+from model import forms
 from model.limits import LEGAL_HEIGHT, LEGAL_WIDTH
 from model.trucks import Truck
 
@@ -88,8 +89,8 @@ class Warnings:
         yield from self.limit_value(record, what, value, 4)
 
     def limit_value(self, record: Accepted, what: str, value: int, column: int) -> Iterator[str]:
-        # nothing at all may be meant by an allowance or a rating of 0
-        if what in LIMITS and not (value == 0 and what in ("allowance", "rating")):
+        # nothing at all may be meant by an allowance or a rating of 0, and no limit by the greatest rating
+        if what in LIMITS and not (value == 0 and what in ("allowance", "rating") or value == forms.RANGES[what][1]):
             least, most, text = LIMITS[what]
             if not least <= value <= most:
                 yield self.at(record, column) + text
@@ -104,8 +105,7 @@ class Warnings:
         length = record.values[inches - 2]
         if length < SPAN[0]:
             yield self.at(record, inches) + f"a span of {feet_text(length)}: " + SPAN[2]
-        if record.values[rating - 2]:
-            yield from self.bounds(record, rating, RATING)
+        yield from self.limit_value(record, "rating", record.values[rating - 2], rating)
 
     def of_truck(self, record: Accepted) -> Iterator[str]:
         truck = Truck(*record.values)

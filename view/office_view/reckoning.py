@@ -87,6 +87,13 @@ class Reckoning:
             self.work -= cost
         return it.effects(inches)
 
+    def left_out_text(self) -> str:
+        """That something was left out so far, and how often."""
+        if not self.left_out:
+            return ""
+        times = f"{self.left_out:,} time{'' if self.left_out == 1 else 's'}"
+        return f"The day has so many trucks and bridges that this was left out {times}."
+
     def walks_from(self, node: int) -> set[int]:
         """The nodes to which any walk leads from a node, over open and closed segments."""
         if node not in self.walks:

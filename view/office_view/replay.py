@@ -101,6 +101,15 @@ class Replay:
         return len(self.postings)
 
 
+# the answers to an application by what was found for it; one that comes too late is answered so whatever was found
+FITTING = {
+    "none": ("notneeded",),
+    "route": ("issued", "outdated"),
+    "fails": ("refused", "meets"),
+    "cut": ("refused", "noroad", "meets"),
+}
+
+
 class Stray(Exception):
     """Why an entry is not of the day file."""
 
@@ -169,6 +178,7 @@ def take_application(made: Replay, actor: Actor, entry: Entry, trip: Trip) -> No
     demand(entry.trip == trip, "the application is not the actor's next command")
     if entry.call == "submit":
         demand(entry.seen == actor.seen, "the version that was seen is not that of the actor's look")
+        demand_found(made, entry, trip)
     else:
         demand(actor.seen is None and actor.tries == 8, "the office looks itself before eight tries are over")
     demand(
@@ -187,6 +197,27 @@ def take_application(made: Replay, actor: Actor, entry: Entry, trip: Trip) -> No
     else:
         take_answer(made, entry, trip)
     actor.at, actor.seen, actor.tries = actor.at + 1, None, 0
+
+
+def demand_found(made: Replay, entry: Entry, trip: Trip) -> None:
+    """What was found fits what is asked for, and the answer fits what was found."""
+    found, listed, reply = entry.found, entry.listed, entry.reply
+    is_legal = made.file.trucks[trip.truck].is_legal()
+    demand(is_legal == (found == "none"), legal_text(is_legal))
+    demand(reply == "late" or reply in FITTING[found], f"{reply} is no answer where {found} was found")
+    if found == "fails":
+        demand(any(listed[0] in route for route in trip.asked), "what fails is on no route that is asked for")
+        at = entry.segment if entry.limit is None else entry.limit.segment
+        demand(reply == "late" or listed[0] == at, "the answer is on another segment than what fails")
+    elif found == "cut":
+        demand(not trip.asked, "nodes are found, and a route is asked for")
+        demand(trip.start in listed and trip.end not in listed, "the nodes are not those of a cut")
+    elif found == "route":
+        demand(trip.asked in ((), entry.proposed), "the routes that were found are not those that are asked for")
+        demand_walks(made, entry.proposed, trip)
+        demand(reply != "issued" or entry.routes == entry.proposed, "the routes are not those that were found")
+        on = entry.limit is None or any(entry.limit.segment in route for route in entry.proposed)
+        demand(on, "what fails is on no route that was found")
 
 
 def legal_text(is_legal: bool) -> str:
@@ -209,7 +240,6 @@ def take_answer(made: Replay, entry: Entry, trip: Trip) -> None:
     demand(entry.reply != "late" or entry.status == made.day, f"the office's day is {made.day}")
     reached = entry.listed if entry.found == "cut" else ()
     demand(all(node < len(made.file.names["nodes"]) for node in reached), "there is no such node")
-    demand(not reached or (trip.start in reached and trip.end not in reached), "the nodes are not those of a cut")
     if entry.limit is not None:
         demand_fails(made, trip, entry.limit)
         demand_in_the_way(made, trip, entry.limit.segment, reached)
@@ -277,15 +307,20 @@ def known(file: DayFile, limit: Limit) -> bool:
 def issue(made: Replay, entry: Entry, trip: Trip, seen: int) -> None:
     demand(entry.number == len(made.permits) + 1, f"the next permit is {len(made.permits) + 1}")
     demand(entry.version == made.version, f"the roads stand at version {made.version}")
-    for route in entry.routes:
-        demand(all(segment < len(made.file.segments) for segment in route), "there is no such segment")
-        demand(bool(route) and made.file.is_walk(route, trip.start, trip.end), "the route is no walk")
+    demand_walks(made, entry.routes, trip)
     demand(not trip.asked or entry.routes == trip.asked, "the routes are not those that are asked for")
     demand(bool(trip.asked) or len(entry.routes) == 1, "no route is asked for, and the permit has several")
     for segment in sorted({segment for route in entry.routes for segment in route}):
         demand_meets(made, trip, segment)
         made.using[segment].append(entry.number)
     made.permits.append(Permit(entry.number, entry.line, entry.caller, trip, entry.routes, entry.version, seen))
+
+
+def demand_walks(made: Replay, routes: Routes, trip: Trip) -> None:
+    """Each of some routes leads where the application wants to go."""
+    for route in routes:
+        demand(all(segment < len(made.file.segments) for segment in route), "there is no such segment")
+        demand(bool(route) and made.file.is_walk(route, trip.start, trip.end), "the route is no walk")
 
 
 def take_posting(made: Replay, entry: Entry, what: tuple[int, str, int]) -> None:
@@ -364,7 +399,7 @@ def take_show(made: Replay, entry: Entry, number: int) -> None:
         demand(entry.reply == "unknown", f"there is no permit {number}")
     else:
         trip = permit.trip
-        wanted = (permit.caller, trip.truck, trip.first, trip.last, permit.version, permit.seen)
+        wanted = (number, permit.caller, trip.truck, trip.first, trip.last, permit.version, permit.seen)
         demand(entry.reply == "shown" and entry.shown == wanted, f"permit {number} says something else")
         demand(entry.status == status_text(made, permit), f"permit {number} stands otherwise")
     made.others.append(Other(entry.caller, entry))

@@ -3,10 +3,9 @@ import re
 
 from model import forms
 from model.files import CHECK_KINDS, DAY_KINDS, MOST, MOST_ANNUAL_DAYS, MOST_SPANS_OF_SEGMENT, Column, Values
-from model.records import MOST_BYTES
 
 from .command import printable
-from .sheet import WHOLE_RECORD, Lenient, Refusal, kinds_of_all
+from .sheet import Lenient, Refusal, kinds_of_all
 
 COLUMNS = {
     "day": ("an opening day",),
@@ -58,18 +57,6 @@ TRAINS = {
     5: "all axles together are at most 2,000,000 lb",
     6: "the last axle is at most 3,000 in behind the first",
 }
-MAGIC = (
-    (
-        b"PK\x03\x04",
-        "this is a workbook of a spreadsheet (xlsx, ods) or another ZIP archive: save it as CSV, with "
-        "commas, in UTF-8",
-    ),
-    (b"\xd0\xcf\x11\xe0", "this is a workbook of an old spreadsheet (xls): save it as CSV, with commas, in UTF-8"),
-    (b"\x1f\x8b", "this is a file compressed by gzip: unpack it"),
-    (b"\xff\xfe", "the text is in UTF-16, not in UTF-8: save it as CSV in UTF-8"),
-    (b"\xfe\xff", "the text is in UTF-16, not in UTF-8: save it as CSV in UTF-8"),
-    (b"%PDF", "this is a PDF file: save the sheet as CSV, with commas, in UTF-8"),
-)
 SEPARATORS = ((b";", "semicolons"), (b"\t", "tabs"), (b"|", "bars"))
 MOST_SHOWN = 60
 
@@ -88,21 +75,6 @@ def rows_text(first: int, last: int) -> str:
     return f"row {first}" if first == last else f"rows {first} to {last}"
 
 
-def where(refusal: Refusal) -> str:
-    """The row and the column, and the field as it stands there. The line of an editor is said where it is another
-    number."""
-    place = f"row {refusal.row}"
-    if refusal.line and refusal.line != refusal.row:
-        place += f" (line {refusal.line} of the file)"
-    if refusal.column:
-        place += f", column {letter_of(refusal.column)} {quoted(refusal.field_text)}"
-    return place
-
-
-def upper(text: str) -> str:
-    return text[:1].upper() + text[1:]
-
-
 def what_of(refusal: Refusal) -> str:
     """What stands in the column that is at fault."""
     assert refusal.column is not None
@@ -114,21 +86,6 @@ def column_of(refusal: Refusal) -> tuple[Column, Values]:
     assert refusal.column is not None
     columns: list[Column] = kinds_of_all()[refusal.kind]
     return columns[refusal.column - 2], [it.form(text) for it, text in zip(columns, refusal.record[1:])]
-
-
-def number_hint(text: bytes) -> str:
-    """What a field that is no number seems to be."""
-    if not text:
-        return "is missing: it is written in one to nine digits"
-    if re.fullmatch(rb"[0-9]{1,3}([,.' \xc2\xa0]+[0-9]{3})+", text):
-        return f"has no separators: write {re.sub(rb'[^0-9]', b'', text).decode()}"
-    if re.fullmatch(rb"[0-9]{10,}", text):
-        return "has at most nine digits"
-    if re.fullmatch(rb"[0-9]+[.,][0-9]+", text):
-        return "is a whole number"
-    if re.match(rb"[0-9]+ ?[^0-9]+$", text):
-        return "has no unit behind it: digits alone"
-    return "is a number: one to nine digits, no signs, spaces, separators or units"
 
 
 def name_hint(text: bytes) -> str:
@@ -145,15 +102,16 @@ def form_text(refusal: Refusal) -> str:
     what, text = what_of(refusal), refusal.field_text
     if column.form is forms.name:
         return f"{what} {name_hint(text)}"
-    if column.form is forms.number:
-        return f"{what} {number_hint(text)}"
-    if column.form is forms.day:
-        return f"{what} is written YYYY-MM-DD, as 2026-03-02: set the column to the format Text"
-    if column.form is forms.axles:
-        more = ": here are two spaces side by side" if b"  " in text else ""
-        return f"{what} is pairs PLACE:WEIGHT of digits with one space between two, as 0:12000 180:17000{more}"
     if column.form is forms.routes:
         return f"{what} {routes_hint(text)}"
+    if not text:
+        return f"{what} is missing"
+    if column.form is forms.number:
+        return f"{what} is a number: one to nine digits, and nothing else"
+    if column.form is forms.day:
+        return f"{what} is written YYYY-MM-DD, as 2026-03-02: set the column to the format Text, and write it again"
+    if column.form is forms.axles:
+        return f"{what} is pairs PLACE:WEIGHT of digits with one space between two, as 0:12000 180:17000"
     words = forms.LIMITS if column.form is forms.limit else forms.POSTED
     return f"{what} is one of {', '.join(words[:-1])} and {words[-1]}, in small letters"
 
@@ -202,13 +160,9 @@ def range_text(refusal: Refusal) -> str:
     return f"{what} is {least:,} to {most:,}"
 
 
-def fields_text(refusal: Refusal, first: bytes) -> str:
+def fields_text(refusal: Refusal) -> str:
     """Why a record has not eight fields of text."""
     record = refusal.record
-    if refusal.row == 1:
-        for magic, text in MAGIC:
-            if first.startswith(magic):
-                return text
     if any(b"\0" in text for text in record):
         return "there are zero bytes: the text is in UTF-16 or is no text; save it as CSV in UTF-8"
     for separator, name in SEPARATORS:
@@ -233,8 +187,6 @@ def kind_text(refusal: Refusal, check: bool) -> str:
         return "this is a day file: judge it with --day, and give it to the program's command day"
     if kind == "probe" and not check:
         return "a probe stands in check files: judge it with --check, and give it to the program's command check"
-    if kind.strip().lower() in kinds_of_all() and kind != kind.strip().lower():
-        return "kinds are written in small letters, with no spaces"
     hint = "; there is no row of headings" if refusal.row == 1 else ""
     return f"the kind of a row is one of {', '.join(names[:-1])} and {names[-1]}{hint}"
 
@@ -257,7 +209,7 @@ def too_many_text(refusal: Refusal) -> str:
     return f"a file has at most {MOST[refusal.cause]:,} {refusal.cause}"
 
 
-def text_of(refusal: Refusal, sheet: Lenient, data: bytes, check: bool) -> str:
+def text_of(refusal: Refusal, sheet: Lenient, check: bool) -> str:
     """What is wrong with a record, and what to do."""
     word, _, number = refusal.cause.partition(" ")
     if refusal.status == 6:
@@ -271,7 +223,7 @@ def text_of(refusal: Refusal, sheet: Lenient, data: bytes, check: bool) -> str:
     if word == "train":
         return TRAINS[int(number)]
     if word == "fields":
-        return fields_text(refusal, data)
+        return fields_text(refusal)
     if word == "kind":
         return kind_text(refusal, check)
     if word == "order":
@@ -293,22 +245,3 @@ def text_of(refusal: Refusal, sheet: Lenient, data: bytes, check: bool) -> str:
         if sheet.places
         else "the file is empty: is it the right one?",
     }[word]
-
-
-def lines_of(sheet: Lenient, data: bytes, check: bool) -> list[str]:
-    """A line for each refusal. Rows that follow each other and are refused whole for one reason have one line."""
-    found: list[str] = []
-    run: tuple[int, int, str] | None = None
-    for refusal in sheet.refusals:
-        if refusal.cause == "bytes":
-            found.append(f"the file has {len(data):,} bytes, and a file has at most {MOST_BYTES:,}: split it")
-            continue
-        text = text_of(refusal, sheet, data, check)
-        whole = refusal.cause in WHOLE_RECORD or refusal.status == 6
-        if run and whole and run[1] + 1 == refusal.row and run[2] == text:
-            run = (run[0], refusal.row, text)
-            found[-1] = f"{rows_text(run[0], run[1])}: {text}"
-        else:
-            run = (refusal.row, refusal.row, text) if whole else None
-            found.append(f"{where(refusal)}: {text}")
-    return found

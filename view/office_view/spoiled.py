@@ -27,7 +27,8 @@ DASHES = "\u2010\u2011\u2012\u2013\u2014\u2212"
 # what looks like a digit, and which one
 LETTERS = {"O": "0", "o": "0", "l": "1", "I": "1"}
 THOUSANDS = re.compile(rf"[0-9]{{1,3}}([,.' {HARD_BLANKS}\u2019])[0-9]{{3}}(\1[0-9]{{3}})*")
-FRACTION = re.compile(r"([0-9]+)[.,]([0-9]+)")
+GROUPED = re.compile(rf"([0-9]{{1,3}}(?:([,.' {HARD_BLANKS}\u2019])[0-9]{{3}})(?:\2[0-9]{{3}})*)(?!\2)[.,][0-9]*")
+FRACTION = re.compile(r"([0-9]+)[.,]([0-9]*)")
 POWER = re.compile(r"([0-9]+)(?:[.,]([0-9]+))?[eE]\+?([0-9]{1,2})")
 UNIT = re.compile(r"[0-9][0-9.,]*\s*([A-Za-z]{1,6}\.?|['\"\u2032\u2033\u2019\u201d])([0-9. ]*(in|['\"\u2032\u2033]))?")
 DAY = re.compile(r"[0-9]{1,4}[-/.][0-9]{1,2}[-/.][0-9]{1,4}")
@@ -84,7 +85,9 @@ def of_number(text: str) -> Spoiled | None:
 
 
 def separators(text: str) -> Spoiled | None:
-    """Separators of thousands, or a point that may be one."""
+    """Separators of thousands, in front of a fraction too, or a point that may be one."""
+    if found := GROUPED.fullmatch(text):
+        return Spoiled("it has no separators", re.sub("[^0-9]", "", found[1]) + text[found.end(1):])
     found = THOUSANDS.fullmatch(text)
     if found is None:
         return None
@@ -115,7 +118,7 @@ def others(text: str) -> Spoiled | None:
     if re.fullmatch(r"[0-9][0-9.,]*\s*%", text):
         return Spoiled("it is no number of per cent")
     if UNIT.fullmatch(text):
-        return Spoiled("it has no unit behind it: digits alone")
+        return Spoiled("it has no unit behind it: digits alone, and converted where it is another unit")
     if text.isdigit() and not text.isascii():
         return Spoiled("its digits are those of another script: write 0 to 9")
     if re.fullmatch(r"[0-9]+(\s+[0-9]+)+", text):
@@ -137,7 +140,11 @@ def of_name(text: str) -> Spoiled | None:
         mended = re.sub(f"[{DASHES}]", "-", text)
         return Spoiled("here is a longer dash than -", mended)
     bad = next((letter for letter in text if not re.match("[A-Za-z0-9_ -]", letter)), None)
-    return Spoiled(f"it has the letters A to Z, digits, - and _ alone, and not {printable(bad)}") if bad else None
+    if bad is None:
+        return None
+    # a letter of another alphabet may look like one from A to Z
+    shown = printable(bad) if bad.isascii() else f"{printable(bad)} (U+{ord(bad):04X})"
+    return Spoiled(f"it has the letters A to Z, digits, - and _ alone, and not {shown}")
 
 
 def of_day(text: str) -> Spoiled | None:

@@ -4,14 +4,14 @@ UTF-16, its columns are separated by semicolons, its rows were sorted, it is too
 import os
 import re
 import stat
-import sys
 from collections.abc import Sequence
 from dataclasses import dataclass
 from typing import BinaryIO
 
 from model.records import MOST_BYTES, unmarked
 
-from .command import UNREAD, Fault, printable, shown_path
+from .command import printable, read_by
+from .sayings import SEPARATORS
 from .sheet import kind_of, kinds_of_all, plain_kind
 
 SAVE = "save the sheet as CSV, with commas, in UTF-8"
@@ -28,7 +28,6 @@ MAGIC = (
     (b"\xfe\xff", UTF_16),
 )
 MARKUP = re.compile(rb"\s*<(\?xml|!doctype|html|table|office:)", re.I)
-SEPARATORS = ((b";", "semicolons"), (b"\t", "tabs"), (b"|", "bars"))
 LOOKED_AT = 200
 LEAST_KINDS = 3
 
@@ -43,13 +42,7 @@ class Input:
 
 def read(path: str) -> Input:
     """Reads a file or standard input, and no more of it than has to be known."""
-    try:
-        if path == "-":
-            return read_from(sys.stdin.buffer)
-        with open(path, "rb") as file:
-            return read_from(file)
-    except OSError as fault:
-        raise Fault(UNREAD, f"{shown_path(path)} cannot be read: {fault.strerror}") from fault
+    return read_by(path, read_from)
 
 
 def read_from(file: BinaryIO) -> Input:

@@ -5,6 +5,7 @@ from model import forms
 from model.files import DayFile
 
 from .journal import Limit, Routes, Trip
+from .rating import rounded
 from .replay import EXPIRED, IN_FORCE, RECALLED, SURRENDERED, Answer, Other, Permit, Posting
 
 STATUS = {IN_FORCE: "In force", RECALLED: "Recalled", SURRENDERED: "Surrendered", EXPIRED: "Expired"}
@@ -29,13 +30,6 @@ def annual(routes: Routes) -> str:
     return "annual, " if len(routes) > 1 else ""
 
 
-def rounded(value: Fraction, places: int = 0) -> str:
-    """A fraction to so many decimals, with separators; of two that are as near the even one."""
-    scaled = round(value * 10**places)
-    whole, part = divmod(abs(scaled), 10**places)
-    return ("-" if scaled < 0 else "") + f"{whole:,}" + (f".{part:0{places}d}" if places else "")
-
-
 def decimals(has: Fraction, most: Fraction) -> int:
     """As few decimals as show that two numbers differ."""
     return next((places for places in range(7) if rounded(has, places) != rounded(most, places)), 6)
@@ -50,7 +44,7 @@ def value_text(what: str, value: int) -> str:
 
 def verdict(has: Fraction, most: Fraction, unit: str, allowed: str = "allowed", more: str = "") -> str:
     """What is there, what is allowed, the difference, and its part in a hundred of what is allowed."""
-    places = 0 if has == most else max(decimals(has, most), decimals(has - most, Fraction(0)))
+    places = 0 if has == most else max(decimals(has, most), decimals(abs(has - most), Fraction(0)))
     there, most_text, apart = (rounded(value, places) for value in (has, most, abs(has - most)))
     part = f" ({percent(abs(has - most), most)})" if most else ""
     judged = "too much" if has > most else "to spare"
@@ -118,7 +112,7 @@ class Words:
         if limit.what == "closed":
             return "closed"
         if limit.what == "group":
-            of = f" ({limit.rate:,} thousandths of their federal limit of {rounded(limit.most)} lb)"
+            of = f" ({limit.rate:,} thousandths of their federal limit of {rounded(limit.most, 0)} lb)"
             return f"{axles_text(*limit.group)} " + verdict(limit.has, limit.carried, "lb", more=of)
         if limit.what == "tridem":
             return f"tridem group, {axles_text(*limit.group)} " + verdict(limit.has, limit.carried, "lb")

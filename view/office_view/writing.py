@@ -10,7 +10,7 @@ import stat
 import sys
 from collections.abc import Sequence
 
-from .command import UNWRITTEN, USAGE, Fault, shown_path
+from .command import UNWRITTEN, USAGE, Fault, binary, shown_path
 
 STANDARD = "-"
 # what stands here is no file that could be replaced: other programs have it open
@@ -25,8 +25,9 @@ def write(path: str | None, data: bytes, inputs: Sequence[str | None] = ()) -> N
     try:
         refuse_an_input(path, inputs)
         if path is None:
-            sys.stdout.buffer.write(data)
-            sys.stdout.buffer.flush()
+            output = binary(sys.stdout)
+            output.write(data)
+            output.flush()
         else:
             write_file(path, data)
     except BrokenPipeError:
@@ -51,7 +52,7 @@ def identity(path: str) -> os.stat_result | None:
 def refuse_an_input(path: str | None, inputs: Sequence[str | None]) -> None:
     """A fault where the output is a file that was read, by whatever name: links count as what they lead to."""
     try:
-        output = os.fstat(sys.stdout.fileno()) if path is None else os.stat(path)
+        output = os.fstat(binary(sys.stdout).fileno()) if path is None else os.stat(path)
     except (OSError, ValueError):
         return
     if not stat.S_ISREG(output.st_mode):

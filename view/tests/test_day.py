@@ -7,6 +7,7 @@ import pathlib
 import random
 import re
 import resource
+import shutil
 import signal
 import subprocess
 import tempfile
@@ -23,6 +24,7 @@ from office_view import reckoning  # noqa: E402
 from office_view.command import Fault  # noqa: E402
 from office_view.handout import handout  # noqa: E402
 from office_view.journal import read_journal  # noqa: E402
+from office_view.page import Page  # noqa: E402
 from office_view.replay import replay  # noqa: E402
 
 DAY = (EXAMPLES / "template.csv").read_bytes()
@@ -332,13 +334,13 @@ class BadInput(unittest.TestCase):
         self.refuses(DAY, changed(b"1 snapshot = at 2", b"1 snapshot = at 0"), 5, "the roads stand at version 2")
         self.refuses(
             DAY,
-            changed(b"route 1,3 = issued 1 at 0 route 1,3", b"route 1,3 = issued 1 at 0 route 3,1"),
+            changed(b"route 1,3 = issued 1 at 0 route 1,3", b"route 3,1 = issued 1 at 0 route 3,1"),
             5,
             "the route is no walk",
         )
         self.refuses(
             DAY,
-            changed(b"route 1,3 = issued 1 at 0 route 1,3", b"route 1,3 = issued 1 at 0 route 1,3/1,3"),
+            changed(b"route 1,3 = issued 1 at 0 route 1,3", b"route 1,3/1,3 = issued 1 at 0 route 1,3/1,3"),
             5,
             "no route is asked for, and the permit has several",
         )
@@ -348,17 +350,10 @@ class BadInput(unittest.TestCase):
             self.assertIn(old, ANNUAL)
             return ANNUAL.replace(old, new, 1)
 
-        issued = b"issued 1 at 0 route 1,2/3,4"
-        for routes in (b"1,2", b"3,4/1,2", b"1,2/3,4/3,4"):
-            self.refuses(
-                ANNUAL_DAY,
-                changed(issued, b"issued 1 at 0 route " + routes),
-                5,
-                "the routes are not those that are asked for",
-            )
-        self.refuses(ANNUAL_DAY, changed(issued, b"issued 1 at 0 route 1,2/3,1"), 5, "the route is no walk")
-        self.refuses(ANNUAL_DAY, changed(issued, b"issued 1 at 0 route 1,2/-"), 5, "the route is no walk")
-        self.refuses(ANNUAL_DAY, changed(issued, b"issued 1 at 0 route 1,2/9"), 5, "there is no such segment")
+        issued = b"route 1,2/3,4 = issued 1 at 0 route 1,2/3,4"
+        for routes in (b"1,2", b"3,4/1,2", b"1,2/3,4/3,4", b"1,2/3,1", b"1,2/-", b"1,2/9"):
+            forged = changed(issued, b"route " + routes + b" = issued 1 at 0 route " + routes)
+            self.refuses(ANNUAL_DAY, forged, 5, "the routes that were found are not those that are asked for")
         self.refuses(
             ANNUAL_DAY,
             changed(b"posted 1 recalled 1", b"posted 1 recalled 2"),
@@ -371,6 +366,13 @@ class BadInput(unittest.TestCase):
         first = "line 1 is none of permit-journal 1, permit-journal 2 and permit-journal 3"
         self.refuses(DAY, DAY, 5, f"is no journal: {first}")
         self.refuses(b"nothing", JOURNAL, 5, "is no day file (refused: record 1 fields)")
+
+    def test_a_journal_of_more_lines_than_a_day_writes(self) -> None:
+        # 17 entries of each of 4,096 commands, the first line and the last
+        for lines, words in ((69634, "line 2 is of no form"), (69635, "more than the 69,634 lines")):
+            with self.assertRaises(Fault) as caught:
+                read_journal(b"permit-journal 3\n" + b"x\n" * (lines - 1), "J")
+            self.assertIn(words, str(caught.exception))
 
     def test_names_the_first_bad_line(self) -> None:
         lines = JOURNAL.split(b"\n")
@@ -478,11 +480,13 @@ class Forged(unittest.TestCase):
         for other, why in (
             (b"segment 1 closed", "what fails on US20-E is the moment"),
             (b"segment 1 height 168 over 160", "what fails on US20-E is the moment"),
-            (b"segment 3 height 168 over 172", "what fails on SR7-N is nothing"),
-            (b"segment 2 span 1 moment 54016875/8 hs20 5397600/1 rating 1250", "there is no such segment or span"),
-            (b"segment 9 closed", "there is no such segment or span"),
+            (b"segment 3 height 168 over 172", "the answer is on another segment than what fails"),
+            (b"segment 1 span 2 moment 54016875/8 hs20 5397600/1 rating 1250", "there is no such segment or span"),
         ):
             self.refuses(DAY, JOURNAL.replace(b"refused 2 " + limit, b"refused 2 " + other, 1), why)
+        found = b"fails 1 = refused 2 " + limit
+        forged = JOURNAL.replace(found, b"fails 3 = refused 2 segment 3 height 168 over 172", 1)
+        self.refuses(DAY, forged, "what fails on SR7-N is nothing")
 
     def test_a_permit_over_a_closed_road(self) -> None:
         forged = re.sub(b" cut 1 = refused 4 .*", b" route 5 = issued 4 at 4 route 5", JOURNAL)
@@ -499,6 +503,8 @@ class Forged(unittest.TestCase):
         forged = JOURNAL.replace(b"cut 1 = refused 4 " + limit, b"cut 1 = refused 4 segment 5 closed", 1)
         # which road is the first one is not asked
         replay(DayFile(DAY), read_journal(forged, "J"), "D", "J")
+        forged = JOURNAL.replace(b"cut 1 = refused 4 " + limit, b"cut 1 = refused 4 segment 9 closed", 1)
+        self.refuses(DAY, forged, "there is no such segment or span")
         forged = JOURNAL.replace(b"cut 1 = refused 4 " + limit, b"cut 1,2 = refused 4 " + limit, 1)
         self.refuses(DAY, forged, "US20-E does not lead out of what the truck reaches")
         forged = JOURNAL.replace(b"cut 1 = refused 4 " + limit, b"cut 1,2,3 = refused 4 " + limit, 1)
@@ -508,6 +514,37 @@ class Forged(unittest.TestCase):
         day, journal = ((EXAMPLES / f"no-road{ending}").read_bytes() for ending in (".csv", ".journal"))
         self.refuses(day, journal.replace(b"cut 1,3 = noroad", b"cut 1 = noroad", 1), "not those that any walk reaches")
 
+    def test_what_was_found_is_not_what_is_asked_for_or_answered(self) -> None:
+        for old, new, why in (
+            (b"seen 0 none = notneeded", b"seen 0 route 5 = notneeded", "needs no permit"),
+            (b"seen 0 route 1,3 = issued", b"seen 0 route 5 = issued", "the routes are not those that were found"),
+            (b"seen 0 route 1,3 = issued", b"seen 0 route 2,3 = issued", "the route is no walk"),
+            (b"seen 0 route 1,3 = issued", b"seen 0 route 1,13 = issued", "there is no such segment"),
+            (b"seen 0 route 1,3 = issued", b"seen 0 cut 1 = issued", "issued is no answer where cut was found"),
+            (b"fails 1 = refused", b"fails 3 = refused", "the answer is on another segment than what fails"),
+            (b"fails 1 = refused", b"fails 5 = refused", "what fails is on no route that is asked for"),
+            (b"fails 1 = refused", b"cut 1 = refused", "nodes are found, and a route is asked for"),
+            (b"cut 1 = refused", b"fails 1 = refused", "what fails is on no route that is asked for"),
+            (b"route 5 = late", b"route 4 = late", "the route is no walk"),
+        ):
+            self.assertIn(old, JOURNAL)
+            self.refuses(DAY, JOURNAL.replace(old, new, 1), why)
+
+    def test_a_look_that_shows_another_permit(self) -> None:
+        why = "line 10, the show is not the actor's next command"
+        self.refuses(DAY, JOURNAL.replace(b"show 1 = shown 1", b"show 2 = shown 1"), why)
+        forged = JOURNAL.replace(b"show 1 = shown 1", b"show 1 = shown 2")
+        self.refuses(DAY, forged, "line 10, permit 1 says something else")
+
+    def test_a_line_that_is_doubled_left_out_or_exchanged_with_the_next(self) -> None:
+        first, *lines = JOURNAL.decode().splitlines()
+        lines.pop()
+        for at in range(len(lines)):
+            here, behind = lines[at:at + 1], lines[at + 1:]
+            for more in ([*here, *here, *behind], behind, [*behind[:1], *here, *behind[1:]] if behind else behind):
+                forged = "\n".join([first, *lines[:at], *more])
+                self.refuses(DAY, f"{forged}\nend {at + len(more)}\n".encode(), "J is not of D: line ")
+
     def test_what_is_too_much_to_work_out_is_left_out_and_said(self) -> None:
         whole, reckoning.MOST_WORK = reckoning.MOST_WORK, 10
         try:
@@ -515,6 +552,9 @@ class Forged(unittest.TestCase):
         finally:
             reckoning.MOST_WORK = whole
         self.assertGreater(made.reckoning.left_out, 0)
+        said = f"this was left out {made.reckoning.left_out} times."
+        for text in (Page(made, (None, ""), [], None).markup(), handout(made, [], None, None, 1)):
+            self.assertIn(said, text)
         self.assertEqual([permit.status for permit in made.permits][:2], ["recalled", "recalled"])
         self.assertEqual(replay(DayFile(DAY), read_journal(JOURNAL, "J"), "D", "J").reckoning.left_out, 0)
 
@@ -597,6 +637,13 @@ class Audits(unittest.TestCase):
             self.assertIn(words, told.stderr.decode(), name)
         self.assertEqual(page(DAY, JOURNAL, "--program", "/no/program").returncode, 3)
 
+    def test_the_name_of_a_program_is_shown_escaped(self) -> None:
+        path = pathlib.Path(self.folder.name, "a\x1b[2Jb<i>")
+        shutil.copy(self.program, path)
+        told = page(DAY, JOURNAL, "--program", str(path))
+        self.assertNotIn(b"\x1b", told.stdout)
+        self.assertIn(r"The program a\x1b[2Jb<i> (sha256", Shown(told.stdout).text)
+
     def test_a_page_of_a_permit_says_it_too(self) -> None:
         told = page(DAY, JOURNAL, "--permit", "3", "--program", self.program)
         self.assertIn("Audited: legal.", Shown(told.stdout).text)
@@ -616,7 +663,7 @@ class Handouts(unittest.TestCase):
         text = self.shown("--permit", "1")
         for words in (
             "Permit 1: ACME LOWBOY",
-            "How it standsRecalled on 2026-03-04",
+            "How it standsRecalled. So it stands on 2026-03-04, the office's day",
             "By posting 1: bridge MILL-BR-E on US20-E has a rating of 1,250 thousandths of HS20-44. "
             f"M{CARRIED[1:]}",
             "Days2026-03-02 to 2026-03-06",
@@ -729,6 +776,14 @@ class Outputs(unittest.TestCase):
         self.assertEqual((told.returncode, told.stdout), (7, b""), told.stderr[-300:])
         self.assertEqual(told.stderr.count(b"\n"), 1)
         self.assertIn(b"there was no memory", told.stderr)
+
+    def test_out_of_memory_while_it_is_loaded_is_one_too(self) -> None:
+        # too little for the modules, and enough for Python
+        for name, words in (("day", (self.day, self.journal)), ("sheet", (self.day,)), ("truck", (self.day, self.day))):
+            for megabytes in range(18, 30, 3):
+                told = ran(name, *words, preexec_fn=lambda: limited("AS", megabytes << 20))
+                line = f"{name}: there was no memory\n".encode()
+                self.assertEqual((told.returncode, told.stdout, told.stderr), (7, b"", line), megabytes)
 
     def test_devices_and_pipes_are_written_to_as_they_stand(self) -> None:
         self.assertEqual(ran("day", self.day, self.journal, "-o", "/dev/null").returncode, 0)

@@ -403,6 +403,37 @@ class Pages(unittest.TestCase):
                 self.browser.open(path, anchor)
                 self.assertEqual(self.browser.value(LABELS), [])
 
+    def test_a_telephone_shows_the_reason_whole(self) -> None:
+        day = made_day(5, 4)
+        paths = [self.template(), self.template(name="annual"), self.page(day, journal_of(day))]
+        self.browser.wide(360, 780)
+        seen = 0
+        for path in paths:
+            self.browser.open(path)
+            failing = "JSON.parse(document.getElementById('data').textContent).chosen.filter((it) => it.fails)"
+            for it in self.browser.value(f"{failing}.map((it) => it.id)")[:8]:
+                self.set("choice", it, "change")
+                frame, mark, reason = (self.browser.value(
+                    f"[...document.querySelectorAll('{name}')].map((it) => it.getBoundingClientRect())"
+                    ".map((it) => [it.left, it.top, it.right, it.bottom])[0]"
+                ) for name in ("#frame", "#frame .alarm", "#frame .reason"))
+                far = [max(mark[at + 2], reason[at + 2]) - min(mark[at], reason[at]) for at in (0, 1)]
+                # of both that are too far from each other the reason alone is whole
+                fits = all(far[at] < frame[at + 2] - frame[at] - 40 for at in (0, 1))
+                for box in (mark, reason) if fits else (reason,):
+                    inside = all(frame[at] <= box[at] and box[at + 2] <= frame[at + 2] for at in (0, 1))
+                    self.assertTrue(inside, (it, frame, box))
+                seen += fits
+        self.assertGreater(seen, 3)
+
+    def test_a_network_of_few_places_is_laid_so_that_it_fits_a_telephone(self) -> None:
+        path = self.template(name="annual")
+        self.browser.wide(360, 780)
+        for it in ("#permit-1", "#permit-2"):
+            self.browser.open(path, it)
+            wide = self.browser.value("[document.querySelector('#frame svg').width.baseVal.value, frame.clientWidth]")
+            self.assertLessEqual(*wide)
+
     def test_the_drawing_points_at_what_fails(self) -> None:
         path = self.template()
         self.browser.open(path, "#permit-1")

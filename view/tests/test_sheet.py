@@ -336,6 +336,42 @@ class Folded(unittest.TestCase):
             ],
         )
 
+    def test_many_lists_with_the_same_mistake_are_one_line(self) -> None:
+        trucks = b"".join(b"truck,T%d,ACME,168,120,780,0:12000 %d:30000lb,\n" % (at, 180 + at) for at in range(40))
+        _, said = sheet(GOOD.replace(b"actor,ann", trucks + b"actor,ann"), "--no-warnings")
+        self.assertEqual(len(said), 2, said)
+        self.assertTrue(said[0].startswith('rows 15 to 54, column G, first "0:12000 180:30000lb": the list of axles: '))
+        self.assertIn("in a pair a number has no unit behind it", said[0])
+
+    def test_many_bridges_on_one_of_two_ways_are_one_warning(self) -> None:
+        nodes = b"".join(b"node,N%d,,,,,,\n" % at for at in range(10))
+        ends = [(at, at, at + 1) for at in range(9)]
+        roads = b"".join(b"segment,E%d,N%d,N%d,900,,,\nsegment,W%d,N%d,N%d,900,,,\n" % (*it, *it[:1], *it[:0:-1])
+                         for it in ends)
+        bridges = b"".join(b"span,B%d,E%d,480,1300,,,\n" % (at, at) for at in range(9))
+        _, said = sheet(TWO_WAYS.replace(b"span,MILL-E", nodes + roads + bridges + b"span,MILL-E"))
+        self.assertEqual(len(said), 2, said)
+        self.assertEqual(
+            said[0],
+            'warning: rows 34 to 42, column C, first "E0": another one leads the other way and has no span: a bridge '
+            "on a road in both directions is a span on both stretches",
+        )
+
+    def test_many_axles_with_the_same_doubt_are_one_warning(self) -> None:
+        train = b" ".join(b"%d:%d" % (10 * at, 30 + at) for at in range(12))
+        _, said = sheet(TWO_WAYS.replace(b"0:12000 180:17000 228:17000", train))
+        self.assertIn('row 8, column G "0:30 10:31', said[0])
+        self.assertTrue(said[0].endswith(": an axle has such a weight; were kips written?"), said[0])
+        self.assertTrue(said[1].endswith(": two axles are so near each other; were feet written?"), said[1])
+        # twelve weights, and eleven distances
+        self.assertIn("in all 23 warnings", said[-2])
+
+    def test_several_roads_that_lead_the_other_way_are_said_in_short(self) -> None:
+        roads = b"".join(b"segment,W%d,B,A,900,,,\n" % at for at in range(9))
+        data = TWO_WAYS.replace(b"span,MILL-W,S-W,480,1300,,,\n", roads)
+        _, said = sheet(data)
+        self.assertIn("S-W and 9 more lead the other way and have no span: a bridge", said[0])
+
     def test_at_most_fifty_lines_and_a_total(self) -> None:
         rows = b"".join(b"limit,S-E,height,%d,,,,\n" % at for at in range(170, 240))
         _, said = sheet(TWO_WAYS.replace(b"span,MILL-E", rows + b"span,MILL-E"))
@@ -374,12 +410,7 @@ class Cells(unittest.TestCase):
             b"6336O": "the letter O stands among its digits: write 63360",
             b"6336l": "the letter l stands among its digits: write 63361",
             b"'63360": "an apostrophe stands in front, which some spreadsheets save with the text: write 63360",
-            b"63360.00": "is a whole number, with nothing behind a point: write 63360",
-            b"63360.50": "is a whole number, and here is a fraction: round it",
-            b"63.360": "with no point: write 63360 where the point parts thousands, and else round it",
-            b"63 360": "has no separators: write 63360",
-            b"'63,360'": "an apostrophe stands in front, which some spreadsheets save with the text, and it has no",
-            b"63360 ft": "has no unit behind it: digits alone",
+            b"63360 ft": "has no unit behind it: digits alone, and converted where it is another unit",
             b"12mi": "has no unit behind it: digits alone",
             b"6.336E+04": "a spreadsheet wrote it as a power of ten, perhaps rounded: write 63360",
             b"-63360": "has no sign",
@@ -388,9 +419,29 @@ class Cells(unittest.TestCase):
             b"1234567890": "has at most 9 digits, and here are 10",
             "\u0666\u0663".encode(): "its digits are those of another script",
             "63360 §".encode(): "is a number: one to nine digits, and nothing else",
-            b"63360x2": "is a number: one to nine digits, no signs",
-            b"far": "one to nine digits",
+            b"63360x2": "is a number: one to nine digits, and nothing else",
+            b"far": "is a number: one to nine digits, and nothing else",
+            b"": "a length in feet is missing",
         }
+        self.numbers(cases)
+
+    def test_separators_and_fractions(self) -> None:
+        cases = {
+            b"63360.00": "is a whole number, with nothing behind a point: write 63360",
+            b"63360.50": "is a whole number, and here is a fraction: round it",
+            b"63.360": "with no point: write 63360 where the point parts thousands, and else round it",
+            b"63 360": "has no separators: write 63360",
+            b"'63,360'": "an apostrophe stands in front, which some spreadsheets save with the text, and it has no",
+            b"1,234.567": "has no separators, and it is a whole number, and here is a fraction: round it",
+            b"63,360.00": "has no separators, and it is a whole number, with nothing behind a point: write 63360",
+            b"63.360,00": "has no separators, and it is a whole number, with nothing behind a point: write 63360",
+            b"1.234,567": "has no separators, and it is a whole number, and here is a fraction: round it",
+            b"63360.": "is a whole number, with nothing behind a point: write 63360",
+        }
+        self.numbers(cases)
+
+    def numbers(self, cases: dict[bytes, str]) -> None:
+        """What is said of cells that stand in place of a number of feet."""
         for cell, words in cases.items():
             said = self.of(b"63360", cell if b"," not in cell else b'"' + cell + b'"')
             self.assertTrue(said.startswith("row 9, column E "), said)
@@ -416,7 +467,9 @@ class Cells(unittest.TestCase):
         cases = {
             b" BOLT": "a blank stands in front of it, which no eye sees: write BOLT",
             "BOLT\u2013A".encode(): "here is a longer dash than -: write BOLT-A",
-            "BÖLT".encode(): "has the letters A to Z, digits, - and _ alone, and not Ö",
+            "BÖLT".encode(): "has the letters A to Z, digits, - and _ alone, and not Ö (U+00D6)",
+            # a Greek letter that looks like a B
+            "\u0392OLT".encode(): "digits, - and _ alone, and not \u0392 (U+0392)",
             b"BOLT&CO": "digits, - and _ alone, and not &",
             b"BOLT CO": "is a name: letters, digits, - and _, no spaces",
             b"B" * 17: "at most 16 letters, digits, - and _, and this has 17",
@@ -482,6 +535,26 @@ class Cells(unittest.TestCase):
         self.assertIn("a blank stands in a column in which nothing is to stand, and no eye sees it", said[0])
         self.assertIn("a blank stands in front of it, which no eye sees", said[1])
 
+    def test_what_would_still_be_refused_is_not_to_be_written(self) -> None:
+        cases = (
+            (b"63360", b"0.00", "with nothing behind a point, and a length in feet is 1 to 10,000,000"),
+            (b"168,120", b'"16,800",120', "has no separators, and a height in inches is 1 to 999"),
+            (b"480,1300", b"480,13OOOO", "among its digits, and a rating in thousandths is 0 to 100,000"),
+            (b"closed,1", b"closed,1O", "among its digits, and the value of a posting of closed is 0 to 1"),
+            (b"2026-03-04", b"2026-2-30", "with - between, and there is no such day in the calendar"),
+            (b" 234:30000", b"  54:30000", "two spaces side by side, and places begin with 0 and rise"),
+            (b"show,ann", b"show,anm ", "which no eye sees, and no actor above is called anm"),
+            (b"truck,VAN", b"truck,LOWBOY ", "which no eye sees, and there is a truck LOWBOY already, in row 13"),
+        )
+        for old, new, words in cases:
+            _, said = sheet(GOOD.replace(old, new, 1), "--no-warnings")
+            self.assertIn(words, said[0])
+            self.assertNotIn(": write ", said[0])
+        # PLANT is defined below the row that names it with a blank behind it
+        data = GOOD.replace(b"node,PLANT,,,,,,\n", b"").replace(b"CREEK,PLANT,15840", b"CREEK,PLANT ,15840")
+        _, said = sheet(data.replace(b"end,", b"node,PLANT,,,,,,\nend,"), "--no-warnings")
+        self.assertIn("which no eye sees, and the node PLANT is defined further below, in row 30", said[0])
+
     def test_what_is_to_be_written_is_taken(self) -> None:
         cells = (b"63360", b"6336O"), (b"63360", b"'63360 "), (b"1300", b"1.3"), (b"BOLT", b"BOLT" + HARD_SPACE)
         for old, new in cells:
@@ -525,13 +598,21 @@ class Warned(unittest.TestCase):
             self.assertIn(words, self.warned(data))
             self.assertNotIn(words, good)
 
+    def test_a_rating_of_nothing_or_of_everything_is_meant(self) -> None:
+        good = self.warned(GOOD)
+        for rating, is_warned in ((b"0", False), (b"100000", False), (b"99999", True), (b"199", True), (b"200", False)):
+            for old in (b"480,1300", b"rating,1250"):
+                new = old[:-4] + rating
+                self.assertEqual(self.warned(GOOD.replace(old, new)) != good, is_warned, (old, rating))
+
     def test_warns_of_what_stands_on_one_of_two_ways(self) -> None:
         self.assertEqual(self.warned(TWO_WAYS), "")
         height = b"limit,S-W,height,168,,,,\n"
         cases = (
             ('row 6, column C "S-E": S-W leads the other way and has no span', b"span,MILL-W,S-W,480,1300,,,\n", b""),
             ('row 6, column C "S-W": S-E leads the other way and has no span', b"span,MILL-E,S-E,480,1300,,,\n", b""),
-            ('"S-E": S-W leads the other way, and its closed is never set', b"post,ann,S-W,closed,1,,,\n", b""),
+            ('"S-E": S-W leads the other way, and is never closed', b"post,ann,S-W,closed,1,,,\n", b""),
+            ('"S-E": S-W leads the other way, and is never closed', b"S-W,closed,1", b"S-W,closed,0"),
             ('row 6, column B "S-W": S-E leads the other way, and its height', b"span,", height + b"span,"),
             ("no rating is posted on its spans", b"post,ann,S-E,closed,1", b"post,ann,MILL-E,rating,900"),
         )
@@ -541,6 +622,12 @@ class Warned(unittest.TestCase):
     def test_a_road_in_one_direction_is_warned_of_nowhere(self) -> None:
         # RING-E has no stretch of the other way
         self.assertNotIn('"RING-E"', self.warned(GOOD))
+
+    def test_what_stands_behind_the_end_has_no_actor(self) -> None:
+        # two files that were put together; the first has one actor
+        _, said = sheet(TWO_WAYS + TWO_WAYS)
+        self.assertNotIn("actors work at once", "".join(said))
+        self.assertIn("the day stands once, in row 1", said[0])
 
     def test_a_refused_span_counts_on_the_other_way(self) -> None:
         _, said = sheet(TWO_WAYS.replace(b"S-W,480,1300", b"S-W,480,1300.5"))
@@ -552,13 +639,38 @@ class Warned(unittest.TestCase):
 
 
 class Words(unittest.TestCase):
+    def test_streams_that_are_closed(self) -> None:
+        """All three programs: a line and a status, and no word of Python's."""
+        day, journal, check, report = (EXAMPLES / name for name in (
+            "recall.csv", "recall.journal", "two-trucks.csv", "two-trucks.convoy"
+        ))
+        unread = "standard input cannot be read: Bad file descriptor"
+        unwritten = "standard output cannot be written: Bad file descriptor"
+        cases: tuple[tuple[str, tuple[object, ...], str, int, str], ...] = (
+            ("sheet", ("-",), "<&-", 3, unread),
+            ("sheet", (day,), ">&-", 4, unwritten),
+            ("day", (day, "-"), "<&-", 3, unread),
+            ("day", (day, journal), ">&-", 4, unwritten),
+            ("truck", ("-", report), "<&-", 3, unread),
+            ("truck", (check, report, "--table"), ">&-", 4, unwritten),
+        )
+        for name, words, closed, status, line in cases:
+            told = subprocess.run(
+                ["/bin/sh", "-c", f'exec "$0" "$@" {closed}', VIEW / name, *map(str, words)], capture_output=True
+            )
+            self.assertEqual((told.returncode, told.stderr.decode()), (status, f"{name}: {line}\n"))
+        told = subprocess.run(["/bin/sh", "-c", 'exec "$0" /no/file 2>&-', VIEW / "sheet"], capture_output=True)
+        self.assertEqual((told.returncode, told.stdout), (3, b""))
+
     def test_a_file_that_is_not_there(self) -> None:
         told = ran("sheet", "/no/such/file")
         self.assertEqual((told.returncode, told.stdout), (3, b""))
         self.assertEqual(told.stderr, b"sheet: /no/such/file cannot be read: No such file or directory\n")
 
     def test_words_that_ask_for_nothing(self) -> None:
-        self.assertEqual(ran("sheet").returncode, 2)
+        told = ran("sheet")
+        line = b"sheet: the following arguments are required: FILE: --help says how it is used\n"
+        self.assertEqual((told.returncode, told.stdout, told.stderr), (2, b"", line))
         self.assertEqual(ran("sheet", "--check", "--day", "x").returncode, 2)
         self.assertEqual(ran("sheet", "--help").returncode, 0)
 

@@ -479,7 +479,7 @@ class Outputs(unittest.TestCase):
         self.assertIn(b"no\\nsuch\\x07report cannot be read", told.stderr)
 
     def test_no_memory_is_a_line_and_a_status(self) -> None:
-        for kilobytes in (40_000, 60_000):
+        for kilobytes in (40_000, 60_000, 86_000):
             limited = f'ulimit -v {kilobytes}; exec "$0" "$@"'
             words = ["sh", "-c", limited, str(VIEW / "truck"), str(self.check), str(self.report)]
             told = subprocess.run(words, capture_output=True)
