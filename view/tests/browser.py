@@ -47,7 +47,8 @@ class Browser:
     def __init__(self) -> None:
         program = chromium()
         assert program is not None
-        self.folder = tempfile.TemporaryDirectory()
+        # (a process of the browser may still write there when it ends)
+        self.folder = tempfile.TemporaryDirectory(ignore_cleanup_errors=True)
         read_theirs, self.to_browser = os.pipe()
         self.from_browser, write_theirs = os.pipe()
 
