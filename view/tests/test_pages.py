@@ -125,8 +125,9 @@ class Pages(unittest.TestCase):
         self.browser.wide(1280)
 
     def page(self, day: bytes, journal: bytes, name: str = "day", *words: str) -> pathlib.Path:
-        """The page of a day, in the folder of the tests."""
-        files = [pathlib.Path(self.folder.name, name + ending) for ending in (".csv", ".journal", ".html")]
+        """The page of a day, in a folder of its own in that of the tests."""
+        folder = tempfile.mkdtemp(dir=self.folder.name)
+        files = [pathlib.Path(folder, name + ending) for ending in (".csv", ".journal", ".html")]
         files[0].write_bytes(day)
         files[1].write_bytes(journal)
         told = ran("day", files[0], files[1], "--output", files[2], *words)
