@@ -14,7 +14,7 @@ use Rattle.restriction_log.specs.declared.change.Change.TheVariants as change
 use Rattle.permit_days.specs.Days.{is_day_text}
 use Rattle.trip_analysis.specs.declared.application.Application.{Application}
 use Rattle.trip_analysis.specs.declared.base.Truck.{Truck}
-use Rattle.trip_analysis.specs.Applications.{AreAskedThere, AreThere, Sound, application_of, application_refusal}
+use Rattle.trip_analysis.specs.Applications.{AreAskedRoutes, AreAskedThere, AreThere, Sound, application_of, application_refusal}
 use Rattle.trip_analysis.specs.Bases.{BaseLists}
 use Rattle.trip_analysis.proofs.Joined.{all_joined}
 use Rattle.trip_analysis.proofs.Unbroken.{sound_if}
@@ -30,7 +30,7 @@ use Rattle.day_text.specs.declared.refusal.RecordCause.TheVariants as bad
 use Rattle.day_text.proofs.Each.{each_holds}
 use Rattle.day_text.proofs.Saying.{all_said}
 use Rattle.day_text.proofs.Steps.{Gives, found_some, gives, not_refused, then_gives, was_demanded}
-use Rattle.day_text.specs.Bounds.{AreAskedRoutes, IsCommandWithin}
+use Rattle.day_text.specs.Bounds.{IsCommandWithin}
 use Rattle.day_text.specs.Commands.{applied, apply_fields_of, apply_of, asked_routes_of, cause_of, numbers_of, asked_permit_of, post_of, posting_of, resolved_of, set_day_of, show_of, surrender_of}
 use Rattle.day_text.specs.Fleets.{truck_names}
 use Rattle.day_text.specs.declared.commands.ApplyFields.{ApplyFields}
@@ -80,10 +80,10 @@ actor_within d name actor e = named_within name d.actors actor (found_some (bad.
 
 -- an application that was taken is sound
 applied_sound : (d : DaySoFar) (truck from to : ℕ) (asked : Option (List (List ℕ))) (first last : List ℕ) (application : Application)
-    → AreThere d.network from to asked → truck < length d.fleet → applied d.network truck from to asked first last ≡ Ok application → Sound (base_of d) application
-applied_sound d truck from to asked first last application there known e =
+    → AreThere d.network from to asked → AreAskedRoutes asked → truck < length d.fleet → applied d.network truck from to asked first last ≡ Ok application → Sound (base_of d) application
+applied_sound d truck from to asked first last application there few known e =
     let (is, none) = not_refused cause_of (application_of truck from to asked first last) application (application_refusal d.network from to asked first last) e in
-    subst (Sound (base_of d)) is (sound_if d.network (application_of truck from to asked first last) there none (base_of d) refl known)
+    subst (Sound (base_of d)) is (sound_if d.network (application_of truck from to asked first last) there few none (base_of d) refl known)
 
 -- at most eight routes are asked for
 few_asked : (known : List (List ℕ)) (routes : List (List (List ℕ))) (asked : Option (List (List ℕ))) → length routes ≤ 8 → asked_routes_of known routes ≡ Some asked → AreAskedRoutes asked
@@ -168,8 +168,8 @@ resolved_good d f forms =
     let same = (not_refused cause_of (application_of truck from to asked first last) application _ application_is).0 in
     gives (IsGood d) (record { actor = actor; command = command.Apply application }) (record {
       caller = actor_within d f.actor actor actor_is;
-      sound = applied_sound d truck from to asked first last application there known application_is;
-      within = subst (λ (x : Application). (is_day_text x.first ≡ true) × (is_day_text x.last ≡ true) × AreAskedRoutes x.asked) same (a, b, few);
+      sound = applied_sound d truck from to asked first last application there few known application_is;
+      within = subst (λ (x : Application). (is_day_text x.first ≡ true) × (is_day_text x.last ≡ true)) same (a, b);
     })))))))))
 
 pub apply_good : (d : DaySoFar) (fields : Row) → Gives (IsGood d) (apply_of d fields)

@@ -69,6 +69,7 @@ sound_kept old new kept fleet a s = record {
   from = omega (arith, s.from, kept.nodes);
   to = omega (arith, s.to, kept.nodes);
   apart = s.apart;
+  routes = s.routes;
   asked = asked_kept old.roads new.roads kept a.asked a.from a.to s.asked;
   days = s.days;
   year = s.year;

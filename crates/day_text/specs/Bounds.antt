@@ -1,25 +1,18 @@
 -- The bounds that every day file keeps.
-use Rattle.std.specs.Prelude.{◌≡◌, ◌≤◌, ℕ, true, List, Option, Some, None, Ok, All}
+use Rattle.std.specs.Prelude.{◌≡◌, ◌≤◌, ℕ, true, List, Ok, All}
 use Rattle.clearance_rules.specs.Loads.{is_load}
 use Rattle.permit_days.specs.Days.{is_day_text}
 use Rattle.restriction_log.specs.Changes.{takes}
 use Rattle.road_graph.specs.Roads.{Roads, IsRoads}
-use Rattle.trip_routes.specs.Routes.{AreRoutes}
 use Rattle.trip_analysis.specs.Bases.{IsBase}
 use Rattle.trip_analysis.specs.declared.base.Truck.{Truck}
 use Rattle.office_words.specs.declared.entry.Command.{Command}
 use Rattle.office_words.specs.declared.entry.Command.TheVariants.{Apply, Day, Post, Show, Surrender}
 use Rattle.day_text.specs.Days.{DayParts, day_of}
 
--- no routes are asked for, or one to eight are
-abbrev pub AreAskedRoutes : Option (List (List ℕ)) → Type 0
-AreAskedRoutes None = Unit {0}
-AreAskedRoutes (Some routes) = AreRoutes routes
-
--- a day is one of the calendar, the asked routes are one to eight, a posted change is one that the roads take, and a number has
--- at most nine digits
+-- a day is one of the calendar, a posted change is one that the roads take, and a number has at most nine digits
 abbrev pub IsCommandWithin : Roads → Command → Type 0
-IsCommandWithin roads (Apply a) = (is_day_text a.first ≡ true) × (is_day_text a.last ≡ true) × AreAskedRoutes a.asked
+IsCommandWithin roads (Apply a) = (is_day_text a.first ≡ true) × (is_day_text a.last ≡ true)
 IsCommandWithin roads (Post change) = takes roads change ≡ true
 IsCommandWithin roads (Day day) = is_day_text day ≡ true
 IsCommandWithin roads (Surrender number) = number ≤ 999999999

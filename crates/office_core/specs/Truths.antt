@@ -7,6 +7,7 @@ use Rattle.clearance_rules.specs.declared.limit.Limit.{Limit}
 use Rattle.clearance_rules.specs.Failing.{segment_of}
 use Rattle.clearance_rules.specs.Order.{FailsFirst}
 use Rattle.permit_days.specs.Days.{is_before}
+use Rattle.trip_routes.specs.Routes.{AreRoutes}
 use Rattle.trip_analysis.specs.Applications.{Sound}
 use Rattle.trip_analysis.specs.Bases.{BaseLists, truck_of}
 use Rattle.trip_analysis.specs.declared.application.Application.{Application}
@@ -34,15 +35,16 @@ abbrev pub WasFound : BaseLists → InForce → Application → Routes → Optio
 WasFound base before a routes (Some asked) = (routes ≡ asked) × All (MeetsTruck base before a.truck) (concat asked)
 WasFound base before a routes None = IsShortestAlone base before a.truck a.from a.to routes
 
--- a permit has the next number and names the current version. Each of its routes is a walk of the trip, each
--- segment of which meets the truck in the state of that version. They were found for the version seen. The
--- truck is not legal without a permit, and the trip does not begin before the day
+-- a permit has the next number and names the current version. It has one to eight routes. Each of them is a
+-- walk of the trip, each segment of which meets the truck in the state of that version. They were found for the
+-- version seen. The truck is not legal without a permit, and the trip does not begin before the day
 pub record TruePermit (base : BaseLists) (day : Day) (front : History) (c : Call) (n v : ℕ) (routes : Routes)
     : Type 0 where
   pub trip : Application
   pub asked : AsksFor base c trip
   pub number : n ≡ issued_in front + 1
   pub version : v ≡ version_after front
+  pub few : AreRoutes routes
   pub walks : ArePassableWalks base (state_left_by base front) trip.truck trip.from trip.to routes
   pub seen : seen_by front c ≤ v
   pub found : WasFound base (state_seen base front c) trip routes trip.asked

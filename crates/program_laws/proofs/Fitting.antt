@@ -1,5 +1,5 @@
 -- Each entry of a legal history may stand in a journal.
-use Rattle.std.proofs.Common.{◌≡◌, ◌+◌, ◌-◌, ◌^◌, ◌<◌, ◌≤◌, ◌∷◌, [], List, ℕ, suc, Bool, true, false, not, nat_eq, cond, All, length, refl, sym, subst, Option, Some, None, ◌⊎◌, inl, inr, arith, length-append, length-set}
+use Rattle.std.proofs.Common.{◌≡◌, ◌+◌, ◌-◌, ◌^◌, ◌<◌, ◌≤◌, ◌∷◌, [], List, ℕ, suc, Bool, true, false, not, nat_eq, cond, All, length, refl, sym, subst, Option, Some, None, inl, inr, arith, length-append, length-set}
 use Rattle.std.specs.Prelude.{slice_get}
 use Rattle.std.specs.List.{AllByRecursion, concat, range_with_len}
 use Rattle.std.proofs.lemmas.Bool.{cases_Bool, cases_lt}
@@ -23,7 +23,7 @@ use Rattle.trip_analysis.specs.declared.base.Truck.{Truck}
 use Rattle.trip_analysis.specs.declared.failing.Failing.{Failing}
 use Rattle.trip_analysis.specs.declared.finding.What.{What}
 use Rattle.trip_analysis.specs.declared.finding.What.TheVariants as what
-use Rattle.trip_analysis.specs.Applications.{IsAskedWalk, Sound}
+use Rattle.trip_analysis.specs.Applications.{AreAskedRoutes, IsAskedWalk, Sound}
 use Rattle.trip_analysis.specs.Bases.{BaseLists, IsBase, no_truck, truck_of}
 use Rattle.trip_analysis.specs.Passing.{first_on, first_or, flags_of, is_passable, limit_for, needs_none}
 use Rattle.trip_analysis.specs.Findings.{InRange, IsFinding, IsFoundBy, asked_finding, first_meeting, leaves, leaving, proposed_of}
@@ -40,7 +40,6 @@ use Rattle.office_words.specs.declared.entry.Call.TheVariants as call
 use Rattle.office_words.specs.declared.entry.Entry.{Entry}
 use Rattle.office_words.specs.declared.entry.Reply.{Reply}
 use Rattle.office_words.specs.declared.entry.Reply.TheVariants as reply
-use Rattle.day_text.specs.Bounds.{AreAskedRoutes}
 use Rattle.office_core.specs.Machine.{IsAnswer, IsGood, IsLegalFrom, Machine, MayAsk, after, after_entry, opened, posted_reply, recalled_with, reply_in, state_at, state_in, state_with, trip_for, version_of, with_day, with_permit, with_posting, with_surrender}
 use Rattle.office_core.specs.Recalls.{is_recalled, recalled_if}
 use Rattle.office_core.specs.Replies.{day_reply, early_reply, show_reply, shown, surrender_reply}
@@ -55,7 +54,6 @@ use Rattle.program_laws.proofs.Limiting.{limit_fits, state_ranged}
 pub record IsRequest (a : Application) : Type 0 where
   pub first : FitsDay a.first
   pub last : FitsDay a.last
-  pub asked : AreAskedRoutes a.asked
 
 -- what is known of a call by the command that it comes from
 abbrev pub IsAsked : Call → Type 0
@@ -124,7 +122,7 @@ module _ (base : BaseLists) (roads : IsRoads base.roads) (fleet : IsBase base) (
       (are, recursion_from_All FitsIndices routes (All-weaker (All IsThere) FitsIndices (λ route. indices (length base.roads.segments) route (omega (arith, roads.few_segments))) routes (all_routes IsThere routes there)))
 
   application_fits : (a : Application) → Sound base a → IsRequest a → FitsApplication a
-  application_fits a sound request = (omega (arith, sound.truck, fleet.few), omega (arith, sound.from, roads.few_nodes), omega (arith, sound.to, roads.few_nodes), asked_fits a.asked sound.asked request.asked, request.first, request.last)
+  application_fits a sound request = (omega (arith, sound.truck, fleet.few), omega (arith, sound.from, roads.few_nodes), omega (arith, sound.to, roads.few_nodes), asked_fits a.asked sound.asked sound.routes, request.first, request.last)
     where
       asked_fits : (asked : Option (List (List ℕ))) → IsAskedWalk base.roads a.from a.to asked → AreAskedRoutes asked → FitsAsked asked
       asked_fits None walks are = tt
@@ -153,12 +151,12 @@ module _ (base : BaseLists) (roads : IsRoads base.roads) (fleet : IsBase base) (
   abbrev IsKnown : What → Type 0
   IsKnown w = InRange base w × IsListed w
 
-  known : (state : InForce) (a : Application) (w : What) → Sound base a → AreAskedRoutes a.asked → IsFinding base state a w → IsKnown w
-  known state a w sound are h = (
+  known : (state : InForce) (a : Application) (w : What) → Sound base a → IsFinding base state a w → IsKnown w
+  known state a w sound h = (
     found_in_range base state a w roads sound h,
     elim (cases_Bool (needs_none base a.truck)) [
       | inl free ↦ subst IsListed (sym (h.legal free)) tt
-      | inr needed ↦ found_listed state a w a.asked sound are (h.found needed)
+      | inr needed ↦ found_listed state a w a.asked sound sound.routes (h.found needed)
     ],
   )
 
@@ -252,9 +250,9 @@ module _ (base : BaseLists) (roads : IsRoads base.roads) (fleet : IsBase base) (
     reply_fits : (caller : ℕ) (c : Call) (r : Reply) → IsAsked c → MayAsk base m c → IsAnswer base m caller c r → FitsReply r
     reply_fits caller call.Snapshot r asked may is = given FitsReply (reply.SnapshotAt (version_of m)) r version_fits tt is
     reply_fits caller (call.Submit a p) r asked may is =
-        given FitsReply (reply_in base m a p.what) r (found_fits a p.what may.sound.truck (λ _. known (state_at base m p.seen) a p.what may.sound asked.asked may.found)) tt is
+        given FitsReply (reply_in base m a p.what) r (found_fits a p.what may.sound.truck (λ _. known (state_at base m p.seen) a p.what may.sound may.found)) tt is
     reply_fits caller (call.Held a) r asked may is =
-        held_given FitsReply base m caller a r (λ w held. found_fits a w may.truck (λ early. known (state_in base m) a w may asked.asked (held early))) tt is
+        held_given FitsReply base m caller a r (λ w held. found_fits a w may.truck (λ early. known (state_in base m) a w may (held early))) tt is
     reply_fits caller (call.Post change) r asked may is =
         given FitsReply (posted_reply base m change) r (pick FitsReply (takes base.roads change) (reply.Posted (version_of m + 1) (recalled_with base m change)) reply.OutOfRange (λ _. (omega (arith, h.postings), recalled_fit change)) (λ _. tt)) tt is
     reply_fits caller (call.Day day) r asked may is =
@@ -267,7 +265,7 @@ module _ (base : BaseLists) (roads : IsRoads base.roads) (fleet : IsBase base) (
     call_fits (call.Submit a p) asked may = (
       application_fits a may.sound asked,
       omega (arith, may.seen, h.postings),
-      what_fits p.what (known (state_at base m p.seen) a p.what may.sound asked.asked may.found),
+      what_fits p.what (known (state_at base m p.seen) a p.what may.sound may.found),
     )
     call_fits (call.Held a) asked may = application_fits a may asked
     call_fits (call.Post change) asked may = asked

@@ -62,7 +62,7 @@ change_fits : (roads : Roads) (c : Change) → IsRoads roads → takes roads c �
 change_fits roads c = replaced_fits roads (replaced_by c)
 
 command_fits : (roads : Roads) (c : Command) → IsRoads roads → IsCommandWithin roads c → FitsCommand c
-command_fits roads (command.Apply a) is (first, last, asked) = record { first = first; last = last; asked = asked }
+command_fits roads (command.Apply a) is (first, last) = record { first = first; last = last }
 command_fits roads (command.Post change) is h = change_fits roads change is h
 command_fits roads (command.Day day) is h = h
 command_fits roads (command.Surrender number) is h = omega (arith, h)

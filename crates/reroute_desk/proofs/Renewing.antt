@@ -82,6 +82,7 @@ sound_again base today trip sound in_time = record {
   from = sound.from;
   to = sound.to;
   apart = sound.apart;
+  routes = tt;
   asked = tt;
   days = one_of today trip.first (λ d. is_before trip.last d ≡ false) in_time (λ later. sound.days);
   year = λ annual. absurd cc;

@@ -13,7 +13,7 @@ use Rattle.trip_analysis.specs.declared.application.Application.{Application}
 use Rattle.trip_analysis.specs.declared.application_refusal.ApplicationRefusal.{ApplicationRefusal}
 use Rattle.trip_analysis.specs.declared.application_refusal.ApplicationRefusal.TheVariants.{AnnualDays, BrokenRoute, DayOrder, SamePlace}
 use Rattle.trip_analysis.specs.Bases.{BaseLists}
-use Rattle.trip_analysis.specs.Applications.{AreAskedThere, AreThere, IsAskedWalk, IsApplicationCause, Sound, application_refusal, asked_refusal, break_from, break_or, cause_or, days_refusal, first_break, is_annual, year_refusal}
+use Rattle.trip_analysis.specs.Applications.{AreAskedRoutes, AreAskedThere, AreThere, IsAskedWalk, IsApplicationCause, Sound, application_refusal, asked_refusal, break_from, break_or, cause_or, days_refusal, first_break, is_annual, year_refusal}
 use Rattle.trip_analysis.specs.ApplicationLaws.{FirstBreaksAreFirst, IsFirstBreak, RoutesAreUnbroken}
 use Rattle.trip_analysis.proofs.Breaks.{breaks_are_first, walk_unbroken}
 use Rattle.trip_analysis.proofs.Joined.{parts_each, walks_there}
@@ -134,6 +134,6 @@ sound_taken base a sound =
 
 -- whether an application is taken says whether it is sound, where all that it names is there
 pub sound_by : (base : BaseLists) (a : Application) (r : Result (Unit {0}) ApplicationRefusal) (answer : Bool) → a.truck < length base.fleet → AreThere base.roads a.from a.to a.asked
-    → OnOk r (application_refusal base.roads a.from a.to a.asked a.first a.last ≡ None) → IfErr r (IsApplicationCause (application_refusal base.roads a.from a.to a.asked a.first a.last)) → answer ≡ is_ok r → (answer ≡ true) ↔ Sound base a
-sound_by base a (Ok done) answer known there taken refused is = (λ e. sound_if base.roads a there taken base refl known, λ sound. is)
-sound_by base a (Err refusal) answer known there taken refused is = (λ e. absurd (cc), λ sound. absurd (cc (sound_taken base a sound)))
+    → OnOk r (AreAskedRoutes a.asked) → OnOk r (application_refusal base.roads a.from a.to a.asked a.first a.last ≡ None) → IfErr r (IsApplicationCause (application_refusal base.roads a.from a.to a.asked a.first a.last)) → answer ≡ is_ok r → (answer ≡ true) ↔ Sound base a
+sound_by base a (Ok done) answer known there few taken refused is = (λ e. sound_if base.roads a there few taken base refl known, λ sound. is)
+sound_by base a (Err refusal) answer known there few taken refused is = (λ e. absurd (cc), λ sound. absurd (cc (sound_taken base a sound)))

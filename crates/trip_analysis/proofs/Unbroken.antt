@@ -14,7 +14,7 @@ use Rattle.trip_analysis.specs.declared.application.Application.{Application}
 use Rattle.trip_analysis.specs.declared.application_refusal.ApplicationRefusal.{ApplicationRefusal}
 use Rattle.trip_analysis.specs.declared.application_refusal.ApplicationRefusal.TheVariants.{AnnualDays, DayOrder, SamePlace}
 use Rattle.trip_analysis.specs.Bases.{BaseLists}
-use Rattle.trip_analysis.specs.Applications.{AreAskedThere, AreThere, IsAskedWalk, IsSoundOn, Sound, application_refusal, asked_refusal, break_from, break_or, cause_or, days_refusal, first_break, is_annual, year_refusal}
+use Rattle.trip_analysis.specs.Applications.{AreAskedRoutes, AreAskedThere, AreThere, IsAskedWalk, IsSoundOn, Sound, application_refusal, asked_refusal, break_from, break_or, cause_or, days_refusal, first_break, is_annual, year_refusal}
 use Rattle.trip_analysis.proofs.Joined.{parts_each}
 
 ends_there : (from to at : ℕ) (b : Bool) → (from == to) ≡ b → cond b None (Some at) ≡ None → from ≡ to
@@ -70,8 +70,8 @@ away from to true later is e = absurd (cc)
 away from to false later is e = (eqb-false from to is, e)
 
 -- an application that no cause refuses is sound
-pub sound_if : (roads : Roads) (a : Application) → AreThere roads a.from a.to a.asked → application_refusal roads a.from a.to a.asked a.first a.last ≡ None → IsSoundOn roads a.truck a
-sound_if roads a there taken base same known =
+pub sound_if : (roads : Roads) (a : Application) → AreThere roads a.from a.to a.asked → AreAskedRoutes a.asked → application_refusal roads a.from a.to a.asked a.first a.last ≡ None → IsSoundOn roads a.truck a
+sound_if roads a there few taken base same known =
     let days = days_refusal (is_annual a.asked) a.first a.last in
     let (apart, causes) = away a.from a.to (a.from == a.to) (cause_or (asked_refusal roads.segments a.from a.to a.asked) days) refl taken in
     let (unbroken, in_days) = first_none (asked_refusal roads.segments a.from a.to a.asked) days causes in
@@ -81,6 +81,7 @@ sound_if roads a there taken base same known =
       from = subst (λ (r : Roads). a.from < length r.nodes) (sym same) there.begins;
       to = subst (λ (r : Roads). a.to < length r.nodes) (sym same) there.ends;
       apart = apart;
+      routes = few;
       asked = subst (λ (r : Roads). IsAskedWalk r a.from a.to a.asked) (sym same) (asked_walks roads a.from a.to a.asked there.along unbroken);
       days = forward;
       year = year;

@@ -5,6 +5,7 @@ use Rattle.permit_days.specs.Days.{days_between, is_before}
 use Rattle.road_graph.specs.declared.segment.Segment.{Segment}
 use Rattle.road_graph.specs.Roads.{Roads, segment_at}
 use Rattle.route_search.specs.Walks.{IsWalk, every}
+use Rattle.trip_routes.specs.Routes.{AreRoutes}
 use Rattle.trip_analysis.specs.declared.application.Application.{Application}
 use Rattle.trip_analysis.specs.declared.application_refusal.ApplicationRefusal.{ApplicationRefusal}
 use Rattle.trip_analysis.specs.declared.application_refusal.ApplicationRefusal.TheVariants.{SamePlace, BrokenRoute, DayOrder, AnnualDays}
@@ -31,18 +32,25 @@ abbrev pub IsAskedWalk : Roads → ℕ → ℕ → Option (List (List ℕ)) → 
 IsAskedWalk roads from to None = Unit {0}
 IsAskedWalk roads from to (Some routes) = All (IsWalk roads.segments every from to) routes
 
+-- no routes are asked for, or one to eight are
+abbrev pub AreAskedRoutes : Option (List (List ℕ)) → Type 0
+AreAskedRoutes None = Unit {0}
+AreAskedRoutes (Some routes) = AreRoutes routes
+
 -- an application that asks for two routes or more is annual
 abbrev pub is_annual : Option (List (List ℕ)) → Bool
 is_annual None = false
 is_annual (Some routes) = nat_le 2 (length routes)
 
--- the application can be asked of this base: its truck and its nodes are there, it goes somewhere, each asked route is a walk
--- between its nodes, and its last day is not before its first or, where it is annual, more than 365 days after it
+-- the application can be asked of this base: its truck and its nodes are there, it goes somewhere, it asks for no routes or for
+-- one to eight, each of them is a walk between its nodes, and its last day is not before its first or, where it is annual, more
+-- than 365 days after it
 pub record Sound (base : BaseLists) (a : Application) : Type 0 where
   pub truck : a.truck < length base.fleet
   pub from : a.from < length base.roads.nodes
   pub to : a.to < length base.roads.nodes
   pub apart : a.from ≢ a.to
+  pub routes : AreAskedRoutes a.asked
   pub asked : IsAskedWalk base.roads a.from a.to a.asked
   pub days : is_before a.last a.first ≡ false
   pub year : is_annual a.asked ≡ true → days_between a.first a.last ≤ 365

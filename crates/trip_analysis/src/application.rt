@@ -1,7 +1,7 @@
 // What a carrier asks for.
 
 ghost use Rattle.std.specs.Prelude.{◌≡◌, ◌<◌, ◌↔◌, length, true, None, Some, All, IfOk, IfErr, OnOk, OnErr, option_map};
-ghost use Rattle.trip_analysis.specs.Applications.{AreThere, AreAskedThere, IsApplicationCause, IsSoundOn, Sound, application_of, application_refusal, asked_refusal, break_from, days_refusal};
+ghost use Rattle.trip_analysis.specs.Applications.{AreAskedRoutes, AreThere, AreAskedThere, IsApplicationCause, IsSoundOn, Sound, application_of, application_refusal, asked_refusal, break_from, days_refusal};
 
 use crate::application_refusal::ApplicationRefusal;
 use crate::base::Base;
@@ -175,6 +175,7 @@ impl Application {
     // Refuses it for the first cause that applies on these roads, where all that it names is there.
     fn try_on(&self, network: &Network) -> Result<(), ApplicationRefusal>
         requires { AreThere network.now self.now.from self.now.to self.now.asked }
+        ensures routes { OnOk result (AreAskedRoutes self.now.asked) }
         ensures taken { OnOk result
             (application_refusal network.now self.now.from self.now.to self.now.asked self.now.first self.now.last ≡ None) }
         ensures refused { IfErr result
@@ -215,6 +216,7 @@ fn try_asked(
     asked: &Option<SharedRoutes>,
 ) -> Result<(), ApplicationRefusal>
     requires { AreAskedThere network.now asked.now }
+    ensures routes { OnOk result (AreAskedRoutes asked.now) }
     ensures taken { OnOk result (asked_refusal network.now.segments from to asked.now ≡ None) }
     ensures refused { IfErr result (IsApplicationCause (asked_refusal network.now.segments from to asked.now)) }
 {
