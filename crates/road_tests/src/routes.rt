@@ -38,9 +38,11 @@ fn are_two(routes: &SharedRoutes) -> bool {
 }
 
 #[test]
-fn shares_routes_with_a_further_owner(rt: HostRuntime) {
+fn copies_routes_and_shares_them_with_a_further_owner(rt: HostRuntime) {
     let routes = listed(&rt, rt.alloc(), 2);
-    let owner = SharedRoutes::of(rt.alloc(), routes).expect(&rt, "memory");
+    let copy = routes.try_clone(rt.alloc()).expect(&rt, "memory");
+    drop(routes);
+    let owner = SharedRoutes::of(rt.alloc(), copy).expect(&rt, "memory");
     let other = owner.clone().expect(&rt, "memory");
     drop(owner);
     let are_two = are_two(&other);

@@ -1,12 +1,13 @@
 // One to eight routes, one after another.
 
-ghost use Rattle.std.specs.Prelude.{◌≡◌, ◌<◌, ◌≤◌, ◌++◌, ◌∷◌, [], length, get_or, IfErr, OnOk, OnErr, None};
+ghost use Rattle.std.specs.Prelude.{◌≡◌, ◌<◌, ◌≤◌, ◌++◌, ◌∷◌, [], length, get_or, IfErr, IfOk, OnOk, OnErr, None};
 ghost use Rattle.std.specs.List.{concat};
 ghost use Rattle.trip_routes.specs.Routes.{AreRoutes, IsPushCause, begin_of, push_refusal};
 
 use crate::refusal::RoutesRefusal;
 use arrayvec::ArrayVec;
-use road_graph::Numbers;
+use road_graph::{NoMemory, Numbers};
+use std::alloc::Global;
 use std::marker::Model;
 
 /// The most routes.
@@ -60,6 +61,15 @@ impl Routes {
         self.segments.extend_from_slice(route.as_slice())?;
         self.ends.push(self.segments.len());
         Ok(())
+    }
+
+    /// The same routes once more. `NoMemory` where no memory was left.
+    pub fn try_clone(&self, alloc: Global) -> Result<Routes, NoMemory>
+        ensures { IfOk result (λ routes. routes ≡ self.now) }
+    {
+        let ends = self.ends.clone()?;
+        let segments = self.segments.as_slice().to_vec(alloc)?;
+        Ok(Routes { segments, ends })
     }
 
     /// How many routes there are. Takes no memory.
