@@ -89,7 +89,7 @@ impl<F: Ledger, O: Ledger> LoneOffice<F, O> {
         let base = Arc::new(alloc, base)?;
         let office = Office::start(alloc, Arc::try_clone(&base)?, day, most)?;
         Ok(LoneOffice {
-            office: CountedOffice::new(office, blanks.office),
+            office: CountedOffice::new(alloc, office, blanks.office)?,
             base,
             finder: Finder::new(blanks.finder),
         })

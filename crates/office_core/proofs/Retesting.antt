@@ -221,8 +221,8 @@ within_now base postings (what.Cut nodes) before now within =
 
 pub cost_none : (base : BaseLists) (m : Machine) (c : Call) (n : ℕ) → IsCost base m c n n
 cost_none base m call.Snapshot n = refl
-cost_none base m (call.Submit a p) n = within_none base m.postings p.seen p.what n
-cost_none base m (call.Held a) n = omega arith
+cost_none base m (call.Submit a p) n = (λ early. refl, within_none base m.postings p.seen p.what n)
+cost_none base m (call.Held a) n = (λ early. refl, omega arith)
 cost_none base m (call.Post change) n = omega arith
 cost_none base m (call.Day day) n = refl
 cost_none base m (call.Surrender number) n = refl

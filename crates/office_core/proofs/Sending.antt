@@ -20,6 +20,7 @@ use Rattle.restriction_log.proofs.state.State.TheSendSync as state
 use Rattle.snapshot_store.specs.contracts.snapshot.Snapshot as Snapshot
 use Rattle.snapshot_store.specs.contracts.store.Store as Store
 use Rattle.clearance_rules.proofs.steps.Steps.TheSendSync as steps
+use Rattle.clearance_rules.specs.contracts.steps.Steps as Steps
 use Rattle.permit_days.proofs.day.Day.TheSendSync as day
 use Rattle.permit_days.specs.contracts.day.Day as Day
 use Rattle.permit_book.proofs.book.Book.TheSendSync as book
@@ -67,8 +68,15 @@ office_fields = (register_send, (day.the_send, (search sendable, (Vec-send Entry
 pub office_send : IsSend Office.the_row
 office_send = search (view_send, declared_send, office_fields)
 
+reading_send : (L : RattleType) (ledger : Ghosts L.Denot) → IsSend (Told.the_row (Steps.the_row L ledger))
+reading_send L ledger = search (sendable, crosses)
+
+counted_fields : (L : RattleType) (ledger : Ghosts L.Denot)
+    → FieldsHave IsSend (Office.the_field ∷ Steps.the_field L ledger ∷ Vec.the_field (Told.the_row (Steps.the_row L ledger)) Global.the_row ghosts ∷ [])
+counted_fields L ledger = (office_send, (search (steps.the_send, tt), (Vec-send (Told.the_row (Steps.the_row L ledger)) (reading_send L ledger), tt)))
+
 pub counted_send : (L : RattleType) (ledger : Ghosts L.Denot) → IsSend (CountedOffice.the_row L ledger)
-counted_send L ledger = search (view_send, declared_send, office_send, steps.the_send, tt) depth 8
+counted_send L ledger = search (view_send, declared_send, counted_fields L ledger)
 
 pub seat_send : (κ : NamedLft) (L : RattleType) (ledger : Ghosts L.Denot) → IsSend (OneSeat.the_row κ L ledger)
 seat_send κ L ledger = search (sendable, crosses, counted_send) depth 40 fits 20000

@@ -10,7 +10,7 @@ ghost use Rattle.trip_analysis.specs.Findings.{InRange, leaves};
 ghost use Rattle.office_words.specs.declared.entry.Call.TheVariants.{Held, Submit};
 ghost use Rattle.office_words.specs.declared.entry.Reply.TheVariants as reply;
 ghost use Rattle.office_core.specs.Replies.{early_reply};
-ghost use Rattle.office_core.specs.Costs.{tests_held};
+ghost use Rattle.office_core.specs.Costs.{EarlyTestsNone, tests_held};
 ghost use Rattle.office_core.specs.Machine.{HasRoom, IsFound, version_of};
 ghost use Rattle.office_core.specs.Registers.{Gives, HeldAt, IsReplyTo, IsRetested, Issues, LeavesParts, MayLack, Permits, changed_among, changed_out, found_reply, has_changed, least_out, next_issue, register_state_now, state_then};
 
@@ -42,6 +42,7 @@ impl Register {
         ensures after { IfOk result (LeavesParts self.old caller (Submit application.now proposal.now) self.new) }
         ensures unchanged { OnErr result (self.new ≡ self.old) }
         ensures lack { OnErr result (MayLack self.old (Submit application.now proposal.now)) }
+        ensures early { EarlyTestsNone self.old.base self.old.machine.day application.now steps.old steps.new }
         ensures cost { IsRetested self.old proposal.now.seen proposal.now.what steps.old steps.new }
     {
         match self.early_answer(application) {
@@ -64,6 +65,7 @@ impl Register {
         ensures after { IfOk result (LeavesParts self.old caller (Held application.now) self.new) }
         ensures unchanged { OnErr result (self.new ≡ self.old) }
         ensures lack { OnErr result (MayLack self.old (Held application.now)) }
+        ensures early { EarlyTestsNone self.old.base self.old.machine.day application.now steps.old steps.new }
         ensures cost { steps.new ≤ steps.old + tests_held self.old.base application.now }
     {
         match self.early_answer(application) {

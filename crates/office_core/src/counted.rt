@@ -1,27 +1,33 @@
 // An office with the counter of its tests.
 
-ghost use Rattle.std.specs.Prelude.{◌≡◌, ◌<◌, [], false};
+ghost use Rattle.std.specs.Prelude.{◌≡◌, ◌<◌, [], false, IfOk};
 ghost use Rattle.clearance_rules.specs.Counters.{IsBlankOf};
 ghost use Rattle.office_words.specs.declared.entry.Reply.TheVariants as reply;
 ghost use Rattle.office_core.specs.Replies.{is_full};
-ghost use Rattle.office_core.specs.Costs.{IsCost};
 ghost use Rattle.office_core.specs.Machine.{IsLegal, MayAsk};
 ghost use Rattle.office_core.specs.Offices.{HasPlace, IsFull, entry, grown, machine_in};
 
 use crate::office::Office;
+use crate::readings::Readings;
 use clearance_rules::Steps;
+use names::NoMemory;
 use office_words::{Call, Reply};
+use std::alloc::Global;
 use std::marker::Model;
+use std::snapshot::Snapshot;
 use std::sync::ledger::{Blank, Ledger};
 
-/// An office with a counter of the segments that are tested in its turns. It is the one counter of this ledger.
+/// An office with a counter of the segments that are tested in its turns. It is the one counter of this ledger, and is read behind
+/// each entry.
 ///
-/// Contracts see the office and the count. At all times what the counter shows can be parted among the entries of the history, so
-/// that each has no more than its call may cost.
+/// Contracts see the office and the readings. From each reading to the next the counter rose by no more than the call of that entry
+/// may cost, and after the last one nothing was counted.
 #[derive(Drop)]
 pub struct CountedOffice<L: Ledger> {
     office: Office,
     steps: Steps<L>,
+    // A reading for each entry. They take no bytes.
+    readings: Vec<Snapshot<Steps<L>>>,
 }
 
 impl<L: Ledger> Model for CountedOffice<L> {
@@ -35,17 +41,40 @@ impl<L: Ledger> Model for CountedOffice<L> {
 }
 
 impl<L: Ledger> CountedOffice<L> {
-    ghost use Rattle.office_core.specs.Counted.{AreCounted};
+    ghost use Rattle.office_core.specs.Counted.{AreCounted, TestsFor};
 
-    /// An office with no entry yet, and a counter that is made of the blank.
-    pub fn new(office: Office, blank: Blank) -> CountedOffice<L>
+    /// An office with no entry yet, and a counter that is made of the blank. `NoMemory` where no memory was left.
+    pub fn new(alloc: Global, office: Office, blank: Blank) -> Result<CountedOffice<L>, NoMemory>
         requires counter { IsBlankOf L.name L.parts blank }
         requires opened { office.history ≡ [] }
-        ensures office { result.office ≡ office }
-        ensures tests { result.tests ≡ 0 }
+        ensures office { IfOk result (λ counted. counted.office ≡ office) }
+        ensures readings { IfOk result (λ counted. counted.readings ≡ []) }
     {
-        let steps = Steps::new(blank);
-        CountedOffice { office, steps }
+        let readings = Vec::with_capacity(alloc, office.most() as usize)?;
+        Ok(CountedOffice {
+            office,
+            steps: Steps::new(blank),
+            readings,
+        })
+    }
+
+    /// An office that came back with its counter, to go on with both. `NoMemory` where no memory was left.
+    pub fn resume(office: Office, counted: Readings<L>) -> Result<CountedOffice<L>, NoMemory>
+        requires counted { AreCounted office counted }
+        ensures office { IfOk result (λ resumed. resumed.office ≡ office) }
+        ensures readings { IfOk result (λ resumed. resumed.readings ≡ counted) }
+    {
+        let Readings {
+            steps,
+            mut readings,
+        } = counted;
+        let room = office.most() as usize - office.history().len();
+        readings.reserve(room)?;
+        Ok(CountedOffice {
+            office,
+            steps,
+            readings,
+        })
     }
 
     /// The office. Takes no memory.
@@ -55,17 +84,21 @@ impl<L: Ledger> CountedOffice<L> {
         &self.office
     }
 
-    /// The office, and its counter.
-    pub fn into_parts(self) -> (Office, Steps<L>)
+    /// The office, and its counter with the readings.
+    pub fn into_parts(self) -> (Office, Readings<L>)
         ensures office { result.0 ≡ self.office }
-        ensures tests { result.1 ≡ self.tests }
+        ensures readings { result.1 ≡ self.readings }
         ensures counted { AreCounted result.0 result.1 }
     {
-        let CountedOffice { office, steps } = self;
-        (office, steps)
+        let CountedOffice {
+            office,
+            steps,
+            readings,
+        } = self;
+        (office, Readings { steps, readings })
     }
 
-    /// Answers a call, as the office does, and counts what it tests.
+    /// Answers a call, as the office does, counts what it tests, and reads the counter.
     pub fn step(&mut self, caller: u32, call: Call) -> Reply
         requires caller { caller < 65536 }
         requires asked { MayAsk self.old.office.base (machine_in self.old.office) call }
@@ -74,8 +107,13 @@ impl<L: Ledger> CountedOffice<L> {
         ensures not_full { HasPlace self.old.office → is_full result ≡ false }
         ensures grown { HasPlace self.old.office → self.new.office ≡ grown self.old.office (entry caller call result) }
         ensures legal { IsLegal self.new.office.base self.new.office.opening self.new.office.history }
-        ensures cost { IsCost self.old.office.base (machine_in self.old.office) call self.old.tests self.new.tests }
+        ensures cost { TestsFor self.old call self.new }
     {
-        self.office.step(caller, call, &mut self.steps)
+        let is_full = self.office.is_full();
+        let reply = self.office.step(caller, call, &mut self.steps);
+        if !is_full {
+            self.readings.push_reserved(Snapshot::of(&self.steps));
+        }
+        reply
     }
 }

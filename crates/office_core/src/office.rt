@@ -1,6 +1,6 @@
 // The office of one thread.
 
-ghost use Rattle.std.specs.Prelude.{◌≡◌, ◌<◌, ◌≤◌, All, IfOk, IfSome, false, is_some, length};
+ghost use Rattle.std.specs.Prelude.{◌≡◌, ◌<◌, ◌≤◌, All, IfOk, IfSome, false, is_some, length, nat_le};
 ghost use Rattle.std.specs.Arc.{arc_value};
 ghost use Rattle.restriction_log.specs.States.{AreOf};
 ghost use Rattle.permit_book.specs.Permits.{is_issued, permit_of};
@@ -106,6 +106,21 @@ impl Office {
         told
     }
 
+    /// The most entries that its history may hold. Takes no memory.
+    pub fn most(&self) -> u32
+        ensures value { result ≡ self.now.most }
+        ensures bounded { result ≤ 1000000 }
+    {
+        self.most
+    }
+
+    /// Whether the history holds as many. Takes no memory.
+    pub fn is_full(&self) -> bool
+        ensures { result ≡ nat_le self.now.most (length self.now.history) }
+    {
+        self.most as usize <= self.history.len()
+    }
+
     /// The entries so far, at most 1,000,000, which keep all that every legal history promises, each of a caller below 65,536.
     /// Each number that a posting recalls was issued by just one entry before it, for a truck that is there. Takes no memory.
     pub fn history(&self) -> &[Entry]
@@ -125,6 +140,14 @@ impl Office {
         ensures { result.now ≡ self.now.base }
     {
         self.register.base()
+    }
+
+    /// What the office is about, with one more owner: for an audit of its history, say. `NoMemory` where no further owner can be
+    /// had.
+    pub fn share_base(&self) -> Result<Arc<Base, Global>, NoMemory>
+        ensures { IfOk result (λ base. arc_value base ≡ self.now.base) }
+    {
+        self.register.share_base()
     }
 
     /// What is in force on the roads. Takes no memory.

@@ -94,6 +94,13 @@ impl Register {
         &self.base
     }
 
+    /// What the office is about, with one more owner. `NoMemory` where no further owner can be had.
+    pub(crate) fn share_base(&self) -> Result<Arc<Base, Global>, NoMemory>
+        ensures { IfOk result (λ base. arc_value base ≡ self.now.base) }
+    {
+        Ok(Arc::try_clone(&self.base)?)
+    }
+
     /// What is in force on the roads. Takes no memory.
     pub(crate) fn state(&self) -> &State
         ensures value { result.now ≡ register_state_now self.now }

@@ -4,7 +4,7 @@ ghost use Rattle.std.specs.Prelude.{◌≡◌, ◌<◌, false};
 ghost use Rattle.office_words.specs.declared.entry.Call.TheVariants as calls;
 ghost use Rattle.office_words.specs.declared.entry.Reply.TheVariants as reply;
 ghost use Rattle.office_core.specs.Replies.{is_full};
-ghost use Rattle.office_core.specs.Costs.{IsCost};
+ghost use Rattle.office_core.specs.Counted.{CountsTurn};
 ghost use Rattle.office_core.specs.Machine.{IsLegal, MayAsk, version_of};
 ghost use Rattle.office_core.specs.Offices.{HasPlace, entry, grown, machine_in};
 ghost use Rattle.office_desk.specs.Desks.{HandsOut};
@@ -47,8 +47,7 @@ impl<L: Ledger> SharedOffice<L> {
         ensures not_full { is_full result ≡ false }
         ensures grown { self.new.counted.office ≡ grown self.old.counted.office (entry caller call result) }
         ensures legal { IsLegal self.new.counted.office.base self.new.counted.office.opening self.new.counted.office.history }
-        ensures cost { IsCost self.old.counted.office.base (machine_in self.old.counted.office) call
-            self.old.counted.tests self.new.counted.tests }
+        ensures cost { CountsTurn self.old.counted call self.new.counted }
     {
         self.counted.step(caller, call)
     }
@@ -61,7 +60,7 @@ impl<L: Ledger> SharedOffice<L> {
         ensures grown { self.new.counted.office ≡ grown self.old.counted.office
             (entry caller calls.Snapshot (reply.SnapshotAt (version_of (machine_in self.new.counted.office)))) }
         ensures legal { IsLegal self.new.counted.office.base self.new.counted.office.opening self.new.counted.office.history }
-        ensures cost { self.new.counted.tests ≡ self.old.counted.tests }
+        ensures cost { CountsTurn self.old.counted calls.Snapshot self.new.counted }
     {
         drop(self.step(caller, Call::Snapshot));
         match self.counted.office().snapshot() {

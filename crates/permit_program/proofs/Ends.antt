@@ -58,12 +58,12 @@ pub of_day : {S K : Type 0} (asked : Option Asked) (before from after : Outside 
 of_day None before from after status is same run = absurd is
 of_day (Some a) before from after status is same run = subst (λ (o : Outside _ _). IsRun (Some a) o after status) same (run a is)
 
-pub counts_day : {S K : Type 0} (asked : Option Asked) (before from after : Outside S K) (status : ℕ) (tests : Option ℕ) → from ≡ before → (status ≡ 0 → CountedDay tests from after) → CountsItsDay asked before after status tests
-counts_day asked before from after status tests same counted is zero = subst (λ (o : Outside _ _). CountedDay tests o after) same (counted zero)
+pub counts_day : {S K : Type 0} (asked : Option Asked) (before from after : Outside S K) (status : ℕ) (readings : Option (List ℕ)) → from ≡ before → (status ≡ 0 → CountedDay readings from after) → CountsItsDay asked before after status readings
+counts_day asked before from after status readings same counted is zero = subst (λ (o : Outside _ _). CountedDay readings o after) same (counted zero)
 
 -- where a day that is asked for ends with 7, nothing is counted of it
-pub none_counted : {S K : Type 0} (asked : Option Asked) (before after : Outside S K) (status : ℕ) (tests : Option ℕ) → (AsksForDay asked → status ≡ 7) → CountsItsDay asked before after status tests
-none_counted asked before after status tests lacks is zero = absurd (omega (arith, lacks is, zero))
+pub none_counted : {S K : Type 0} (asked : Option Asked) (before after : Outside S K) (status : ℕ) (readings : Option (List ℕ)) → (AsksForDay asked → status ≡ 7) → CountsItsDay asked before after status readings
+none_counted asked before after status readings lacks is zero = absurd (omega (arith, lacks is, zero))
 
 -- the status that bytes call for which were taken
 module _ (c : Command) (bytes : List ℕ) (few : length bytes ≤ most_bytes) (judgement : Option Answer) (judges : c.Judges bytes judgement)

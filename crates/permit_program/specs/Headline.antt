@@ -38,9 +38,8 @@ pub record Headline (bytes text : List ℕ) : Type 0 where
   -- names a failing limit (`refused`); each posting recalls exactly the permits in force that then fail (`posted`)
   pub promises : KeepsPromises file.base file.day history
 
--- The headline, with what was tested under the lock: in the turn of each entry of the written history no more segments were
--- tested than its call may cost, and none between the turns. For this the counter of the office's turns stood at 0 before the
--- first entry and stands at `tests` behind the last one.
-pub record CountedHeadline (tests : ℕ) (bytes text : List ℕ) : Type 0 where
+-- The headline, with what was tested under the lock. The one counter of the office's turns stood at 0 before the first entry and
+-- was read behind each: in the turn of each entry of the written history it rose by no more than the call of the entry may cost.
+pub record CountedHeadline (readings : List ℕ) (bytes text : List ℕ) : Type 0 where
   pub headline : Headline bytes text
-  pub counted : Counts headline.file.base headline.file.day headline.history tests
+  pub counted : Counts headline.file.base headline.file.day headline.history readings

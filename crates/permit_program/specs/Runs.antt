@@ -238,14 +238,14 @@ IsAlone asked before after (alone.Status status) = (AsksForDay asked → status 
 IsAlone asked before after alone.Day = AsksForDay asked × (after ≡ before)
 
 -- A day was carried out, and its counter handed out: some bytes were taken, all that were left; a journal was appended; and the
--- headline holds of the two, with what the counter says was tested.
-pub record CountedDay {S K : Type 0} (tests : Option ℕ) (before after : Outside S K) : Type 0 where
+-- headline holds of the two, with the readings of the counter.
+pub record CountedDay {S K : Type 0} (readings : Option (List ℕ)) (before after : Outside S K) : Type 0 where
   pub bytes : List ℕ
   pub journal : List ℕ
   pub took : TookAll before.source after.source bytes
   pub wrote : Appends before.sink.held after.sink.held journal
-  pub counted : IsSomeAnd tests (λ n. CountedHeadline n bytes journal)
+  pub counted : IsSomeAnd readings (λ r. CountedHeadline r bytes journal)
 
 -- so it is where a day is asked for and done
-abbrev pub CountsItsDay : {S K : Type 0} → Option Asked → Outside S K → Outside S K → ℕ → Option ℕ → Type 0
-CountsItsDay asked before after status tests = AsksForDay asked → status ≡ 0 → CountedDay tests before after
+abbrev pub CountsItsDay : {S K : Type 0} → Option Asked → Outside S K → Outside S K → ℕ → Option (List ℕ) → Type 0
+CountsItsDay asked before after status readings = AsksForDay asked → status ≡ 0 → CountedDay readings before after

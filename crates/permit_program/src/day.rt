@@ -10,31 +10,30 @@ ghost use Rattle.permit_program.specs.Headline.{CountedHeadline};
 
 use crate::refusal::Refusal;
 use analyst_pool::Gate;
-use clearance_rules::Steps;
 use day_run::{lone_actors_are_one, serve};
-use day_text::{DayFile, read_day};
+use day_text::read_day;
 use journal_text::print;
 use names::NoMemory;
 use notice_desk::Recall;
-use office_core::Office;
+use office_core::{Office, Readings};
 use reroute_desk::recalls;
 use std::alloc::Global;
 use std::sync::Wait;
 use std::sync::ledger::{Blank, Ledger};
 use std::thread::Threads;
 
-/// A day that is over: its journal, the recalls of its history, and the counter of what its office tested.
+/// A day that is over: its journal, the recalls of its history, and the counter of what its office tested, with the readings of it.
 #[derive(Drop)]
 pub(crate) struct DayOutput<L: Ledger> {
     pub(crate) journal: Vec<u8>,
     pub(crate) recalls: Vec<Recall>,
-    pub(crate) tests: Steps<L>,
+    pub(crate) readings: Readings<L>,
 }
 
 /// The journal of the day file that the bytes are, and its recalls: of an office whose actors carried out their commands, each
 /// on a thread of its own. The gate is told how far each actor is.
 ///
-/// The journal is as the headline says, and the headline holds with what the counter counted. Of a day of at most one actor
+/// The journal is as the headline says, and the headline holds with the readings of the counter. Of a day of at most one actor
 /// there is no other journal. The recalls are all those of its history, in order. `Refused` has the status and the line of the
 /// first refused record, by its row and its cause.
 ///
@@ -46,7 +45,7 @@ pub(crate) fn make_journal<
 >(rt: &R, bytes: &[u8], gate: &G, blank: Blank) -> Result<DayOutput<L>, Refusal>
     requires counter { IsBlankOf L.name L.parts blank }
     ensures made { IfOk result (λ output. MakesAndTells day bytes.now output.journal.items output.recalls.items) }
-    ensures counted { IfOk result (λ output. CountedHeadline output.tests bytes.now output.journal.items) }
+    ensures counted { IfOk result (λ output. CountedHeadline output.readings bytes.now output.journal.items) }
     ensures refused { IfErr result (IsRefusalOf day bytes.now) }
 {
     let alloc = rt.alloc();
@@ -54,7 +53,7 @@ pub(crate) fn make_journal<
         Ok(file) => file,
         Err(refused) => return Err(Refusal::of_file(alloc, refused)),
     };
-    let (office, tests) = serve::<R, G, L>(rt, file, gate, blank)?;
+    let (office, readings) = serve::<R, G, L>(rt, file, gate, blank)?;
     // the law by which no other history serves a day of one actor
     lone_actors_are_one();
     let told = tell(alloc, &office);
@@ -64,7 +63,7 @@ pub(crate) fn make_journal<
     Ok(DayOutput {
         journal: told.journal,
         recalls: told.recalls,
-        tests,
+        readings,
     })
 }
 

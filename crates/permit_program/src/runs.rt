@@ -2,7 +2,7 @@
 
 ghost use Rattle.std.specs.Prelude.{◌≡◌, ◌≢◌, ◌<◌, ◌≤◌, ◌+◌, IfErr, IfOk, Some, length, map};
 ghost use Rattle.std.specs.String.{string_bytes};
-ghost use Rattle.office_io.specs.Causes.{TookAtMost, UnlessReadFault};
+ghost use Rattle.office_io.specs.Causes.{TookAtMost};
 ghost use Rattle.clearance_rules.specs.Counters.{IsBlankOf};
 ghost use Rattle.notice_desk.specs.Standings.{AreNew};
 ghost use Rattle.command_line.specs.Asking.{NumbersAreInRange, asked_of};
@@ -15,9 +15,9 @@ use crate::commands::{make_text, reads};
 use crate::day::make_journal;
 use crate::refusal::Refusal;
 use analyst_pool::Gate;
-use clearance_rules::Steps;
 use command_line::{Asked, Task, WordsRefusal, read_words};
 use notice_desk::{Notice, NoticeFault, Subscribers};
+use office_core::Readings;
 use office_io::{ReadRefusal, Sink, Source, read_all, write_all};
 use std::alloc::Global;
 use std::sync::Wait;
@@ -31,22 +31,23 @@ pub enum Alone {
     Day,
 }
 
-/// How a run ended: with this status, and with the counter of what was tested in the turns of a day's office, where it came back.
+/// How a run ended: with this status, and with the counter of what was tested in the turns of a day's office and the readings of it,
+/// where they came back.
 #[derive(Drop)]
 pub struct Ended<L: Ledger> {
     pub status: u8,
-    pub tests: Option<Steps<L>>,
+    pub readings: Option<Readings<L>>,
 }
 
 impl<L: Ledger> Ended<L> {
     // A run that has no counter to hand out.
     fn uncounted(status: u8) -> Ended<L>
         ensures status { result.status ≡ status }
-        ensures none { result.tests ≡ None }
+        ensures none { result.readings ≡ None }
     {
         Ended {
             status,
-            tests: None,
+            readings: None,
         }
     }
 }
@@ -74,7 +75,7 @@ const MOST_BYTES: u32 = 4_194_304;
 /// for, or 7, or 4 or 8 in the place of 0. At most 4,194,305 bytes are taken, and none with 2.
 ///
 /// A day's actors work on threads of their own, and the gate is told how far each is. The call waits until all are done. What
-/// the office tests in their turns is counted by a counter that is made of the blank, and handed out.
+/// the office tests in their turns is counted by a counter that is made of the blank and read behind each entry, and handed out.
 pub fn run<
     R: Threads + Wait + AllocGlobal + Sync,
     S: Source,
@@ -96,12 +97,12 @@ pub fn run<
         let desk = desk_at ⟦<dyn Notice as Notice>⟧ in
         let asked = asked_of (map string_bytes words.now) in
         IsRun asked (outside source.old sink.old (desk notices.old)) (outside source.new sink.new (desk notices.new)) result.status }
-    // After a day that ends with 0 the counter is handed out, and the headline holds with what it counted.
+    // After a day that ends with 0 the counter is handed out, and the headline holds with the readings of it.
     ensures counted { let outside = outside_of ⟦<S as Source>⟧ ⟦<K as Sink>⟧ in
         let desk = desk_at ⟦<dyn Notice as Notice>⟧ in
         let asked = asked_of (map string_bytes words.now) in
         CountsItsDay asked (outside source.old sink.old (desk notices.old)) (outside source.new sink.new (desk notices.new))
-        result.status result.tests }
+        result.status result.readings }
 {
     match run_alone(rt, words, source, sink) {
         Alone::Status(status) => Ended::uncounted(status),
@@ -186,7 +187,7 @@ fn perform_day<
         (outside source.new sink.new (desk notices.new)) result.status }
     ensures counted { let outside = outside_of ⟦<S as Source>⟧ ⟦<K as Sink>⟧ in
         let desk = desk_at ⟦<dyn Notice as Notice>⟧ in
-        result.status ≡ 0 → CountedDay result.tests (outside source.old sink.old (desk notices.old))
+        result.status ≡ 0 → CountedDay result.readings (outside source.old sink.old (desk notices.old))
         (outside source.new sink.new (desk notices.new)) }
 {
     let bytes = match take_bytes(rt.alloc(), source, true) {
@@ -207,7 +208,7 @@ fn perform_day<
     };
     Ended {
         status,
-        tests: Some(day.tests),
+        readings: Some(day.readings),
     }
 }
 

@@ -1,6 +1,6 @@
 // What the tests of this crate share: runs over sources and sinks in memory.
 
-ghost use Rattle.std.specs.Prelude.{◌≡◌, ◌<◌};
+ghost use Rattle.std.specs.Prelude.{◌<◌};
 ghost use Rattle.notice_desk.specs.Standings.{AreNew, standings};
 ghost use Rattle.permit_program.specs.Counters.{IsBlankOf};
 
@@ -163,10 +163,10 @@ fn run_counted<
     requires counter { IsBlankOf L.name L.parts blank }
     requires new { AreNew (standings (λ n. (⟦<dyn Notice as Notice>⟧ n.vtable).list n.value) notices.old) }
 {
-    let Ended { status, tests } = run::<R, MemorySource, MemorySink, G, L>(
+    let Ended { status, readings } = run::<R, MemorySource, MemorySink, G, L>(
         rt, words, source, sink, notices, gate, blank,
     );
-    drop(tests);
+    drop(readings);
     status
 }
 

@@ -87,5 +87,5 @@ returns-clause-counted g c = λ is.
       journal = text;
       took = c.in-Ok.ensures.took;
       wrote = subst (Appends (held c.args.sink.now) (held c.end_made-status.new.sink)) c.as_slice-2.ensures.value (c.end_made-status.ensures.whole zero).0;
-      counted = subst (λ (b : List ℕ). CountedHeadline c.in-Ok-make_journal.day.tests b text) c.as_slice.ensures.value c.in-Ok-make_journal.ensures.counted;
+      counted = subst (λ (b : List ℕ). CountedHeadline c.in-Ok-make_journal.day.readings b text) c.as_slice.ensures.value c.in-Ok-make_journal.ensures.counted;
     }

@@ -20,7 +20,7 @@ returns-in-Status-clause-counted g c =
     let outside = outside_of g.S.Source g.K.Sink in
     let before = outside c.args.source.now c.args.sink.now (desk_now c.args.notices.now) in
     let after = outside c.run_alone.new.source c.run_alone.new.sink (desk_now c.args.notices.now) in
-    none_counted (asked_of (map string_bytes c.args.words.now)) before after c.uncounted.result.status c.uncounted.result.tests
+    none_counted (asked_of (map string_bytes c.args.words.now)) before after c.uncounted.result.status c.uncounted.result.readings
     (λ is. c.uncounted.ensures.status ∙ (c.in-Status.ensures (desk_now c.args.notices.now)).0 is)
 
 pub returns-in-Day-clause-run : goal.returns-in-Day-clause-run
@@ -41,4 +41,4 @@ returns-in-Day-clause-counted g c =
     let before = outside c.args.source.now c.args.sink.now (desk_now c.args.notices.now) in
     let from = outside c.run_alone.new.source c.run_alone.new.sink (desk_now c.args.notices.now) in
     let after = outside c.perform_day.new.source c.perform_day.new.sink (desk_now c.perform_day.new.notices) in
-    counts_day (asked_of (map string_bytes c.args.words.now)) before from after c.perform_day.result.status c.perform_day.result.tests alone.1 c.perform_day.ensures.counted
+    counts_day (asked_of (map string_bytes c.args.words.now)) before from after c.perform_day.result.status c.perform_day.result.readings alone.1 c.perform_day.ensures.counted
