@@ -4,11 +4,12 @@ use Rattle.road_graph.specs.Roads.{no_roads}
 use Rattle.trip_analysis.specs.Bases.{BaseLists}
 use Rattle.office_words.specs.declared.entry.Call.{Call}
 use Rattle.office_words.specs.declared.entry.Entry.{Entry}
+use Rattle.office_words.specs.declared.entry.Reply.{Reply}
 use Rattle.office_core.specs.declared.calls.Looked.{Looked}
 use Rattle.office_core.specs.declared.calls.Looked.TheVariants as looked
 use Rattle.office_core.specs.Machine.{MayAsk}
 use Rattle.office_core.specs.Offices.{Opened, stored_in_office}
-use Rattle.office_core.specs.Calls.{Calling, machine_seen}
+use Rattle.office_core.specs.Calls.{Answered, Calling, machine_seen}
 use Rattle.office_turn.specs.Told.{Lock, Passing}
 
 -- what no turn changes of an office: what it is about, the day on which it opened, and the most entries that its history
@@ -55,6 +56,10 @@ calls_with_pass p = record {
 -- what may be asked with a pass: what may be asked of the history that it has seen
 abbrev pub MayAskWith : Passing Entry Terms → Call → Type 0
 MayAskWith p c = MayAsk (calls_with_pass p).who.base (machine_seen (calls_with_pass p)) c
+
+-- a call was answered with a pass
+abbrev pub AnswersWith : Passing Entry Terms → Call → Reply → Passing Entry Terms → Type 0
+AnswersWith p c r next = Answered (calls_with_pass p) c r (calls_with_pass next)
 
 -- what a look hands out is what is then posted. It is never that the history is full
 abbrev pub HandsOut : Looked → Opened → Type 0

@@ -6,14 +6,13 @@ ghost use Rattle.clearance_rules.specs.Counters.{IsBlankOf};
 ghost use Rattle.office_turn.specs.Story.{StartsWith};
 ghost use Rattle.office_turn.specs.Told.{HasReceipt, IsReady, admitted_by, after_admit, after_join, opening_root};
 ghost use Rattle.office_core.specs.Machine.{IsLegal, entries_by};
-ghost use Rattle.office_core.specs.Calls.{Answered, Looks};
+ghost use Rattle.office_core.specs.Calls.{Looks};
 ghost use Rattle.office_core.specs.Promises.{KeepsPromises};
-ghost use Rattle.office_desk.specs.Desks.{MayAskWith, calls_with_pass, terms_of};
+ghost use Rattle.office_desk.specs.Desks.{AnswersWith, MayAskWith, calls_with_pass, terms_of};
 
 use crate::shared_office::SharedOffice;
-use clearance_rules::Steps;
 use names::NoMemory;
-use office_core::{CountedOffice, Looked, Office};
+use office_core::{CountedOffice, Looked, Office, Readings};
 use office_turn::{Turn, Worn};
 use office_words::{Call, Reply};
 use permit_days::Day;
@@ -71,7 +70,7 @@ impl<L: Ledger> Desk<L> {
         ensures root { IfOk result (λ started. started.1 ≡ opening_root started.0) }
     {
         let office = Office::start(alloc, base, day, most)?;
-        let counted = CountedOffice::new(office, blank);
+        let counted = CountedOffice::new(alloc, office, blank)?;
         match Turn::start(alloc, SharedOffice { counted }, most) {
             Ok((turn, root)) => Ok((Desk { turn }, root)),
             Err(office_turn::NoMemory) => Err(NoMemory),
@@ -97,12 +96,12 @@ impl<L: Ledger> Desk<L> {
         self.turn.join(root, pass);
     }
 
-    /// Ends the desk, and gives its office back, with the counter of what was tested in its turns. It is asked once each pass
+    /// Ends the desk, and gives its office back, with the counter of its turns and the readings of it. It is asked once each pass
     /// was taken in. It takes no memory.
     ///
     /// The office has the roads and trucks, the opening day and the most entries that the desk was started with. Its history
     /// goes on from what the root has seen, is legal, and keeps every promise.
-    pub fn close(self, root: Root<L>) -> (Office, Steps<L>)
+    pub fn close(self, root: Root<L>) -> (Office, Readings<L>)
         requires lock { root.lock ≡ self }
         requires joined { length root.receipts ≡ root.admitted }
         ensures terms { Some (terms_of result.0) ≡ root.lock.terms }
@@ -125,9 +124,9 @@ impl<L: Ledger> Desk<L> {
     {
         let Desk { turn } = self;
         let SharedOffice { counted } = turn.close(root);
-        let (office, steps) = counted.into_parts();
+        let (office, readings) = counted.into_parts();
         let _entries = office.history();
-        (office, steps)
+        (office, readings)
     }
 
     /// The current version and its state, which are those that its entry finds. The pass is left as by `ask`. The entry is
@@ -156,7 +155,7 @@ impl<L: Ledger> Desk<L> {
     pub fn ask<R: Wait>(&self, rt: &R, pass: &mut Pass<L>, call: Call) -> Reply
         requires ready { IsReady self.now pass.old }
         requires asked { MayAskWith pass.old call }
-        ensures answered { Answered (calls_with_pass pass.old) call result (calls_with_pass pass.new) }
+        ensures answered { AnswersWith pass.old call result pass.new }
         ensures ready { IsReady self.now pass.new }
     {
         match self.turn.hold(rt, pass) {

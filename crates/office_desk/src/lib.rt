@@ -16,6 +16,7 @@
 #![tactic(auto)]
 
 mod desk;
+mod named_calls;
 mod seat;
 mod shared_office;
 
