@@ -20,4 +20,5 @@ mod versions;
 
 pub use auditing::audit;
 pub use laws::verdicts_are_one;
+pub use sameness::are_same_routes;
 pub use verdict::Verdict;

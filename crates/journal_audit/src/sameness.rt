@@ -103,8 +103,8 @@ fn are_same_permits(one: &Reply, other: &Reply) -> bool
         && st == status
 }
 
-// Whether the routes are the same.
-fn are_same_routes(one: &SharedRoutes, other: &SharedRoutes) -> bool
+/// Whether the routes are the same. Takes no memory.
+pub fn are_same_routes(one: &SharedRoutes, other: &SharedRoutes) -> bool
     ensures { (result ≡ true) ↔ (one.now ≡ other.now) }
 {
     if one.len() != other.len() {

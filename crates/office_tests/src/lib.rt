@@ -22,3 +22,5 @@ mod notices;
 mod reroutes;
 #[cfg(test)]
 mod turns;
+#[cfg(test)]
+mod wholes;

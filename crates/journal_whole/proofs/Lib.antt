@@ -1,0 +1,6 @@
+pub mod Nexts
+pub mod Finished
+pub mod Standing
+pub mod Completing
+pub mod Fronts
+pub mod Seating
