@@ -1,5 +1,6 @@
 -- Each recall has its answer, and a line tells it.
 use Rattle.std.proofs.Common.{◌≡◌, ◌≢◌, ◌∙◌, ◌<◌, ap, sym, refl, subst, ℕ, List, [], ◌∷◌, ◌++◌, Bool, true, false, cond, All, Some, length, map, append_assoc, eq-eqb, ◌==◌, ◌||◌, arith}
+use Rattle.std.specs.List.{concat}
 use Rattle.std.proofs.lemmas.Bool.Decides.{nat_tests}
 use Rattle.std.proofs.lemmas.List.{append-nil, map-append}
 use Rattle.std.proofs.lemmas.List.Elements.{All-head, All-tail, filter-append}
@@ -8,6 +9,7 @@ use Rattle.trip_analysis.specs.Bases.{AreTrains, BaseLists}
 use Rattle.trip_analysis.specs.Findings.{is_number_among}
 use Rattle.trip_analysis.specs.declared.application.Application.{Application}
 use Rattle.day_text.specs.declared.orders.Order.{Order}
+use Rattle.day_text.proofs.EveryDay.{day_bounded, day_keeps}
 use Rattle.office_words.specs.declared.entry.Call.TheVariants as call
 use Rattle.office_words.specs.declared.entry.Entry.{Entry}
 use Rattle.office_words.specs.declared.entry.Reply.{Reply}
@@ -31,15 +33,8 @@ use Rattle.reroute_desk.proofs.Renewing.{answers_renewal, wanted}
 use Rattle.day_trial.specs.Rerouted.{AreRenewed, CarriesOutAgain, IsRenewed}
 use Rattle.day_trial.specs.Rerouting.{IsAtOnce, attempted, called}
 use Rattle.day_trial.proofs.AtOnce.{at_once}
-use Rattle.report_text.specs.RecallLines.{replies_to}
-use Rattle.program_laws.specs.EachLine.{AreTold, EachRecallHasItsLine, IsTold}
-
--- what is told of some, and of others behind them
-told_behind : (ns ms : Numbers) (rs qs : List Reply) → AreTold ns rs → AreTold ms qs → AreTold (ns ++ ms) (rs ++ qs)
-told_behind [] ms [] qs first rest = rest
-told_behind [] ms (r ∷ rs) qs first rest = absurd first
-told_behind (n ∷ ns) ms [] qs first rest = absurd first
-told_behind (n ∷ ns) ms (r ∷ rs) qs first rest = (first.0, told_behind ns ms rs qs first.1 rest)
+use Rattle.report_text.specs.RecallLines.{line_for, permit_lines, replies_to}
+use Rattle.program_laws.specs.EachLine.{AreLinesOf, EachRecallHasItsLine, IsAnswerFor, IsTold}
 
 -- a number stays in a list that grows
 either : (b c d : Bool) → (b || c) ≡ true → (c ≡ true → d ≡ true) → (b || d) ≡ true
@@ -92,7 +87,39 @@ replies_behind caller es fs =
     ap (λ (l : History). map (λ (e : Entry). e.reply) l) (filter-append (λ (e : Entry). e.caller == caller) es fs)
     ∙ map-append (λ (e : Entry). e.reply) (entries_by caller es) (entries_by caller fs)
 
+-- these are the answers for some permits, in order
+abbrev AreAnswersFor : Day → ℕ → History → Numbers → List Reply → Type 0
+AreAnswersFor day caller all [] [] = Unit {0}
+AreAnswersFor day caller all (n ∷ ns) (r ∷ rs) = IsAnswerFor day caller all n r × AreAnswersFor day caller all ns rs
+AreAnswersFor day caller all _ _ = ⊥
+
+-- the lines of these answers
+abbrev lines_for : Numbers → List Reply → List (List ℕ)
+lines_for (n ∷ ns) (r ∷ rs) = line_for n r ∷ lines_for ns rs
+lines_for _ _ = []
+
+lines_whole : (ns : Numbers) (rs : List Reply) → permit_lines ns rs ≡ concat (lines_for ns rs)
+lines_whole [] rs = refl
+lines_whole (n ∷ ns) [] = refl
+lines_whole (n ∷ ns) (r ∷ rs) = ap (λ l. line_for n r ++ l) (lines_whole ns rs)
+
+answers_have_lines : (day : Day) (caller : ℕ) (all : History) (ns : Numbers) (rs : List Reply) → AreAnswersFor day caller all ns rs → AreLinesOf day caller all ns (lines_for ns rs)
+answers_have_lines day caller all [] [] are = tt
+answers_have_lines day caller all (n ∷ ns) (r ∷ rs) (one, rest) = (record { reply = r; answer = one; line_is = refl }, answers_have_lines day caller all ns rs rest)
+answers_have_lines day caller all [] (r ∷ rs) are = absurd are
+answers_have_lines day caller all (n ∷ ns) [] are = absurd are
+
 module _ (base : BaseLists) (day : Day) (caller : ℕ) (all : History) (roads : IsRoads base.roads) (trains : AreTrains base) (legal : IsLegal base day all) (keeps : KeepsPromises base day all) (memory : FoundMemory all) where
+  abbrev AreTold : Numbers → List Reply → Type 0
+  AreTold ns rs = AreAnswersFor day caller all ns rs
+
+  -- what is told of some, and of others behind them
+  told_behind : (ns ms : Numbers) (rs qs : List Reply) → AreTold ns rs → AreTold ms qs → AreTold (ns ++ ms) (rs ++ qs)
+  told_behind [] ms [] qs first rest = rest
+  told_behind [] ms (r ∷ rs) qs first rest = absurd first
+  told_behind (n ∷ ns) ms [] qs first rest = absurd first
+  told_behind (n ∷ ns) ms (r ∷ rs) qs first rest = (first.0, told_behind ns ms rs qs first.1 rest)
+
   -- an application once more for a permit that was recalled before is told
   renewal_told : (front : History) (e : Entry) (back : History) (n : ℕ) → all ≡ front ++ e ∷ back → is_number_among n (recalled_in front) ≡ true → IsRenewed day caller front n e → IsTold e.reply
   renewal_told front e back n is on again =
@@ -131,7 +158,7 @@ module _ (base : BaseLists) (day : Day) (caller : ℕ) (all : History) (roads : 
       let behind : AreAllTold ns es = renewals_told (front ++ e ∷ []) ns es back (is ∙ sym (append_assoc front (e ∷ []) (es ++ back)))
       (λ m in_rest. subst (λ (l : Numbers). is_number_among m l ≡ true) (sym (recalled_more front (e ∷ []))) (in_front m (recalled_in front) (recalled_in (e ∷ [])) (on m (or_right (n == m) (is_number_among m ns) in_rest)))) rest in
       record {
-        told = (here, behind.told);
+        told = (record { front = front; again = e; stands = (es ++ back, is); renews = one; answer = refl; told = here }, behind.told);
         recalls_none = ap (λ (l : Numbers). l ++ recalled_in es) (quiet e.reply here) ∙ behind.recalls_none;
         own = ap (λ (b : Bool). map (λ (f : Entry). f.reply) (cond b (e ∷ entries_by caller es) (entries_by caller es))) (eq-eqb e.caller caller one.by) ∙ ap (λ (l : List Reply). e.reply ∷ l) behind.own;
       }
@@ -168,5 +195,16 @@ module _ (base : BaseLists) (day : Day) (caller : ℕ) (all : History) (roads : 
       (All-tail (λ (p : Order). p.actor < caller) o os callers) h.behind)
 
 pub each_told : FirstAttemptsDecide → EachRecallHasItsLine
-each_told first file history roads trains callers h =
-    commands_told file.base file.day (length file.actors) history roads trains h.legal h.promises h.memory first [] file.commands history refl callers h.commands
+each_told first bytes text run =
+    let file = run.file in
+    let h = run.rerouted in
+    let bounded = day_bounded bytes file run.read in
+    let callers = (day_keeps bytes file run.read).callers in
+    let told = commands_told file.base file.day (length file.actors) run.history bounded.roads bounded.base.trains h.legal h.promises h.memory first [] file.commands run.history refl callers h.commands in
+    let ns = recalled_in run.history in
+    let rs = replies_to (length file.actors) run.history in
+    record {
+      lines = lines_for ns rs;
+      whole = run.lines ∙ lines_whole ns rs;
+      each = answers_have_lines file.day (length file.actors) run.history ns rs told;
+    }

@@ -4,8 +4,8 @@ ghost use Rattle.program_laws.specs.EachLine.{EachRecallHasItsLine};
 
 use analyst_pool::runs_are_one;
 
-/// A law, and no code: where the commands of a day file are carried out one after another and each recalled permit is applied for
-/// again, there is one answer for each recall, in order, and each is told by a line.
+/// A law, and no code: the text that `reroute` writes for a day file is one line for each permit that its history recalls, in the
+/// order of the recalls, and each line is that of the answer to the application for this permit once more.
 pub fn each_recall_has_its_line()
     ensures { EachRecallHasItsLine }
 {
