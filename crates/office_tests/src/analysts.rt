@@ -15,7 +15,7 @@ use crate::fixtures::{
     journal_ends, office,
 };
 use analyst_pool::{
-    Errand, Finder, Gate, OpenGate, Outcome, Worker, carry_out, decide, most_entries, run_actors,
+    Errand, Finder, Gate, Outcome, Worker, carry_out, decide, most_entries, run_actors,
 };
 use office_core::{CountedOffice, Looked, Office, OfficeCalls, OneSeat};
 use office_words::{Call, Command, Reply};
@@ -25,6 +25,7 @@ use std::cell::Cell;
 use std::marker::Brand;
 use std::process::Abort;
 use std::sync::Arc;
+use std::sync::atomic::{AtomicU64, Ordering};
 use std::sync::ledger::{Blank, Ledger};
 use std::thread::Threads;
 use trip_analysis::Base;
@@ -359,7 +360,7 @@ fn goes_in<R: Abort, L: Ledger, F: Ledger>(
     let &(_, kind, changes, told, wanted, ends) = row;
     let mut calls = Interrupted {
         rt,
-        office: CountedOffice::<L>::new(office, tests),
+        office: CountedOffice::<L>::new(alloc, office, tests).expect(rt, "memory"),
         changes,
     };
     let full = tell::<Interrupted<'_, R, L>, F>(rt, alloc, &mut calls, base, kind, told, found);
@@ -451,7 +452,38 @@ fn worker<'a, L: Ledger>(
     Worker::new(OneSeat::new(office, 0), actor, script)
 }
 
-// A worker carries out its script, and ends with this outcome.
+// Whether it is told of one actor's commands alone, and of these in order: of each ahead of it, between, and behind its reply.
+#[derive(Drop)]
+struct InOrder {
+    actor: u32,
+    next: AtomicU64,
+    wrong: AtomicU64,
+}
+
+impl InOrder {
+    fn is_told(&self, actor: u32, command: u32) {
+        if actor != self.actor || u64::from(command) != self.next.load(Ordering::SeqCst) {
+            self.wrong.store(1, Ordering::SeqCst);
+        }
+    }
+}
+
+impl Gate for InOrder {
+    fn before(&self, actor: u32, command: u32) {
+        self.is_told(actor, command);
+    }
+
+    fn between(&self, actor: u32, command: u32, _attempt: u32) {
+        self.is_told(actor, command);
+    }
+
+    fn answered(&self, actor: u32, command: u32) {
+        self.is_told(actor, command);
+        self.next.fetch_add(1, Ordering::SeqCst);
+    }
+}
+
+// A worker of the second actor carries out its script, and ends with this outcome. The gate is told so.
 fn run_worker<R: Threads + Abort + Sync, C: OfficeCalls + Send + Drop>(
     rt: &R,
     alloc: Global,
@@ -463,10 +495,16 @@ fn run_worker<R: Threads + Abort + Sync, C: OfficeCalls + Send + Drop>(
 {
     let mut workers = Vec::new(alloc);
     workers.push(worker)?;
-    run_actors(rt, alloc, base, &mut workers, &OpenGate);
+    let gate = InOrder {
+        actor: 1,
+        next: AtomicU64::new(0),
+        wrong: AtomicU64::new(0),
+    };
+    run_actors(rt, alloc, base, &mut workers, &gate);
     for worker in &workers {
         assert!(rt; worker.outcome() == wanted);
     }
+    assert!(rt; gate.wrong.load(Ordering::SeqCst) == 0);
     Ok(())
 }
 
@@ -484,7 +522,7 @@ fn run_one<R: Threads + Abort + Sync, L: Ledger + Send + Sync>(
     requires opened { office.history ≡ [] }
 {
     let &(_, kinds, wanted, entries) = scripted;
-    let mut office = CountedOffice::<L>::new(office, blank);
+    let mut office = CountedOffice::<L>::new(alloc, office, blank).expect(rt, "memory");
     let worker = worker(rt, alloc, base, &mut office, 1, kinds);
     let ran = run_worker(rt, alloc, base, worker, wanted);
     assert!(rt; ran.is_ok());

@@ -60,12 +60,18 @@ const BAD: &str = "\
 1 snapshot = nomemory
 ";
 
-// What is said of a line behind the begin, and before one that is legal.
-fn judge(rt: &impl Abort, alloc: Global, line: &str, wanted: Verdict) {
-    let lines = format!(in alloc; "{BEGIN}{line}\n1 show 0 = unknown\n").expect(rt, "memory");
+// Callers 1 and 17 of an audit go by turns: what is known for the one is of a later version than the other's next proposal.
+const BY_TURNS: &str = "\
+17 submit truck 1 from 1 to 2 asked none days 2026-03-02 2026-03-06 seen 1 cut 1 = refused 1 segment 1 height 168 over 167
+1 submit truck 1 from 1 to 2 asked none days 2026-03-02 2026-03-06 seen 0 route 1 = outdated 1 fails segment 1 height 168 over 167
+17 submit truck 1 from 1 to 2 asked none days 2026-03-02 2026-03-06 seen 1 cut 1 = refused 1 segment 1 height 168 over 167";
+
+// What is said of lines behind the begin, and before one that is legal.
+fn judge(rt: &impl Abort, alloc: Global, behind: &str, wanted: Verdict) {
+    let lines = format!(in alloc; "{BEGIN}{behind}\n1 show 0 = unknown\n").expect(rt, "memory");
     let verdict = verdict_on(rt, alloc, lines.as_str());
     drop(lines);
-    assert!(rt; verdict == wanted, "{line}");
+    assert!(rt; verdict == wanted, "{behind}");
 }
 
 #[test]
@@ -76,4 +82,5 @@ fn names_the_first_bad_entry(rt: HostRuntime) {
     for line in BAD.lines() {
         judge(&rt, rt.alloc(), line, Verdict::Bad { entry: 2 });
     }
+    judge(&rt, rt.alloc(), BY_TURNS, Verdict::Legal);
 }

@@ -296,7 +296,7 @@ fn full_in<L: Ledger>(
     requires counter { IsBlankOf L.name L.parts blank }
     requires opened { office.history ≡ [] }
 {
-    let mut office = CountedOffice::<L>::new(office, blank);
+    let mut office = CountedOffice::<L>::new(alloc, office, blank).expect(rt, "memory");
     let entries = entries(rt, alloc, row.1);
     let full = serve_each(rt, alloc, &mut office, entries.as_slice(), by_seat);
     drop(entries);
@@ -334,18 +334,20 @@ const DAYS: [Row; 9] = [
 ",
         "",
     ),
-    // a posting that is lower than the first truck, twice
+    // two postings under which all trucks fit, and one that is lower than the first truck, twice
     (
         ONE_WAY,
         "\
 1 held truck 1 from 1 to 2 asked none days 2026-03-02 2026-03-06 = issued 1 at 0 route 1
 1 held truck 2 from 1 to 2 asked none days 2026-03-02 2026-03-06 = issued 2 at 0 route 1
-2 post segment 1 height 167 = posted 1 recalled 1
-2 post segment 1 height 167 = posted 2 recalled -
+2 post segment 1 height 170 = posted 1 recalled -
+2 post segment 1 height 169 = posted 2 recalled -
+2 post segment 1 height 167 = posted 3 recalled 1
+2 post segment 1 height 167 = posted 4 recalled -
 2 post segment 2 height 167 = range
-1 surrender 1 = notinforce recalled 1
+1 surrender 1 = notinforce recalled 3
 ",
-        "1 1 ACME\n",
+        "1 3 ACME\n",
     ),
     // a posting for each of two trucks, of two carriers
     (

@@ -4,9 +4,10 @@ ghost use Rattle.clearance_rules.specs.Counters.{IsBlankOf};
 ghost use Rattle.office_turn.specs.Told.{IsReady};
 
 use crate::fixtures::{ALONE, base, day, full_at, has_lines};
-use office_core::{Looked, Office, OfficeCalls};
+use journal_audit::{Verdict, audit};
+use office_core::{CountedOffice, Looked, Office, OfficeCalls, OneSeat};
 use office_desk::{Desk, Pass, Root, Seat};
-use office_words::{Call, Reply};
+use office_words::Reply;
 use restriction_log::Change;
 use std::alloc::Global;
 use std::marker::Brand;
@@ -53,6 +54,28 @@ fn close<L: Ledger>(rt: &impl Abort, desk: Desk<L>, root: Root<L>) -> Office
     office
 }
 
+// The office of such a desk, for calls on one thread.
+fn take_home<L: Ledger>(rt: &impl Abort, desk: Desk<L>, root: Root<L>) -> CountedOffice<L>
+    requires { root.lock ≡ desk }
+{
+    assert!(rt; root.joined() == root.admitted());
+    let (office, readings) = desk.close(root);
+    CountedOffice::resume(office, readings).expect(rt, "memory")
+}
+
+// Caller 3 looks at a permit that nobody has, on one thread.
+fn show_at_home<L: Ledger>(office: &mut CountedOffice<L>) {
+    let mut seat = OneSeat::new(office, 2);
+    drop(seat.show(0));
+}
+
+// The office's own history is one of an office about its roads and trucks.
+fn is_legal(rt: &impl Abort, alloc: Global, office: &Office) {
+    let base = office.share_base().expect(rt, "memory");
+    let verdict = audit(alloc, base, day(rt, "2026-03-02"), office.history()).expect(rt, "memory");
+    assert!(rt; verdict == Verdict::Legal);
+}
+
 // Posts that the segment is closed. How many entries the history held, where it was full, and else 0.
 fn post<R: Wait, L: Ledger>(rt: &R, desk: &Desk<L>, pass: &mut Pass<L>) -> u32
     requires { IsReady desk.now pass.old }
@@ -62,7 +85,7 @@ fn post<R: Wait, L: Ledger>(rt: &R, desk: &Desk<L>, pass: &mut Pass<L>) -> u32
         segment: 0,
         closed: true,
     };
-    full_at(desk.ask(rt, pass, Call::Post { change }))
+    full_at(desk.post(rt, pass, change))
 }
 
 // Looks at a permit that nobody has.
@@ -70,7 +93,7 @@ fn show<R: Wait, L: Ledger>(rt: &R, desk: &Desk<L>, pass: &mut Pass<L>)
     requires { IsReady desk.now pass.old }
     ensures { IsReady desk.now pass.new }
 {
-    drop(desk.ask(rt, pass, Call::Show { number: 0 }));
+    drop(desk.show(rt, pass, 0));
 }
 
 // Does so by a seat, which can go to another thread.
@@ -147,9 +170,10 @@ const BEHIND: &str = "\
 1 post segment 1 closed 1 = posted 1 recalled -
 1 snapshot = at 1
 2 show 0 = unknown
+3 show 0 = unknown
 ";
 
-// Looks behind a posting of the same caller.
+// Looks behind a posting of the same caller. The office that comes back goes on on one thread, and its history is audited.
 fn look_behind_a_posting<L: Ledger + Send + Sync>(
     rt: &(impl Abort + Wait + AllocGlobal + Sync),
     blank: Blank,
@@ -164,8 +188,10 @@ fn look_behind_a_posting<L: Ledger + Send + Sync>(
     let other = admit(rt, &desk, &mut root);
     let other = show_by_seat(rt, &desk, other);
     leave(&desk, &mut root, other);
-    let office = close(rt, desk, root);
-    has_lines(rt, rt.alloc(), &office, BEHIND);
+    let mut office = take_home(rt, desk, root);
+    show_at_home(&mut office);
+    has_lines(rt, rt.alloc(), office.office(), BEHIND);
+    is_legal(rt, rt.alloc(), office.office());
     drop(office);
     assert!(rt; full == 0 && looked == Ok(1));
 }

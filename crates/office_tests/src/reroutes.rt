@@ -1,12 +1,12 @@
-ghost use Rattle.std.specs.Prelude.{◌≡◌, ◌<◌, ◌≤◌, []};
+ghost use Rattle.std.specs.Prelude.{◌≡◌, ◌<◌, []};
 ghost use Rattle.clearance_rules.specs.Counters.{IsBlankOf};
 ghost use Rattle.office_core.specs.Machine.{MayAsk};
 ghost use Rattle.office_core.specs.Offices.{machine_in};
-ghost use Rattle.reroute_desk.specs.Desks.{KeepsUp, new_desk};
+ghost use Rattle.reroute_desk.specs.Desks.{KeepsUp};
 
-use crate::calls::call_again;
+use crate::calls::{call_again, submission, trip};
 use crate::fixtures::{AROUND, base, entries, has_lines, office_about};
-use office_core::CountedOffice;
+use office_core::{CountedOffice, Office};
 use office_words::{Call, Entry, Reply};
 use reroute_desk::{
     Handled, HandledAs, RerouteRefusal, Rerouter, calls_of_others_keep_up, new_desks_keep_up,
@@ -18,6 +18,20 @@ use std::sync::ledger::{Blank, Ledger};
 
 // A desk whose caller is 2, beside an office that caller 1 calls. Its first truck needs a permit; the roads are one segment from
 // the first node to the second, and a way around it by two others.
+
+// An office with no entry, and a counter of its tests.
+fn counted<L: Ledger>(
+    rt: &impl Abort,
+    alloc: Global,
+    office: Office,
+    blank: Blank,
+) -> CountedOffice<L>
+    requires counter { IsBlankOf L.name L.parts blank }
+    requires opened { office.history ≡ [] }
+    ensures { result.office ≡ office }
+{
+    CountedOffice::new(alloc, office, blank).expect(rt, "memory")
+}
 
 // An office about these roads with room for so many entries, and a new desk.
 fn beside<L: Ledger>(
@@ -32,10 +46,20 @@ fn beside<L: Ledger>(
 {
     new_desks_keep_up();
     let office = office_about(rt, alloc, base(rt, alloc, AROUND, 168), most);
-    (
-        CountedOffice::<L>::new(office, blank),
-        Rerouter::new(alloc, 1),
-    )
+    (counted(rt, alloc, office, blank), Rerouter::new(alloc, 1))
+}
+
+// A call once more. A submit has what is found now.
+fn call_once_more(rt: &impl Abort, alloc: Global, office: &Office, call: &Call) -> Call
+    ensures { MayAsk office.now.base (machine_in office.now) result }
+{
+    match call {
+        Call::Submit { application, .. } => {
+            let application = trip(rt, office.base(), application);
+            submission(rt, alloc, office, application)
+        }
+        call => call_again(rt, office, call),
+    }
 }
 
 // Caller 1 makes a call.
@@ -52,6 +76,7 @@ fn ask<L: Ledger>(desk: &Rerouter, office: &mut CountedOffice<L>, call: Call) ->
 // The desk catches up where the entry is its own. Else caller 1 makes its call.
 fn go_on<L: Ledger>(
     rt: &impl Abort,
+    alloc: Global,
     desk: &mut Rerouter,
     office: &mut CountedOffice<L>,
     entry: &Entry,
@@ -64,7 +89,7 @@ fn go_on<L: Ledger>(
     if entry.caller == 1 {
         assert!(rt; desk.catch_up(office).is_ok());
     } else {
-        let call = call_again(rt, office.office(), &entry.call);
+        let call = call_once_more(rt, alloc, office.office(), &entry.call);
         drop(ask(desk, office, call));
     }
 }
@@ -72,6 +97,7 @@ fn go_on<L: Ledger>(
 // The same with all entries. What the desk answers where it catches up behind them, and once more.
 fn go_through<L: Ledger>(
     rt: &impl Abort,
+    alloc: Global,
     desk: &mut Rerouter,
     office: &mut CountedOffice<L>,
     entries: &[Entry],
@@ -80,7 +106,7 @@ fn go_through<L: Ledger>(
     requires kept { KeepsUp desk.old office.old.office }
 {
     'entries: for entry in entries {
-        go_on(rt, desk, office, entry);
+        go_on(rt, alloc, desk, office, entry);
     }
     [desk.catch_up(office), desk.catch_up(office)]
 }
@@ -153,7 +179,7 @@ const ROWS: [Row; 3] = [
         3,
         "\
 1 snapshot = at 0
-1 held truck 1 from 1 to 2 asked none days 2026-03-02 2026-03-06 = issued 1 at 0 route 1
+1 submit truck 1 from 1 to 2 asked none days 2026-03-02 2026-03-06 seen 0 route 1 = issued 1 at 0 route 1
 1 post segment 1 closed 1 = posted 1 recalled 1
 ",
         Err(RerouteRefusal::Full { entries: 3 }),
@@ -168,7 +194,7 @@ fn catches_up<L: Ledger>(rt: &impl Abort, alloc: Global, row: &Row, blank: Blank
     let &(most, lines, answer, handled) = row;
     let (mut office, mut desk) = beside::<L>(rt, alloc, most, blank);
     let entries = entries(rt, alloc, lines);
-    let answers = go_through(rt, &mut desk, &mut office, entries.as_slice());
+    let answers = go_through(rt, alloc, &mut desk, &mut office, entries.as_slice());
     drop(entries);
     has_lines(rt, alloc, office.office(), lines);
     drop(office);

@@ -1,6 +1,6 @@
 //! What no clause says: that turns are taken and the calls return, on threads that run at once.
-ghost use Rattle.std.specs.Prelude.{◌≡◌, ◌<◌, false, Some, All, length};
-ghost use Rattle.office_turn.specs.Told.{Lock, IsReady};
+ghost use Rattle.std.specs.Prelude.{◌≡◌, ◌<◌, Some, All};
+ghost use Rattle.office_turn.specs.Told.{IsReady};
 
 use office_turn::{Notes, Pass, Root, Turn, Worn, note_once};
 use std::alloc::Global;
@@ -137,22 +137,26 @@ fn two_passes_on_two_threads_note_twice_each(rt: HostRuntime) {
     assert!(rt; counts_in_order(&notes) == Some([2, 2]));
 }
 
-#[test]
-fn eight_passes_on_eight_threads_note_200_times_each(rt: HostRuntime) {
-    let (turn, mut root) = start(&rt, rt.alloc(), 1600);
+// Eight passes of a lock with so many turns, each of which notes so often on a thread of its own. Their notes. All turns are taken.
+fn eight_note<R: Abort + Threads + Wait + AllocGlobal + Sync>(
+    rt: &R,
+    most: u32,
+    times: u32,
+) -> Notes {
+    let (turn, mut root) = start(rt, rt.alloc(), most);
     let mut passes = [
-        admit(&rt, &turn, &mut root),
-        admit(&rt, &turn, &mut root),
-        admit(&rt, &turn, &mut root),
-        admit(&rt, &turn, &mut root),
-        admit(&rt, &turn, &mut root),
-        admit(&rt, &turn, &mut root),
-        admit(&rt, &turn, &mut root),
-        admit(&rt, &turn, &mut root),
+        admit(rt, &turn, &mut root),
+        admit(rt, &turn, &mut root),
+        admit(rt, &turn, &mut root),
+        admit(rt, &turn, &mut root),
+        admit(rt, &turn, &mut root),
+        admit(rt, &turn, &mut root),
+        admit(rt, &turn, &mut root),
+        admit(rt, &turn, &mut root),
     ];
-    note_at_once(&rt, &turn, &mut passes, 200);
+    note_at_once(rt, &turn, &mut passes, times);
     let [one, two, three, four, five, six, seven, mut eight] = passes;
-    let more = note(&rt, &turn, &mut eight, 200);
+    let more = note(rt, &turn, &mut eight, times);
     join(&turn, &mut root, one);
     join(&turn, &mut root, two);
     join(&turn, &mut root, three);
@@ -161,8 +165,23 @@ fn eight_passes_on_eight_threads_note_200_times_each(rt: HostRuntime) {
     join(&turn, &mut root, six);
     join(&turn, &mut root, seven);
     join(&turn, &mut root, eight);
-    let notes = close(&rt, turn, root);
-    assert!(rt; more == Err(Worn { turns: 1600 }));
+    let notes = close(rt, turn, root);
+    assert!(rt; more == Err(Worn { turns: most }));
+    notes
+}
+
+#[test]
+fn eight_passes_on_eight_threads_note_200_times_each(rt: HostRuntime) {
+    let notes = eight_note(&rt, 1600, 200);
     assert!(rt; notes.pairs.len() == 1600);
     assert!(rt; counts_in_order(&notes) == Some([200; 8]));
+}
+
+// Eight callers want 200 turns each, and there are five: the lock wears out while more of them sleep than turns are left, and each
+// of them comes back.
+#[test]
+fn callers_come_back_from_a_lock_that_wears_out(rt: HostRuntime) {
+    let notes = eight_note(&rt, 5, 200);
+    assert!(rt; notes.pairs.len() == 5);
+    assert!(rt; counts_in_order::<8>(&notes).is_some());
 }

@@ -25,6 +25,8 @@ mod record_cases;
 #[cfg(test)]
 mod refusal_cases;
 #[cfg(test)]
+mod repeated_days;
+#[cfg(test)]
 mod report_cases;
 #[cfg(test)]
 mod runs;

@@ -7,5 +7,5 @@ use Rattle.office_tests.proofs.reroutes.beside.Goals as goal
 
 pub returns-clause-kept : goal.returns-clause-kept
 returns-clause-kept g c =
-    let none : entries_by 1 c.new.result.office.history ≡ [] = ap (λ (x : Opened). entries_by 1 x.history) c.new.ensures.office ∙ ap (entries_by 1) c.office_about-office.ensures in
-    subst (λ (d : Desk). KeepsUp d c.new.result.office) (sym c.new-2.ensures) (new_keeps 1 c.new.result.office (omega arith) none)
+    let none : entries_by 1 c.counted.result.office.history ≡ [] = ap (λ (x : Opened). entries_by 1 x.history) c.counted.ensures ∙ ap (entries_by 1) c.office_about-office.ensures in
+    subst (λ (d : Desk). KeepsUp d c.counted.result.office) (sym c.new.ensures) (new_keeps 1 c.counted.result.office (omega arith) none)
