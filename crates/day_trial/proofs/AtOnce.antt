@@ -1,5 +1,6 @@
 -- The entries of a command between which nobody else calls.
-use Rattle.std.proofs.Common.{◌≡◌, ◌≢◌, ◌∷◌, ◌++◌, [], List, ℕ, ◌<◌, length, ap, sym, subst, refl, ◌∙◌, append_assoc, arith}
+use Rattle.std.proofs.Common.{◌≡◌, ◌≢◌, ◌∷◌, ◌++◌, [], List, ℕ, ◌<◌, ◌⊎◌, inl, inr, length, ap, sym, subst, refl, ◌∙◌, append_assoc, arith}
+use Rattle.std.proofs.lemmas.List.Elements.{All-cons, All-nil}
 use Rattle.road_graph.specs.Roads.{IsRoads}
 use Rattle.trip_analysis.specs.declared.application.Application.{Application}
 use Rattle.trip_analysis.specs.Bases.{BaseLists}
@@ -15,13 +16,12 @@ use Rattle.office_core.specs.Machine.{IsLegalFrom, Machine}
 use Rattle.office_core.specs.Offices.{Opened, entry, grown}
 use Rattle.office_core.proofs.Prefixes.{legal_front}
 use Rattle.analyst_pool.proofs.Alone.{none_before}
-use Rattle.analyst_pool.specs.Laws.{FirstAttemptsDecide}
-use Rattle.analyst_pool.specs.Unfolds.{Ends, IsCalled, IsFinished, IsStopped, answered, concluded, full, full_between, held, lacks, looked_at, submitted}
+use Rattle.analyst_pool.specs.Laws.{FirstAttemptsDecide, FoundMemory}
+use Rattle.analyst_pool.specs.Unfolds.{Ends, IsCalled, IsFinished, IsLook, IsStopped, answered, concluded, full, full_between, held, lacks, looked_at, submitted}
 use Rattle.reroute_desk.specs.Desks.{Desk, KeepsUp}
 use Rattle.reroute_desk.specs.Laws.{CallsOfOthersKeepUp}
 use Rattle.day_trial.specs.Serving.{grown_by}
 use Rattle.day_trial.specs.Rerouting.{IsAtOnce, attempted, called}
-use Rattle.day_trial.proofs.RerouteLengths.{of_two, shorter}
 
 -- a command that is finished where nobody else calls
 pub at_once : FirstAttemptsDecide → (base : BaseLists) (m : Machine) (caller : ℕ) (c : Command) (es : List Entry) → IsRoads base.roads → IsFinished caller c es → IsLegalFrom base m es → IsAtOnce caller es
@@ -78,14 +78,38 @@ same_day opening caller es at more by c v ns (called d r is) stands =
     alone [] e = let first : entry caller d r ≡ posting = cc in ap (λ (f : Entry). day_by opening f.reply) (sym first)
     alone (x ∷ rest) e = absurd (none rest cc)
 
+-- no entry, or a snapshot alone
+abbrev IsEarly : ℕ → List Entry → Type 0
+IsEarly caller es = (es ≡ []) ⊎ IsLook caller es
+
+-- these are fewer than two, and say nothing of memory
+pub early_short : (caller : ℕ) (es : List Entry) → IsEarly caller es → length es < 2
+early_short caller es (inl none) = omega (arith, ap length none)
+early_short caller es (inr (version, is)) = omega (arith, ap length is)
+
+pub early_found : (caller : ℕ) (es : List Entry) → IsEarly caller es → FoundMemory es
+early_found caller es (inl none) = subst FoundMemory (sym none) (All-nil (λ (e : Entry). e.reply ≢ reply.NoMemory))
+early_found caller es (inr (version, is)) =
+    subst FoundMemory (sym is) (All-cons (λ (e : Entry). e.reply ≢ reply.NoMemory) (looked_at caller version) [] (λ lack. absurd cc) (All-nil (λ (e : Entry). e.reply ≢ reply.NoMemory)))
+
 module _ (caller : ℕ) (most : ℕ) where
   -- an attempt that a full history stopped is no whole one
-  ends_shorter : (a : Application) (k : ℕ) (es : List Entry) → k ≡ 0 → Ends caller a k (reply.Full most) es → length es < 2
-  ends_shorter a k es none (concluded few (answered is settled room)) = absurd cc
-  ends_shorter a k es none (concluded few (lacks is lack)) = absurd cc
-  ends_shorter a k es none (concluded few (full is all)) = omega (arith, ap length is)
-  ends_shorter a k es none (concluded few (full_between (version, is) all)) = omega (arith, ap length is)
-  ends_shorter a k es none (held eight is settled) = absurd (omega (arith, none, eight))
+  ends_early : (a : Application) (k : ℕ) (es : List Entry) → k ≡ 0 → Ends caller a k (reply.Full most) es → IsEarly caller es
+  ends_early a k es none (concluded few (answered is settled room)) = absurd cc
+  ends_early a k es none (concluded few (lacks is lack)) = absurd cc
+  ends_early a k es none (concluded few (full is all)) = inl is
+  ends_early a k es none (concluded few (full_between look all)) = inr look
+  ends_early a k es none (held eight is settled) = absurd (omega (arith, none, eight))
+
+  -- where nobody else calls, a command that a full history stopped made no entry, or a snapshot alone
+  pub stopped_early : (base : BaseLists) (m : Machine) (c : Command) (es : List Entry) → IsRoads base.roads → IsStopped caller c es most → IsLegalFrom base m es → IsEarly caller es
+  stopped_early base m (command.Apply a) es roads h legal =
+      let before = none_before base m caller a h.tries h.front roads h.outdated (legal_front base m h.front h.last (subst (IsLegalFrom base m) h.whole legal)) in
+      subst (IsEarly caller) (sym (h.whole ∙ ap (λ l. l ++ h.last) before.1)) (ends_early a h.tries h.last before.0 h.ends)
+  stopped_early base m (command.Post change) es roads h legal = inl (h.full refl)
+  stopped_early base m (command.Day day) es roads h legal = inl (h.full refl)
+  stopped_early base m (command.Surrender number) es roads h legal = inl (h.full refl)
+  stopped_early base m (command.Show number) es roads h legal = inl (h.full refl)
 
   called_shorter : (c : Call) (r : Reply) (es own : List Entry) → IsCalled caller c (reply.Full most) es → own ≡ entry caller c r ∷ [] → length es < length own
   called_shorter c r es own stopped is = omega (arith, ap length (stopped.full refl), ap length is)
@@ -93,9 +117,8 @@ module _ (caller : ℕ) (most : ℕ) where
   -- where nobody else calls, a command that a full history stopped makes fewer entries than one that is finished
   pub stopped_shorter : FirstAttemptsDecide → (base : BaseLists) (m : Machine) (c : Command) (es own : List Entry) → IsRoads base.roads → IsStopped caller c es most → IsLegalFrom base m es → IsFinished caller c own → IsLegalFrom base m own → length es < length own
   stopped_shorter first base m (command.Apply a) es own roads h legal done whole =
-      let before = none_before base m caller a h.tries h.front roads h.outdated (legal_front base m h.front h.last (subst (IsLegalFrom base m) h.whole legal)) in
       let (r, (version, w, is)) = first base m caller a own roads done whole in
-      shorter (length es) (length (h.front ++ h.last)) (length h.front) (length h.last) (length own) (ends_shorter a h.tries h.last before.0 h.ends) (ap length h.whole) (of_two h.front h.last) (ap length before.1) (ap length is)
+      omega (arith, early_short caller es (stopped_early base m (command.Apply a) es roads h legal), ap length is)
   stopped_shorter first base m (command.Post change) es own roads h legal done whole = called_shorter (call.Post change) done.last es own h (done.unfolds.answered done.room)
   stopped_shorter first base m (command.Day day) es own roads h legal done whole = called_shorter (call.Day day) done.last es own h (done.unfolds.answered done.room)
   stopped_shorter first base m (command.Surrender number) es own roads h legal done whole = called_shorter (call.Surrender number) done.last es own h (done.unfolds.answered done.room)

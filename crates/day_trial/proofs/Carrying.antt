@@ -35,6 +35,14 @@ full_means o n e = by (nat_le o.most (length o.history)) refl e
     by true is e = leb-true o.most (length o.history) is
     by false is e = absurd (cc e)
 
+-- and its number is that of these entries
+full_most : (o : Opened) (n : ℕ) → full_in o ≡ Some n → n ≡ o.most
+full_most o n e = by (nat_le o.most (length o.history)) e
+  where
+    by : (b : Bool) → (if b then Some o.most else None) ≡ Some n → n ≡ o.most
+    by true e = cc
+    by false e = cc
+
 -- what a command leaves of the calls of one seat is what it leaves of the office
 module _ {P : Type 0} where
   same_who : (g : GName) (caller : ℕ) (o next : Opened) → (let w : Calling P = one_seat g caller next in w.who) ≡ (let v : Calling P = one_seat g caller o in v.who)
@@ -56,6 +64,7 @@ module _ {P : Type 0} where
     unfolds = h.unfolds;
     grown = grown_alone g order.actor o next order.command r h;
     full = λ most is. full_means next most (h.full most is);
+    most = λ most is. full_most next most (h.full most is) ∙ (same_who g order.actor o next h.grew.who).2;
   }
 
 -- with a reply, and memory for it, the command is finished

@@ -10,12 +10,12 @@ use Rattle.office_core.specs.Offices.{Opened, machine_in}
 use Rattle.office_core.specs.Replies.{is_full}
 use Rattle.office_core.proofs.Prefixes.{legal_later}
 use Rattle.analyst_pool.specs.Laws.{FinishedFoundMemory, FirstAttemptsDecide}
-use Rattle.analyst_pool.specs.Unfolds.{IsFinished, Unfolds}
+use Rattle.analyst_pool.specs.Unfolds.{IsFinished, IsStopped, Unfolds}
 use Rattle.day_trial.specs.Serving.{WasCarriedOut}
 use Rattle.day_trial.specs.declared.refusal.ServingRefusal.{ServingRefusal}
 use Rattle.day_trial.specs.declared.refusal.ServingRefusal.TheVariants.{TooMany}
-use Rattle.day_trial.specs.Rerouting.{HasFinished, IsLongAlone}
-use Rattle.day_trial.proofs.AtOnce.{at_once, stopped_shorter}
+use Rattle.day_trial.specs.Rerouting.{HasFinished, IsLongAlone, WasStopped}
+use Rattle.day_trial.proofs.AtOnce.{at_once, early_found, stopped_early, stopped_shorter}
 use Rattle.day_trial.proofs.RerouteLengths.{longer_alone, of_two}
 
 module _ (first : FirstAttemptsDecide) (o next : Opened) (order : Order) (r : Reply) (roads : IsRoads o.base.roads) (h : WasCarriedOut o order r next) (legal : IsLegal next.base next.opening next.history) where
@@ -32,6 +32,19 @@ module _ (first : FirstAttemptsDecide) (o next : Opened) (order : Order) (r : Re
         at_once = at_once first o.base (machine_in o) order.actor order.command h.entries roads done own_legal;
         memory = found order.actor (order.command ∷ []) h.entries (h.entries, [], done, refl, sym (append-nil h.entries));
         grown = h.grown;
+      }
+
+  -- where the history is full, the command was stopped
+  pub halts : (n : ℕ) → r ≡ reply.Full n → WasStopped o order next
+  halts n is =
+      let stopped : IsStopped order.actor order.command h.entries o.most =
+      subst (λ (k : ℕ). Unfolds order.actor order.command h.entries (reply.Full k)) (h.most n is) (subst (λ (q : Reply). Unfolds order.actor order.command h.entries q) is h.unfolds) in
+      record {
+        own = h.entries;
+        stopped = stopped;
+        memory = early_found order.actor h.entries (stopped_early order.actor o.most o.base (machine_in o) order.command h.entries roads stopped own_legal);
+        grown = h.grown;
+        full = h.full n is;
       }
 
   -- where the history is full, the command would make more entries

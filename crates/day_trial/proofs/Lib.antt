@@ -8,4 +8,5 @@ pub mod Finishing
 pub mod Renewing
 pub mod RerouteCarrying
 pub mod RerouteOne
+pub mod RerouteFew
 pub mod Served

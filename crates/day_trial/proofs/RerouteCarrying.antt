@@ -1,7 +1,8 @@
 -- One command more, with the applications of the desk for what it recalled.
-use Rattle.std.proofs.Common.{◌≡◌, ◌≢◌, ◌∙◌, ap, sym, refl, subst, ℕ, ◌<◌, List, ◌∷◌, ◌++◌, length, true, false, IfErr, is_some, Ok, Err, Result, append_assoc}
-use Rattle.std.proofs.lemmas.List.{append_cancel_left, length-map, map-append}
+use Rattle.std.proofs.Common.{◌≡◌, ◌≢◌, ◌∙◌, ap, sym, refl, subst, ℕ, ◌<◌, List, [], ◌∷◌, ◌++◌, length, Bool, ◌==◌, ◌||◌, true, false, IfErr, is_some, Ok, Err, Result, append_assoc}
+use Rattle.std.proofs.lemmas.List.{append-nil, append_cancel_left, length-map, map-append}
 use Rattle.std.proofs.lemmas.List.Elements.{All-append, filter-append}
+use Rattle.std.proofs.lemmas.List.Folds.{list_any-append}
 use Rattle.std.proofs.lemmas.List.Sums.{fold-append}
 use Rattle.road_graph.specs.Roads.{IsRoads}
 use Rattle.permit_days.specs.Days.{is_before}
@@ -27,10 +28,10 @@ use Rattle.reroute_desk.specs.Laws.{CallsOfOthersKeepUp}
 use Rattle.reroute_desk.proofs.Keeping.{recalled_more}
 use Rattle.reroute_desk.proofs.Recalling.{issued_stays, recalls_at}
 use Rattle.day_trial.specs.Serving.{grown_by}
-use Rattle.day_trial.specs.Rerouted.{AreRenewed}
+use Rattle.day_trial.specs.Rerouted.{AreRenewed, owing, stopped}
 use Rattle.day_trial.specs.declared.refusal.ServingRefusal.{ServingRefusal}
 use Rattle.day_trial.specs.declared.refusal.ServingRefusal.TheVariants.{TooMany}
-use Rattle.day_trial.specs.Rerouting.{HasFinished, HasReroutedOne, IsAtOnce, IsCaughtUp, IsLongAlone, IsLongWith, serving_refusal}
+use Rattle.day_trial.specs.Rerouting.{HasFinished, HasReroutedOne, IsAtOnce, IsCaughtUp, IsLongAlone, IsLongWith, WasCutShort, WasStopped, serving_refusal}
 use Rattle.day_trial.proofs.AtOnce.{keeps_behind, same_day}
 use Rattle.day_trial.proofs.RerouteLengths.{apart, longer, longer_with, of_three, of_three_behind, of_two}
 use Rattle.day_trial.proofs.Renewing.{answered_all, ask_behind, asked_many, one_trip, renewals_few, renewals_whole, renewed_by, renewed_many}
@@ -63,6 +64,12 @@ module _ (d : Desk) (o : Opened) (es : List Entry) (all : HasHandledAll d o) (ke
       ask_behind o.opening d.caller (renewals d.handled) (renewals gone.items) (answered_by d.caller (o.history ++ es)) (placed_behind (o.history ++ es) gone.own) keeps.asked
       (subst (λ (l : List Handled). AskAgain o.opening d.caller l (answered_by d.caller (o.history ++ es) ++ placed_behind (o.history ++ es) gone.own)) parts
       (subst (λ (l : List Placed). AskAgain o.opening d.caller (renewals next.handled) l) (answered_all d.caller (o.history ++ es) gone.own gone.by_caller (gone.memory enough)) own))
+
+  -- where some numbers are left, they are the last that the command recalled
+  recalled_parts : (left : Numbers) → AreFirst next.handled now.history left → recalled_in es ≡ olds_of gone.items ++ left
+  recalled_parts left first =
+      append_cancel_left (recalled_in o.history) (recalled_in es) (olds_of gone.items ++ left)
+      (sym recalled ∙ (first ∙ (ap (λ l. l ++ left) olds ∙ append_assoc (recalled_in o.history) (olds_of gone.items) left)))
 
   -- where a number is left, more entries would come
   pub long : FinishedAreOne → (order : Order) → IsRoads o.base.roads → IsFinished order.actor order.command es → IsLegal now.base now.opening now.history → IsFull now → (left : ℕ) (rest : Numbers) → AreFirst next.handled now.history (left ∷ rest) → IsLongWith o d.caller order
@@ -104,15 +111,43 @@ module _ (d : Desk) (o : Opened) (es : List Entry) (all : HasHandledAll d o) (ke
             timely.ended ∙ (ap (λ (t : Application). is_before t.last (office_day (grown_by o es))) same
             ∙ (ap (λ (l : Day). is_before p.trip.last l) (sym day) ∙ p.not_expired))
 
-    -- its entries apply again for what the command recalled
+    -- its entries apply again for the first that the command recalled
+    renewed_first : (left : Numbers) → recalled_in es ≡ olds_of gone.items ++ left → AreRenewed o.opening d.caller (o.history ++ es) (olds_of gone.items) gone.own
+    renewed_first left parts =
+        let whole : renewals gone.items ≡ gone.items =
+        renewals_whole now.history (office_day (grown_by o es)) (recalled_in es) not_ended gone.items gone.timely
+        (λ n on. ap (λ (l : Numbers). is_number_among n l) parts ∙ (list_any-append (λ k. k == n) (olds_of gone.items) left ∙ ap (λ (b : Bool). b || is_number_among n left) on)) in
+        renewed_by o.opening d.caller (o.history ++ es) gone.own gone.items
+        (subst (λ (l : List Handled). AskAgain o.opening d.caller l (placed_behind (o.history ++ es) gone.own)) whole asked)
+
+    -- they apply again for all that it recalled
     pub renewed : HasHandledAll next now → AreRenewed o.opening d.caller (o.history ++ es) (recalled_in es) gone.own
     renewed handled =
-        let numbers : olds_of gone.items ≡ recalled_in es = append_cancel_left (recalled_in o.history) (olds_of gone.items) (recalled_in es) (sym olds ∙ (handled ∙ recalled)) in
-        let whole : renewals gone.items ≡ gone.items =
-        renewals_whole now.history (office_day (grown_by o es)) (recalled_in es) not_ended gone.items gone.timely (λ n on. sym (ap (λ (l : Numbers). is_number_among n l) numbers) ∙ on) in
-        subst (λ (ns : Numbers). AreRenewed o.opening d.caller (o.history ++ es) ns gone.own) numbers
-        (renewed_by o.opening d.caller (o.history ++ es) gone.own gone.items
-        (subst (λ (l : List Handled). AskAgain o.opening d.caller l (placed_behind (o.history ++ es) gone.own)) whole asked))
+        let numbers : recalled_in es ≡ olds_of gone.items ++ [] = recalled_parts [] (sym (append-nil (olds_of next.handled) ∙ handled)) in
+        subst (λ (ns : Numbers). AreRenewed o.opening d.caller (o.history ++ es) ns gone.own) (sym (numbers ∙ append-nil (olds_of gone.items)))
+        (renewed_first [] numbers)
+
+    -- where one of them is left, what was to come behind the command was cut short
+    pub cut_behind : (order : Order) → IsFinished order.actor order.command es → FoundMemory es → IsFull now → (old : ℕ) (rest : Numbers) → AreFirst next.handled now.history (old ∷ rest) → WasCutShort o d.caller order now
+    cut_behind order done memory full old rest first =
+        let parts = recalled_parts (old ∷ rest) first in
+        record {
+          last = es ++ gone.own;
+          cut = owing (record {
+            own = es;
+            renewals = gone.own;
+            again = olds_of gone.items;
+            next = old;
+            left = rest;
+            finished = done;
+            recalled = parts;
+            renewed = renewed_first (old ∷ rest) parts;
+            whole = refl;
+          });
+          memory = All-append (λ (e : Entry). e.reply ≢ reply.NoMemory) es gone.own memory (gone.memory enough);
+          grown = gone.grown ∙ ap (λ (l : History). record o { history = l }) (append_assoc o.history es gone.own);
+          full = full;
+        }
 
     pub one_more : (order : Order) → order.actor ≡ caller → IsFinished order.actor order.command es → FoundMemory es → HasHandledAll next now → HasReroutedOne o d.caller order now
     one_more order is done memory handled = record {
@@ -130,6 +165,10 @@ long_with o caller order long own behind done renewed whole =
     let legal = legal_front o.base (machine_in o) own behind (legal_later o.base (opened o.opening) o.history (own ++ behind) whole) in
     longer o.most (length o.history) (length own) (length behind) (length (o.history ++ own)) (length (o.history ++ (own ++ behind))) (long own done legal) (of_two o.history own) (of_three_behind o.history own behind)
 
+-- a command that was stopped was cut short
+pub cut_alone : (o next : Opened) (caller : ℕ) (order : Order) → WasStopped o order next → WasCutShort o caller order next
+cut_alone o next caller order h = record { last = h.own; cut = stopped h.stopped; memory = h.memory; grown = h.grown; full = h.full }
+
 -- the refusal of a day, by what its desk answers
 abbrev pub served_as : Result (Unit {0}) RerouteRefusal → Result (Unit {0}) ServingRefusal
 served_as (Ok done) = Ok done
@@ -146,6 +185,12 @@ module _ (one : FinishedAreOne) (d : Desk) (o mid : Opened) (order : Order) (roa
     refused_with legal (Err (refusal.Full n)) gone (entries, full, (left, is_left)) = λ _.
         long d o f.own caught.all kept (Err (refusal.Full n)) next now (subst (λ (m : Opened). HasGoneOn d m (Err (refusal.Full n)) next now) f.grown gone) refl one order roads f.finished legal full left is_left.next.0 is_left.next.1
     refused_with legal (Err refusal.NoMemory) gone cause = λ is. absurd cc
+
+    pub cut_with : KeepsPromises now.base now.opening now.history → (r : Result (Unit {0}) RerouteRefusal) → HasGoneOn d mid r next now → IfErr r (λ q. IsRerouteCause next now q) → IfErr (served_as r) (λ q. q ≡ TooMany → WasCutShort o d.caller order now)
+    cut_with promises (Ok done) gone cause = tt
+    cut_with promises (Err (refusal.Full n)) gone (entries, full, (left, is_left)) = λ _.
+        cut_behind d o f.own caught.all kept (Err (refusal.Full n)) next now (subst (λ (m : Opened). HasGoneOn d m (Err (refusal.Full n)) next now) f.grown gone) refl promises order.actor f.at_once order f.finished f.memory full left is_left.next.0 is_left.next.1
+    cut_with promises (Err refusal.NoMemory) gone cause = λ is. absurd cc
 
     pub carried : KeepsPromises now.base now.opening now.history → HasGoneOn d mid (Ok tt) next now → HasHandledAll next now → HasReroutedOne o d.caller order now
     carried promises gone handled =

@@ -19,8 +19,8 @@ use Rattle.reroute_desk.specs.Issues.{recalled_in}
 use Rattle.analyst_pool.specs.Laws.{FinishedAreOne, FoundMemory}
 use Rattle.analyst_pool.specs.Unfolds.{IsFinished}
 use Rattle.day_trial.specs.Serving.{grown_by}
-use Rattle.day_trial.specs.Rerouted.{AreRenewed, CarriesOutAgain, CarriesOutFirstAgain, IsRenewed, ReroutedHistoriesAreOne}
-use Rattle.day_trial.specs.Rerouting.{AreLong, HasRerouted, HasReroutedOne, IsLongWith}
+use Rattle.day_trial.specs.Rerouted.{AreRenewed, CarriesOutAgain, CarriesOutFirstAgain, IsCutShort, IsRenewed, ReroutedHistoriesAreOne}
+use Rattle.day_trial.specs.Rerouting.{AreLong, HasRerouted, HasReroutedOne, HasStopped, IsLongWith, WasCutShort}
 use Rattle.day_trial.proofs.RerouteLengths.{longer_still, of_two}
 
 abbrev Answered : Entry → Type 0
@@ -152,6 +152,27 @@ served_more o now next caller orders order h more =
           (carries_more o.opening caller [] orders order now.history more.own more.renewals h.commands more.finished
           (subst (λ (d : Day). AreRenewed d caller (now.history ++ more.own) (recalled_in more.own) more.renewals) (ap (λ (n : Opened). n.opening) h.same) more.renewed));
       memory = subst FoundMemory (sym longer) (All-append Answered now.history (more.own ++ more.renewals) h.memory more.memory);
+    }
+
+-- the commands so far, and one that was cut short
+pub stopped_more : (o now next : Opened) (caller : ℕ) (orders : List Order) (order : Order) (more : List Order) → HasRerouted o now caller orders → WasCutShort now caller order next → HasStopped o next caller (orders ++ order ∷ more)
+stopped_more o now next caller orders order more h cut =
+    let longer : next.history ≡ now.history ++ cut.last = ap (λ (n : Opened). n.history) cut.grown in
+    record {
+      same = cut.grown ∙ (ap (λ (n : Opened). grown_by n cut.last) h.same ∙ ap (λ (l : History). record o { history = l }) (sym longer));
+      commands = record {
+        done = orders;
+        next = order;
+        left = more;
+        orders_are = refl;
+        ahead = now.history;
+        last = cut.last;
+        carried = h.commands;
+        cut = subst (λ (x : Opened). IsCutShort x.opening caller x.most now.history order cut.last) h.same cut.cut;
+        whole = longer;
+      };
+      memory = subst FoundMemory (sym longer) (All-append Answered now.history cut.last h.memory cut.memory);
+      full = cut.full;
     }
 
 -- where a command makes the history too long, it is so of all commands

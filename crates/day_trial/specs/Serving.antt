@@ -18,12 +18,13 @@ FollowsOffice o f = FollowsAt o.base (stored_in_office o) f
 abbrev pub grown_by : Opened → List Entry → Opened
 grown_by o es = record o { history = o.history ++ es }
 
--- a command was carried out, with this reply, which says that the history is full only where it is
+-- a command was carried out, with this reply, which says that the history is full only where it is, and with how many entries
 pub record WasCarriedOut (o : Opened) (order : Order) (r : Reply) (next : Opened) : Type 0 where
   pub entries : List Entry
   pub unfolds : Unfolds order.actor order.command entries r
   pub grown : next ≡ grown_by o entries
   pub full : (most : ℕ) → r ≡ reply.Full most → IsFull next
+  pub most : (most : ℕ) → r ≡ reply.Full most → most ≡ o.most
 
 -- one command more is finished, with few entries
 pub record HasCarriedOut (o : Opened) (order : Order) (next : Opened) : Type 0 where

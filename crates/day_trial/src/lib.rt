@@ -4,7 +4,8 @@
 //! To the crate above it promises that the history of the office is a legal one in which the entries of each command follow
 //! those of the command before it, each made by its own actor; where the desk applies again, its entries stand between these.
 //! A day file has one history of each kind; one command adds its own entries and no others; and a day is refused for its length
-//! only where the history with the desk has more entries than an office may have.
+//! only where a history with the desk has as many entries as an office may have before all is done, and each in which all is done
+//! has more.
 #![tactic(auto)]
 
 mod blanks;
@@ -15,7 +16,9 @@ mod rerouting;
 mod serving;
 
 pub use blanks::Blanks;
-pub use laws::{rerouted_histories_are_one, serial_histories_are_one};
+pub use laws::{
+    rerouted_histories_are_one, rerouted_histories_are_short, serial_histories_are_one,
+};
 pub use lone::LoneOffice;
 pub use refusal::ServingRefusal;
 pub use rerouting::serve_rerouted;

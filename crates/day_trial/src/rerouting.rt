@@ -10,7 +10,7 @@ ghost use Rattle.reroute_desk.specs.Desks.{HasGoneOn, HasHandledAll, IsRerouteCa
 ghost use Rattle.day_trial.specs.Blanks.{AreBlanks};
 ghost use Rattle.day_trial.specs.declared.refusal.ServingRefusal.TheVariants.{TooMany};
 ghost use Rattle.day_trial.specs.Rerouted.{IsRerouted};
-ghost use Rattle.day_trial.specs.Rerouting.{AreLong, HasFinished, HasRerouted, HasReroutedOne, IsCaughtUp, IsLongAlone, IsLongWith, IsServingCause};
+ghost use Rattle.day_trial.specs.Rerouting.{AreLong, HasFinished, HasRerouted, HasReroutedOne, HasStopped, IsCaughtUp, IsLongAlone, IsLongWith, IsServingCause, WasCutShort, WasStopped, room_for};
 
 use crate::blanks::Blanks;
 use crate::lone::LoneOffice;
@@ -33,12 +33,16 @@ const MOST_ENTRIES: u32 = 1000000;
 ///
 /// Its history is legal and keeps every promise. All its entries are those of these commands and of these applications.
 ///
-/// Refusals: `TooMany` only where every such history has more than 1,000,000 entries, and `NoMemory`, also where a reply says
-/// so.
+/// It has room for n times n and 2 times n entries, where n commands are carried out, at least 1 and at most 1,000,000. By
+/// `rerouted_histories_are_short` they make no more.
+///
+/// Refusals: `TooMany` only where such a history has 1,000,000 entries before all is done, and each one in which all is done
+/// has more; and `NoMemory`, also where a reply says so.
 pub fn serve_rerouted(alloc: Global, file: DayFile) -> Result<Office, ServingRefusal>
     requires { IsDayFile file }
     ensures served { IfOk result (λ office. IsRerouted file office.history) }
     ensures short { IfOk result (λ office. length office.history ≤ 1000000) }
+    ensures room { IfOk result (λ office. office.most ≡ room_for (length file.commands)) }
     ensures refused { IfErr result (λ refusal. IsServingCause file refusal) }
     ensures roads { OnOk result (IsRoads file.base.roads) }
     ensures long_roads { IfErr result (λ refusal. refusal ≡ TooMany → IsRoads file.base.roads) }
@@ -57,19 +61,23 @@ fn serve_counted<F: Ledger, O: Ledger>(
     requires file { IsDayFile file }
     ensures served { IfOk result (λ office. IsRerouted file office.history) }
     ensures short { IfOk result (λ office. length office.history ≤ 1000000) }
+    ensures room { IfOk result (λ office. office.most ≡ room_for (length file.commands)) }
     ensures refused { IfErr result (λ refusal. IsServingCause file refusal) }
     ensures roads { OnOk result (IsRoads file.base.roads) }
     ensures long_roads { IfErr result (λ refusal. refusal ≡ TooMany → IsRoads file.base.roads) }
 {
     // the number that no actor has
     let caller = file.actors().len() as u32;
-    let (mut lone, orders) = LoneOffice::<F, O>::open(alloc, file, MOST_ENTRIES, blanks)?;
+    let most = room_for(file.commands());
+    // where nobody else calls, commands make few entries: no room that is smaller than the greatest is ever filled
+    runs_are_one();
+    let (mut lone, orders) = LoneOffice::<F, O>::open(alloc, file, most, blanks)?;
     let carried = carry_out_all(alloc, &mut lone, caller, orders.as_slice());
     drop(orders);
     let office = lone.into_office();
-    carried?;
     // an office tells that its history is legal and keeps its promises
     let _history = office.history();
+    carried?;
     Ok(office)
 }
 
@@ -87,6 +95,7 @@ fn carry_out_all<F: Ledger, O: Ledger>(
     requires few { length orders.now ≤ 4096 }
     requires new { lone.old.history ≡ [] }
     ensures served { OnOk result (HasRerouted lone.old lone.new caller orders.now) }
+    ensures stopped { IfErr result (λ refusal. refusal ≡ TooMany → HasStopped lone.old lone.new caller orders.now) }
     ensures refused { IfErr result (λ refusal. refusal ≡ TooMany
         → AreLong lone.old.base lone.old.opening lone.old.most caller orders.now) }
 {
@@ -119,6 +128,7 @@ fn carry_out_one<F: Ledger, O: Ledger>(
     ensures carried { OnOk result (HasReroutedOne lone.old desk.old.caller order.now lone.new) }
     ensures caught_up { OnOk result (IsCaughtUp desk.new lone.new) }
     ensures caller { OnOk result (desk.new.caller ≡ desk.old.caller) }
+    ensures stopped { IfErr result (λ refusal. refusal ≡ TooMany → WasCutShort lone.old desk.old.caller order.now lone.new) }
     ensures refused { IfErr result (λ refusal. refusal ≡ TooMany → IsLongWith lone.old desk.old.caller order.now) }
 {
     // the entries of a command are determined, and the desk keeps up with the office after each entry of others
@@ -155,6 +165,7 @@ fn finish<F: Ledger, O: Ledger>(
     requires sound { MayCarryOut lone.old.base order.now.command }
     requires caller { order.now.actor < 65536 }
     ensures finished { OnOk result (HasFinished lone.old order.now lone.new) }
+    ensures stopped { IfErr result (λ refusal. refusal ≡ TooMany → WasStopped lone.old order.now lone.new) }
     ensures refused { IfErr result (λ refusal. refusal ≡ TooMany → IsLongAlone lone.old order.now) }
 {
     // where nobody else calls, a command is finished at once; and finished commands found memory
@@ -164,6 +175,17 @@ fn finish<F: Ledger, O: Ledger>(
     // what the office promises of its history
     let _history = lone.office().history();
     finished(&reply)
+}
+
+// The room of an office for all that these commands make: at least one place, and no more than an office may have.
+fn room_for<T>(commands: &[T]) -> u32
+    requires { length commands.now ≤ 4096 }
+    ensures value { result ≡ room_for (length commands.now) }
+    ensures some { 1 ≤ result }
+    ensures bounded { result ≤ 1000000 }
+{
+    let count = commands.len() as u32;
+    (count * count + 2 * count).min(MOST_ENTRIES).max(1)
 }
 
 // That the command which this reply answers is finished, or why no later one is carried out.

@@ -18,7 +18,7 @@ use Rattle.permit_program.specs.declared.refusal.Refusal.TheVariants as refusal
 
 -- no day is too long that has room for its entries
 not_both : (f : DayParts) → HasRoomFor f → IsTooLong f → ⊥
-not_both f room long = omega (arith, room.short, long room.history room.rerouted)
+not_both f room long = omega (arith, room.short, long.each room.history room.rerouted)
 
 day_once : (f : DayParts) (a b : Option Answer) → JudgesDay f a → JudgesDay f b → a ≡ b
 day_once f a b (inl (room, is)) (inl (also, too)) = sym is ∙ too

@@ -9,3 +9,4 @@ pub mod Handling
 pub mod Left
 pub mod Once
 pub mod Trucks
+pub mod Fewer

@@ -67,7 +67,7 @@ once_both (x ∷ xs) ys one two apart = (
     here x xs = ap (λ (b : Bool). b || is_number_among x xs) (eq-eqb x x refl)
 
 -- a front of such a list
-once_front : (xs ys : List ℕ) → StandOnce (xs ++ ys) → StandOnce xs
+pub once_front : (xs ys : List ℕ) → StandOnce (xs ++ ys) → StandOnce xs
 once_front [] ys all = tt
 once_front (x ∷ xs) ys all = (not_in x xs (λ on. both (in_left x xs ys on) all.0), once_front xs ys all.1)
 
@@ -81,7 +81,7 @@ once_rising (n ∷ ns) up = (
 
 module _ (base : BaseLists) (day : Day) (es : History) (keeps : KeepsPromises base day es) where
   -- what some last entries recall
-  recalled_once : (front rest : History) → es ≡ front ++ rest → StandOnce (recalled_in rest)
+  pub recalled_once : (front rest : History) → es ≡ front ++ rest → StandOnce (recalled_in rest)
   recalled_once front [] is = tt
   recalled_once front (e ∷ rest) is =
       once_both (recalled_numbers e.reply) (recalled_in rest) (by e.reply refl)
