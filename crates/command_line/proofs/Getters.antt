@@ -14,7 +14,7 @@ use Rattle.clap.specs.declared.parser.matches.Found.{Found}
 use Rattle.clap.specs.declared.builder.value_parser.Reading.{Reading}
 use Rattle.clap.proofs.CallerReads.{signed_reads}
 use Rattle.clap.proofs.WalkLemmas.{find_row}
-use Rattle.command_line.specs.Asking.{HasNumberIn, IsInRange, number_at, task_at, task_named}
+use Rattle.command_line.specs.Asking.{HasNumberIn, IsInRange, number_at}
 use Rattle.command_line.specs.Office.{NumberOption}
 
 first_text : (how : Reading) (vs : List (Bor (List ℕ))) → option_map (λ s. read_as how s.now) (slice_get vs 0) ≡ option_map (read_as how) (slice_get (map (λ s. s.now) vs) 0)
@@ -39,10 +39,10 @@ first_value-rows f id = by (find (λ e. bytes_eq e.0.now id) f.entries.items) �
     by None = refl
     by (Some e) = first_word e.1.vals.items
 
--- the getter of a text gives the task
-pub task_of_text : (f : Found) (o : Option (Bor (List ℕ))) → option_map (λ s. s.now) o ≡ first_value f (codes "COMMAND")
-    → option_and_then task_named (option_map (λ s. s.now) o) ≡ task_at (rows_of f)
-task_of_text f o h = ap (option_and_then task_named) (h ∙ first_value-rows f (codes "COMMAND"))
+-- the getter of a text gives what the text at COMMAND names
+pub named_by_text : {A : Type 0} (named : List ℕ → Option A) (f : Found) (o : Option (Bor (List ℕ))) → option_map (λ s. s.now) o ≡ first_value f (codes "COMMAND")
+    → option_and_then named (option_map (λ s. s.now) o) ≡ option_and_then named (first_of (codes "COMMAND") (rows_of f))
+named_by_text named f o h = ap (option_and_then named) (h ∙ first_value-rows f (codes "COMMAND"))
 
 -- what the getter of a `u32` reads of a text
 abbrev Gives : List ℕ → Result ℕ ParseIntError → Type 0

@@ -44,15 +44,15 @@ abbrev pub asked_in : List Row → Option Asked
 asked_in rows =
     option_and_then (λ task. option_map (λ options. record { task = task; options = options }) (options_in rows)) (task_at rows)
 
--- the same, where no kind of error stands in the way
-abbrev pub asked_unless : Kinds → List Row → Option Asked
-asked_unless [] rows = asked_in rows
-asked_unless (kind ∷ kinds) rows = None
+-- what is asked for, where no kind of error stands in the way
+abbrev pub where_taken : {A : Type 0} → Kinds → Option A → Option A
+where_taken [] asked = asked
+where_taken (kind ∷ kinds) asked = None
 
 -- what the words ask for: nothing where the command line refuses them for another cause than memory, and else what stands in
 -- their matches
 unfoldable pub asked_of : List (List ℕ) → Option Asked
-asked_of words = asked_unless (fault_of office words) (matches_of office words)
+asked_of words = where_taken (fault_of office words) (asked_in (matches_of office words))
 
 -- the command line takes the words, and COMMAND is the word of a task
 unfoldable pub AreAccepted : List (List ℕ) → Type 0

@@ -1,3 +1,4 @@
 pub mod Office
 pub mod Asking
+pub mod Clerk
 pub mod Laws

@@ -40,13 +40,13 @@ trucks_option = record { name = codes "trucks"; default = codes "2"; least = 2; 
 abbrev pub gap_option : NumberOption
 gap_option = record { name = codes "gap"; default = codes "360"; least = 1; most = 3000 }
 
--- a command whose words begin after the program's name
-abbrev pub bare : App
-bare = record (new_app (codes "permit_cli")) { top = record ((new_app (codes "permit_cli")).top) { no_binary_name = true } }
+-- a program's command whose words begin after its name
+abbrev pub bare : List ℕ → App
+bare name = record (new_app name) { top = record ((new_app name).top) { no_binary_name = true } }
 
 -- the command line with the options of made day files alone
 abbrev pub made_office : App
-made_office = with_rule (with_rule (with_rule bare word_rule) (number_rule seed_option)) (number_rule size_option)
+made_office = with_rule (with_rule (with_rule (bare (codes "permit_cli")) word_rule) (number_rule seed_option)) (number_rule size_option)
 
 -- the office's command line
 abbrev pub office : App

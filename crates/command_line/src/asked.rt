@@ -23,6 +23,13 @@ pub enum Task {
     Reroute,
 }
 
+/// What the clerk can be asked for.
+#[derive(Clone, Copy, Debug, PartialEq, Eq)]
+pub enum ClerkTask {
+    /// A journal is certified as that of the whole of its day.
+    Certify,
+}
+
 /// The numbers of the options. All are read with every task.
 #[derive(Clone, Copy, Debug, PartialEq, Eq)]
 pub struct Options {

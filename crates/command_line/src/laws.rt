@@ -1,5 +1,6 @@
 // What short command lines ask for.
 
+ghost use Rattle.command_line.specs.Clerk.{ClerkWordsAsk};
 ghost use Rattle.command_line.specs.Laws.{EachWordAsks, NoWordsAndHelpAskForNothing, WhatAsksIsAccepted};
 
 /// Each word of a task alone asks for it, with seed 1, size 1, two trucks and a gap of 360 inches.
@@ -15,4 +16,9 @@ pub fn no_words_and_help_ask_for_nothing()
 /// Words that ask for something are taken by the command line, and COMMAND is the word of a task.
 pub fn what_asks_is_accepted()
     ensures { WhatAsksIsAccepted }
+{}
+
+/// The word of the clerk's task alone asks for it. No words ask for nothing, and so does `--help` alone.
+pub fn clerk_words_ask()
+    ensures { ClerkWordsAsk }
 {}

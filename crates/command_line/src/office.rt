@@ -2,7 +2,7 @@
 
 ghost use Rattle.std.specs.Prelude.{◌≡◌, false, IfOk};
 ghost use Rattle.clap.specs.Words.{app_of, rule_of};
-ghost use Rattle.command_line.specs.Office.{made_office, number_rule, office};
+ghost use Rattle.command_line.specs.Office.{made_office, number_rule, office, word_rule};
 
 use clap::{Arg, ArgAction, Command};
 use std::alloc::{AllocError, Global};
@@ -30,6 +30,16 @@ fn number_option<'a>(
         .value_parser(clap::value_parser!(u32).range(i64::from(least)..=i64::from(most)))
 }
 
+/// The positional argument COMMAND, which takes any word.
+pub(crate) fn command_word<'a>(alloc: Global) -> Arg<'a>
+    ensures rule { rule_of result ≡ word_rule }
+    ensures local { result.global ≡ false }
+{
+    Arg::new(alloc, "COMMAND")
+        .required(true)
+        .action(ArgAction::Set)
+}
+
 /// The office's command line.
 pub(crate) fn office<'a>(alloc: Global) -> Result<Command<'a>, AllocError>
     ensures { IfOk result (λ c. app_of c ≡ office) }
@@ -43,14 +53,11 @@ pub(crate) fn office<'a>(alloc: Global) -> Result<Command<'a>, AllocError>
 fn made_office<'a>(alloc: Global) -> Result<Command<'a>, AllocError>
     ensures { IfOk result (λ c. app_of c ≡ made_office) }
 {
-    let word = Arg::new(alloc, "COMMAND")
-        .required(true)
-        .action(ArgAction::Set);
     let seed = number_option(alloc, "seed", "1", 0, 65_535);
     let size = number_option(alloc, "size", "1", 1, 40);
     Command::new(alloc, "permit_cli")
         .no_binary_name(true)
-        .arg(word)?
+        .arg(command_word(alloc))?
         .arg(seed)?
         .arg(size)
 }

@@ -5,6 +5,7 @@ pub mod Commanded
 pub mod Asking
 pub mod EveryDay
 pub mod Counts
+pub mod CommandRows
 pub mod Dealt
 pub mod Dealing
 pub mod Rows

@@ -7,6 +7,8 @@ pub mod Fleets
 pub mod Kinds
 pub mod Commands
 pub mod Days
+pub mod CommandRows
+pub mod CommandSearch
 pub mod Bounds
 pub mod Laws
 pub mod Scripts

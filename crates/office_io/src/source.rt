@@ -45,7 +45,6 @@ pub fn read_all<S: Source>(
     source: &mut S,
     limit: u32,
 ) -> Result<Vec<u8>, ReadRefusal>
-    requires { limit ≤ 4194304 }
     ensures all { IfOk result (λ bytes. Consumes (S.left source.old) (S.left source.new) bytes.items) }
     ensures end { OnOk result (IsAtEnd (S.left source.new)) }
     ensures short { IfOk result (λ bytes. length bytes.items ≤ limit) }

@@ -2,28 +2,25 @@
 //! output, and tells standard error of each permit that a day recalled.
 #![tactic(auto)]
 
-ghost use Rattle.std.specs.Prelude.{◌≡◌, ◌<◌, IfOk, drop, map};
+ghost use Rattle.std.specs.Prelude.{◌≡◌, map};
 ghost use Rattle.std.specs.String.{string_bytes};
-ghost use Rattle.std.specs.Vec.Iter.{into_iter_items};
 ghost use Rattle.notice_desk.specs.Standings.{AreNew};
 ghost use Rattle.command_line.specs.Asking.{asked_of};
-ghost use Rattle.permit_program.specs.Runs.{IsRun, desk_at, outside_of};
+ghost use Rattle.permit_program.specs.Runs.{IsRun, desk_at, outside_of, permit_cli};
 ghost use Rattle.permit_program.specs.Counters.{IsBlankOf};
 
 use analyst_pool::OpenGate;
 use notice_desk::{Notice, Subscribers};
 use office_io::{Sink, Source, StdSink, StdSource};
-use permit_program::{Ended, LineNotice, add_listener, refuse_words, run};
-use std::alloc::{AllocFailed, Global};
-use std::io::ErrorKind;
+use permit_program::{
+    Ended, LineNotice, WordsFault, add_listener, refuse_words, run, words_behind,
+};
+use std::env;
 use std::marker::Brand;
 use std::process::ExitCode;
 use std::sync::Wait;
 use std::sync::ledger::{Blank, Ledger};
 use std::thread::Threads;
-use std::vec::IntoIter;
-use std::{env, io};
-use thiserror::Error;
 
 // Hands the words and the standard streams in, and the status out. A word that is no text is none that the program knows.
 // Standard error is told of all recalls.
@@ -35,7 +32,7 @@ fn main(rt: HostRuntime) -> ExitCode {
         Ok(notice) => add_listener(&mut notices, notice),
         Err(_) => false,
     };
-    let status = match words_of(&rt) {
+    let status = match words_behind(rt.alloc(), env::args(&rt)) {
         Ok(words) if is_added => run_counted::<Brand, _, _>(
             &rt,
             words.as_slice(),
@@ -65,54 +62,8 @@ fn run_counted<L: Ledger + Send + Sync, S: Source, K: Sink>(
     ensures run { let outside = outside_of ⟦<S as Source>⟧ ⟦<K as Sink>⟧ in
         let desk = desk_at ⟦<dyn Notice as Notice>⟧ in
         let asked = asked_of (map string_bytes words.now) in
-        IsRun asked (outside source.old sink.old (desk notices.old)) (outside source.new sink.new (desk notices.new)) result }
+        IsRun permit_cli asked (outside source.old sink.old (desk notices.old)) (outside source.new sink.new (desk notices.new)) result }
 {
     let ended: Ended<L> = run(rt, words, source, sink, notices, &OpenGate, blank);
     ended.status
-}
-
-// Why there are no words.
-#[derive(Clone, Copy, Debug, Drop, PartialEq, Eq, Error)]
-enum WordsFault {
-    #[error("a word is no text")]
-    NotText,
-    #[error("out of memory")]
-    NoMemory,
-}
-
-// The words come as text, all of them, or the kit tells of which kind its error is.
-impl From<io::Error> for WordsFault {
-    fn from(error: io::Error) -> WordsFault {
-        match error.kind() {
-            ErrorKind::InvalidData => WordsFault::NotText,
-            _ => WordsFault::NoMemory,
-        }
-    }
-}
-
-impl From<AllocFailed<String>> for WordsFault {
-    fn from(_e: AllocFailed<String>) -> WordsFault {
-        WordsFault::NoMemory
-    }
-}
-
-// The words of the command line, without the program's name.
-fn words_of(rt: &HostRuntime) -> Result<Vec<String>, WordsFault> {
-    Ok(behind_the_first(rt.alloc(), env::args(rt)?)?)
-}
-
-// All of these words but the first.
-fn behind_the_first(
-    alloc: Global,
-    words: IntoIter<String>,
-) -> Result<Vec<String>, AllocFailed<String>>
-    ensures { IfOk result (λ behind. behind.items ≡ drop 1 (into_iter_items words)) }
-{
-    let mut words = words;
-    drop(words.next());
-    let mut behind = Vec::new(alloc);
-    'rest: while let Some(word) = words.next() {
-        behind.push(word)?;
-    }
-    Ok(behind)
 }

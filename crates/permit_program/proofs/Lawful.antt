@@ -34,12 +34,16 @@ use Rattle.permit_program.proofs.Reroutes.{reroutes_once}
 abbrev pub IsRefusalStatus : ℕ → Type 0
 IsRefusalStatus status = (status ≡ 5) ⊎ (status ≡ 6) ⊎ (status ≡ 9) ⊎ (status ≡ 10)
 
-cause_status : (cause : Cause) → IsRefusalStatus (refusal_status_of cause)
+-- so ends each refusal of a command
+abbrev pub RefusesNamed : Command → Type 0
+RefusesNamed command = (bytes : List ℕ) (answer : Answer) → command.Judges bytes (Some answer) → IsRefusalStatus answer.status
+
+pub cause_status : (cause : Cause) → IsRefusalStatus (refusal_status_of cause)
 cause_status (why.Bad cause) = inl refl
 cause_status (why.TooMany kind) = inr (inl refl)
 
 -- the answer is one of such a status
-answers : (told wanted : Answer) → Some told ≡ Some wanted → IsRefusalStatus told.status → IsRefusalStatus wanted.status
+pub answers : (told wanted : Answer) → Some told ≡ Some wanted → IsRefusalStatus told.status → IsRefusalStatus wanted.status
 answers told wanted is status = subst (λ (o : Option Answer). IsRefusalStatus (status_called_for o)) is status
 
 file_status : {T : Type 0} (told : Result T (ℕ × Cause)) (answer : Answer) → refusal_in told ≡ Some answer → IsRefusalStatus answer.status
@@ -55,7 +59,7 @@ convoy_status : (trucks gap : ℕ) (told : Result CheckFile (ℕ × Cause)) (ans
 convoy_status trucks gap (Ok file) answer is = limit_status (first_refusal (convoy_of file.truck.load.train trucks gap)) answer is
 convoy_status trucks gap (Err refused) answer is = file_status {T = CheckFile} (Err refused) answer is
 
-verdict_status : (verdict : Verdict) (answer : Answer) → answer_to_verdict verdict ≡ Some answer → IsRefusalStatus answer.status
+pub verdict_status : (verdict : Verdict) (answer : Answer) → answer_to_verdict verdict ≡ Some answer → IsRefusalStatus answer.status
 verdict_status Legal answer is = absurd cc
 verdict_status (Bad n) answer is = answers (answer_to_entry n) answer is (inr (inr (inl refl)))
 
@@ -78,7 +82,7 @@ TellsNobody command = (bytes text : List ℕ) (output : command.IsOutput bytes t
 
 -- the command of a task: each of its refusals has one of these statuses, it judges bytes in one way, and only a day tells of recalls
 pub record IsLawful (t : Task) (command : Command) : Type 0 where
-  pub statuses : (bytes : List ℕ) (answer : Answer) → command.Judges bytes (Some answer) → IsRefusalStatus answer.status
+  pub statuses : RefusesNamed command
   pub once : (bytes : List ℕ) (a b : Option Answer) → command.Judges bytes a → command.Judges bytes b → a ≡ b
   pub tells : (t ≡ task.Day) ⊎ TellsNobody command
 

@@ -5,17 +5,17 @@ use Rattle.std.specs.Io.KnownBytes.{Appends}
 use Rattle.office_io.specs.Causes.{Rose}
 use Rattle.office_io.specs.declared.source.ReadRefusal.{ReadRefusal}
 use Rattle.office_io.specs.declared.source.ReadRefusal.TheVariants as unread
-use Rattle.permit_program.specs.Runs.{SinkAt, SinkFailed, SourceAt, WroteLine, bytes_line, most_bytes}
+use Rattle.permit_program.specs.Runs.{SinkAt, SinkFailed, SourceAt, WroteLine, bytes_line}
 use Rattle.permit_program.specs.declared.refusal.Refusal.{Refusal}
 use Rattle.permit_program.specs.declared.refusal.Refusal.TheVariants.{NoMemory, Refused}
 
--- why the source gave no bytes, or not all of them: it failed and was right to say so, or had more than are read, or memory was
+-- why the source gave no bytes, or not all of them: it failed and was right to say so, or had more than are read at the most, or memory was
 -- wanting, while it did not fail
-abbrev pub WasUnread : {S : Type 0} → Bool → SourceAt S → SourceAt S → ReadRefusal → Type 0
-WasUnread reads before after unread.ReadFault = Rose before.faults after.faults
-WasUnread reads before after unread.TooLong =
-    (reads ≡ true) × (after.faults ≡ before.faults) × IfSome before.left (λ bytes. most_bytes < length bytes)
-WasUnread reads before after unread.NoMemory = after.faults ≡ before.faults
+abbrev pub WasUnread : {S : Type 0} → Bool → ℕ → SourceAt S → SourceAt S → ReadRefusal → Type 0
+WasUnread reads most before after unread.ReadFault = Rose before.faults after.faults
+WasUnread reads most before after unread.TooLong =
+    (reads ≡ true) × (after.faults ≡ before.faults) × IfSome before.left (λ bytes. most < length bytes)
+WasUnread reads most before after unread.NoMemory = after.faults ≡ before.faults
 
 -- how a run ends whose bytes were not all read
 abbrev pub AnswersUnread : {K : Type 0} → ReadRefusal → SinkAt K → SinkAt K → ℕ → Type 0

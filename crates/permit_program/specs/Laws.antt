@@ -12,7 +12,7 @@ use Rattle.permit_program.specs.Headline.{Headline}
 use Rattle.permit_program.specs.Command.{Answer}
 use Rattle.permit_program.specs.Commands.{command_of}
 use Rattle.permit_program.specs.Day.{HasFewActors}
-use Rattle.permit_program.specs.Runs.{AsksForDay, DeskAt, IsRun, Outside, TookAll}
+use Rattle.permit_program.specs.Runs.{AsksForDay, DeskAt, IsRun, Outside, TookAll, permit_cli}
 use Rattle.command_line.specs.declared.asked.Asked.{Asked}
 
 -- Every status that comes.
@@ -23,7 +23,7 @@ IsStatus status =
 
 -- No run ends with another one.
 abbrev pub EveryStatusIsNamed : Type 0 → Type 0 → Type 0
-EveryStatusIsNamed S K = (asked : Option Asked) (before after : Outside S K) (status : ℕ) → IsRun asked before after status
+EveryStatusIsNamed S K = (asked : Option Asked) (before after : Outside S K) (status : ℕ) → IsRun permit_cli asked before after status
     → IsStatus status
 
 -- A command judges bytes in one way alone.
@@ -32,7 +32,7 @@ CommandsJudgeOnce = (asked : Asked) (bytes : List ℕ) (a b : Option Answer) →
 
 -- Status 8 comes only where a day is asked for.
 abbrev pub OnlyDaysTell : Type 0 → Type 0 → Type 0
-OnlyDaysTell S K = (asked : Option Asked) (before after : Outside S K) → IsRun asked before after 8 → AsksForDay asked
+OnlyDaysTell S K = (asked : Option Asked) (before after : Outside S K) → IsRun permit_cli asked before after 8 → AsksForDay asked
 
 -- one is told of recalls, of all of them: it is through with none, and its object wrote this text
 pub record HasListener (text : List ℕ) (desk : DeskAt) : Type 0 where
@@ -53,7 +53,7 @@ pub record HeardAll {S K : Type 0} (text : List ℕ) (before after : Outside S K
 -- so it is after each run of a day that ends with status 0
 abbrev pub ListenersHearAll : Type 0 → Type 0 → Type 0
 ListenersHearAll S K = (text : List ℕ) (asked : Option Asked) (before after : Outside S K) → AsksForDay asked
-    → HasListener text before.desk → IsRun asked before after 0 → HeardAll text before after
+    → HasListener text before.desk → IsRun permit_cli asked before after 0 → HeardAll text before after
 
 -- The history of a day of at most one actor is the one in which the commands of the file are carried out one after another, on
 -- one thread.

@@ -18,7 +18,7 @@ use Rattle.permit_program.specs.Headline.{CountedHeadline}
 use Rattle.permit_program.specs.declared.runs.Alone.{Alone}
 use Rattle.permit_program.specs.declared.runs.Alone.TheVariants as alone
 
--- how many bytes are read at the most
+-- how many bytes the permit office's program reads at the most
 abbrev pub most_bytes : ℕ
 most_bytes = 4194304
 
@@ -29,6 +29,17 @@ usage_line = codes "usage: permit_cli check|day|make|trial|audit|design|convoy|r
 -- the line that answers too many bytes
 abbrev pub bytes_line : List ℕ
 bytes_line = codes "refused: bytes" ++ (10 ∷ [])
+
+-- a program, as a value: how many bytes it reads at the most, the line that answers words that ask for nothing, and the command of
+-- what they can ask for
+pub record Program (A : Type 0) : Type 1 where
+  pub most : ℕ
+  pub usage : List ℕ
+  pub command_of : A → Command
+
+-- the permit office's program
+abbrev pub permit_cli : Program Asked
+permit_cli = record { most = most_bytes; usage = usage_line; command_of = command_of }
 
 -- a source at some time: itself, the bytes that it has left, where it tells them, and how often it has failed
 pub record SourceAt (S : Type 0) : Type 0 where
@@ -150,20 +161,20 @@ pub record WroteLine {K : Type 0} (line : List ℕ) (before after : SinkAt K) : 
 
 -- Some bytes were taken, all that the command reads, and not too many; it refuses them in this way, with this status, and the
 -- line was appended.
-pub record RefusedFile {S K : Type 0} (status : ℕ) (command : Command) (before after : Outside S K) : Type 0 where
+pub record RefusedFile {S K : Type 0} (most status : ℕ) (command : Command) (before after : Outside S K) : Type 0 where
   pub bytes : List ℕ
   pub answer : Answer
   pub took : Took command.reads before.source after.source bytes
-  pub few : length bytes ≤ most_bytes
+  pub few : length bytes ≤ most
   pub refused : command.Judges bytes (Some answer)
   pub is_status : answer.status ≡ status
   pub told : WroteLine answer.line before.sink after.sink
 
 -- Status 6 for bytes: more were left than a command reads, and the line that says so was appended.
-pub record RefusedBytes {S K : Type 0} (status : ℕ) (command : Command) (before after : Outside S K) : Type 0 where
+pub record RefusedBytes {S K : Type 0} (most status : ℕ) (command : Command) (before after : Outside S K) : Type 0 where
   pub is_status : status ≡ 6
   pub reads : command.reads ≡ true
-  pub many : IfSome before.source.left (λ bytes. most_bytes < length bytes)
+  pub many : IfSome before.source.left (λ bytes. most < length bytes)
   pub told : WroteLine bytes_line before.sink after.sink
 
 -- The status that a judgement calls for, where nothing fails.
@@ -180,10 +191,10 @@ CallFor command false bytes status = (judgement : Option Answer) × command.Judg
 abbrev pub IsStatusOr : ℕ → ℕ → Type 0
 IsStatusOr wanted status = (status ≡ wanted) ⊎ ((wanted ≡ 0) × ((status ≡ 4) ⊎ (status ≡ 8)))
 
--- The status is the one that a command and bytes call for, or memory was wanting.
-abbrev pub IsStatusFor : Command → List ℕ → ℕ → Type 0
-IsStatusFor command bytes status =
-    (status ≡ 7) ⊎ ((wanted : ℕ) × CallFor command (nat_lt most_bytes (length bytes)) bytes wanted × IsStatusOr wanted status)
+-- The status is the one that a command and bytes call for, of which so many are read at the most, or memory was wanting.
+abbrev pub IsStatusFor : ℕ → Command → List ℕ → ℕ → Type 0
+IsStatusFor most command bytes status =
+    (status ≡ 7) ⊎ ((wanted : ℕ) × CallFor command (nat_lt most (length bytes)) bytes wanted × IsStatusOr wanted status)
 
 -- The bytes that a command is to have: what the source has left, where it tells that, or none.
 abbrev pub bytes_for : Bool → Option (List ℕ) → Option (List ℕ)
@@ -191,17 +202,17 @@ bytes_for true left = left
 bytes_for false left = Some []
 
 -- The status is the one that the command and its bytes call for, where they are told.
-abbrev pub IsStatusSettled : Command → Option (List ℕ) → ℕ → Type 0
-IsStatusSettled command left status = IfSome (bytes_for command.reads left) (λ bytes. IsStatusFor command bytes status)
+abbrev pub IsStatusSettled : ℕ → Command → Option (List ℕ) → ℕ → Type 0
+IsStatusSettled most command left status = IfSome (bytes_for command.reads left) (λ bytes. IsStatusFor most command bytes status)
 
 -- A status that is no refusal's.
 abbrev pub IsPlain : ℕ → Type 0
 IsPlain status = (status ≡ 0) ⊎ (status ≡ 2) ⊎ (status ≡ 3) ⊎ (status ≡ 4) ⊎ (status ≡ 7) ⊎ (status ≡ 8)
 
--- What a run does: what was asked for, what stood outside before it and after it, and its status.
-pub record IsRun {S K : Type 0} (asked : Option Asked) (before after : Outside S K) (status : ℕ) : Type 0 where
+-- What a run of a program does: what was asked for, what stood outside before it and after it, and its status.
+pub record IsRun {A S K : Type 0} (program : Program A) (asked : Option A) (before after : Outside S K) (status : ℕ) : Type 0 where
   -- 0: the command was carried out
-  pub done : status ≡ 0 → IsSomeAnd asked (λ a. WroteAll (command_of a) before after)
+  pub done : status ≡ 0 → IsSomeAnd asked (λ a. WroteAll (program.command_of a) before after)
   -- the cause of each other status: 2 comes exactly where nothing was asked for, unless no memory was left to read the words
   pub usage : status ≡ 2 → asked ≡ None
   pub unasked : asked ≡ None → (status ≡ 2) ⊎ (status ≡ 7)
@@ -210,22 +221,23 @@ pub record IsRun {S K : Type 0} (asked : Option Asked) (before after : Outside S
   pub noticed : status ≡ 8 → NoticeFailed before.desk after.desk
   -- every other status is of a refusal: there were too many bytes, or the command refuses them, and the line was written
   pub refused : IsPlain status
-      ⊎ IsSomeAnd asked (λ a. RefusedBytes status (command_of a) before after ⊎ RefusedFile status (command_of a) before after)
+      ⊎ IsSomeAnd asked (λ a. RefusedBytes program.most status (program.command_of a) before after
+      ⊎ RefusedFile program.most status (program.command_of a) before after)
   -- where the source does not fail, the command and its bytes decide, unless the sink or an object fails or no memory is left
-  pub settled : (SourceFailed before after → ⊥) → IfSome asked (λ a. IsStatusSettled (command_of a) before.source.left status)
+  pub settled : (SourceFailed before after → ⊥) → IfSome asked (λ a. IsStatusSettled program.most (program.command_of a) before.source.left status)
   -- what was written with each other status
-  pub usage_told : status ≡ 2 → WroteLine usage_line before.sink after.sink
+  pub usage_told : status ≡ 2 → WroteLine program.usage before.sink after.sink
   pub nothing_read : status ≡ 3 → after.sink ≡ before.sink
-  pub front : status ≡ 4 → IsSomeAnd asked (λ a. WroteFront (command_of a) before after)
+  pub front : status ≡ 4 → IsSomeAnd asked (λ a. WroteFront (program.command_of a) before after)
   pub nothing_kept : status ≡ 7 → after.sink ≡ before.sink
-  pub untold : status ≡ 8 → IsSomeAnd asked (λ a. WroteUntold (command_of a) before after)
+  pub untold : status ≡ 8 → IsSomeAnd asked (λ a. WroteUntold (program.command_of a) before after)
   -- what stays: nobody is told anything but with 0 and 8; where nothing is asked for nothing is read; no status but 3 comes
   -- with a fault of the source, and neither 0 nor 8 with one of the sink
   pub unheard : status ≢ 0 → status ≢ 8 → after.desk ≡ before.desk
   pub untouched : status ≡ 2 → after.source ≡ before.source
   pub calm : status ≢ 3 → after.source.faults ≡ before.source.faults
   pub calm_sink : (status ≡ 0) ⊎ (status ≡ 8) → after.sink.faults ≡ before.sink.faults
-  pub most : TookAtMost (most_bytes + 1) before.source.left after.source.left
+  pub most : TookAtMost (program.most + 1) before.source.left after.source.left
 
 -- a day is asked for
 abbrev pub AsksForDay : Option Asked → Type 0
@@ -234,7 +246,7 @@ AsksForDay asked = IsSomeAnd asked (λ a. a.task ≡ Day)
 -- What a run does that needs no threads: it is a run, of a day only where no memory was left to read the words; or a day is
 -- asked for, and nothing was read or written.
 abbrev pub IsAlone : {S K : Type 0} → Option Asked → Outside S K → Outside S K → Alone → Type 0
-IsAlone asked before after (alone.Status status) = (AsksForDay asked → status ≡ 7) × IsRun asked before after status
+IsAlone asked before after (alone.Status status) = (AsksForDay asked → status ≡ 7) × IsRun permit_cli asked before after status
 IsAlone asked before after alone.Day = AsksForDay asked × (after ≡ before)
 
 -- A day was carried out, and its counter handed out: some bytes were taken, all that were left; a journal was appended; and the

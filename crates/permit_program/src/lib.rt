@@ -11,6 +11,7 @@ mod audit;
 mod commands;
 mod convoy;
 mod day;
+mod endings;
 mod laws;
 mod made;
 mod notices;
@@ -18,7 +19,9 @@ mod refusal;
 mod reports;
 mod reroute;
 mod runs;
+mod words;
 
+pub use endings::{end_made, end_refused, end_unread, refuse, take_bytes};
 pub use laws::{
     commands_judge_once, every_status_is_named, lone_days_are_serial, only_days_tell,
     standard_error_has_a_line_for_each_recall,
@@ -26,3 +29,4 @@ pub use laws::{
 pub use notices::{LineNotice, add_listener};
 pub use refusal::Refusal;
 pub use runs::{Alone, Ended, refuse_words, run, run_alone};
+pub use words::{WordsFault, words_behind};

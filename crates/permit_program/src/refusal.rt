@@ -1,6 +1,6 @@
 // How bytes are refused.
 
-ghost use Rattle.std.specs.Prelude.{◌≡◌, ◌<◌, ◌∷◌, ◌++◌, [], IfOk};
+ghost use Rattle.std.specs.Prelude.{◌≡◌, ◌≤◌, ◌∷◌, ◌++◌, [], IfOk};
 ghost use Rattle.std.specs.Fmt.{decimal};
 ghost use Rattle.std.specs.String.{string_bytes};
 ghost use Rattle.permit_program.specs.Command.{IsCommandAnswer, IsAnswerTo};
@@ -30,7 +30,7 @@ pub enum Refusal {
 
 impl Refusal {
     /// How a refused file is answered: by the row of its first refused record, and the first cause that holds for it.
-    pub(crate) fn of_file(alloc: Global, refused: FileRefusal) -> Refusal
+    pub fn of_file(alloc: Global, refused: FileRefusal) -> Refusal
         ensures { IsAnswerTo refused result }
     {
         let FileRefusal::Refused { row, cause } = refused else {
@@ -56,7 +56,7 @@ impl Refusal {
     }
 
     /// How a text that is no journal is answered: by the first line with which no journal goes on.
-    pub(crate) fn of_journal(alloc: Global, refused: JournalRefusal) -> Refusal
+    pub fn of_journal(alloc: Global, refused: JournalRefusal) -> Refusal
         ensures { IsAnswerToText refused result }
     {
         let JournalRefusal::BadLine { row } = refused else {
@@ -69,8 +69,8 @@ impl Refusal {
     }
 
     /// How a history that is not legal is answered: by its first bad entry, counted from 0 here and from 1 in the line.
-    pub(crate) fn of_entry(alloc: Global, entry: usize) -> Refusal
-        requires { entry < 1000000 }
+    pub fn of_entry(alloc: Global, entry: usize) -> Refusal
+        requires { entry ≤ 1000000 }
         ensures { IsCommandAnswer (answer_to_entry entry) result }
     {
         match numbered_line(alloc, "not legal: entry", entry as u64 + 1) {

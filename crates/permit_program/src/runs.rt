@@ -1,24 +1,22 @@
 // The top call.
 
-ghost use Rattle.std.specs.Prelude.{◌≡◌, ◌≢◌, ◌<◌, ◌≤◌, ◌+◌, IfErr, IfOk, Some, length, map};
+ghost use Rattle.std.specs.Prelude.{◌≡◌, ◌≢◌, ◌<◌, Some, map};
 ghost use Rattle.std.specs.String.{string_bytes};
-ghost use Rattle.office_io.specs.Causes.{TookAtMost};
 ghost use Rattle.clearance_rules.specs.Counters.{IsBlankOf};
 ghost use Rattle.notice_desk.specs.Standings.{AreNew};
 ghost use Rattle.command_line.specs.Asking.{NumbersAreInRange, asked_of};
 ghost use Rattle.command_line.specs.declared.asked.Asked.{Asked};
 ghost use Rattle.command_line.specs.declared.asked.Task.TheVariants as task;
-ghost use Rattle.permit_program.specs.Runs.{CountedDay, CountsItsDay, DeskAt, IsAlone, IsRun, Took, WroteLine, desk_at, most_bytes, outside_of, sink_at, source_at, usage_line};
-ghost use Rattle.permit_program.specs.Endings.{AnswersRefusal, AnswersText, AnswersUnread, WasUnread};
+ghost use Rattle.permit_program.specs.Runs.{CountedDay, CountsItsDay, DeskAt, IsAlone, IsRun, WroteLine, desk_at, outside_of, permit_cli, sink_at, usage_line};
 
 use crate::commands::{make_text, reads};
 use crate::day::make_journal;
-use crate::refusal::Refusal;
+use crate::endings::{end_made, end_refused, end_unread, refuse, take_bytes};
 use analyst_pool::Gate;
 use command_line::{Asked, Task, WordsRefusal, read_words};
 use notice_desk::{Notice, NoticeFault, Subscribers};
 use office_core::Readings;
-use office_io::{ReadRefusal, Sink, Source, read_all, write_all};
+use office_io::{Sink, Source};
 use std::alloc::Global;
 use std::sync::Wait;
 use std::sync::ledger::{Blank, Ledger};
@@ -96,7 +94,7 @@ pub fn run<
     ensures run { let outside = outside_of ⟦<S as Source>⟧ ⟦<K as Sink>⟧ in
         let desk = desk_at ⟦<dyn Notice as Notice>⟧ in
         let asked = asked_of (map string_bytes words.now) in
-        IsRun asked (outside source.old sink.old (desk notices.old)) (outside source.new sink.new (desk notices.new)) result.status }
+        IsRun permit_cli asked (outside source.old sink.old (desk notices.old)) (outside source.new sink.new (desk notices.new)) result.status }
     // After a day that ends with 0 the counter is handed out, and the headline holds with the readings of it.
     ensures counted { let outside = outside_of ⟦<S as Source>⟧ ⟦<K as Sink>⟧ in
         let desk = desk_at ⟦<dyn Notice as Notice>⟧ in
@@ -152,9 +150,9 @@ fn perform<S: Source, K: Sink>(alloc: Global, asked: Asked, source: &mut S, sink
     requires alone { asked.task ≢ task.Day }
     requires range { NumbersAreInRange asked.options }
     ensures { let outside = outside_of ⟦<S as Source>⟧ ⟦<K as Sink>⟧ in
-        (desk : DeskAt) → IsRun (Some asked) (outside source.old sink.old desk) (outside source.new sink.new desk) result }
+        (desk : DeskAt) → IsRun permit_cli (Some asked) (outside source.old sink.old desk) (outside source.new sink.new desk) result }
 {
-    let bytes = match take_bytes(alloc, source, reads(asked)) {
+    let bytes = match take_bytes(alloc, source, reads(asked), MOST_BYTES) {
         Ok(bytes) => bytes,
         Err(unread) => return end_unread(sink, unread),
     };
@@ -183,14 +181,14 @@ fn perform_day<
     requires notices { AreNew (desk_at ⟦<dyn Notice as Notice>⟧ notices.old).standings }
     ensures run { let outside = outside_of ⟦<S as Source>⟧ ⟦<K as Sink>⟧ in
         let desk = desk_at ⟦<dyn Notice as Notice>⟧ in
-        (asked : Asked) → asked.task ≡ task.Day → IsRun (Some asked) (outside source.old sink.old (desk notices.old))
+        (asked : Asked) → asked.task ≡ task.Day → IsRun permit_cli (Some asked) (outside source.old sink.old (desk notices.old))
         (outside source.new sink.new (desk notices.new)) result.status }
     ensures counted { let outside = outside_of ⟦<S as Source>⟧ ⟦<K as Sink>⟧ in
         let desk = desk_at ⟦<dyn Notice as Notice>⟧ in
         result.status ≡ 0 → CountedDay result.readings (outside source.old sink.old (desk notices.old))
         (outside source.new sink.new (desk notices.new)) }
 {
-    let bytes = match take_bytes(rt.alloc(), source, true) {
+    let bytes = match take_bytes(rt.alloc(), source, true, MOST_BYTES) {
         Ok(bytes) => bytes,
         Err(unread) => return Ended::uncounted(end_unread(sink, unread)),
     };
@@ -210,63 +208,4 @@ fn perform_day<
         status,
         readings: Some(day.readings),
     }
-}
-
-// Takes what a command reads: all that is left, or nothing.
-fn take_bytes<S: Source>(alloc: Global, source: &mut S, reads: bool) -> Result<Vec<u8>, ReadRefusal>
-    ensures took { let source_at = source_at ⟦<S as Source>⟧ in
-        IfOk result (λ bytes. Took reads (source_at source.old) (source_at source.new) bytes.items) }
-    ensures few { IfOk result (λ bytes. length bytes.items ≤ most_bytes) }
-    ensures unread { let source_at = source_at ⟦<S as Source>⟧ in
-        IfErr result (WasUnread reads (source_at source.old) (source_at source.new)) }
-    ensures calm { IfOk result (λ bytes. S.faults source.new ≡ S.faults source.old) }
-    ensures most { TookAtMost (most_bytes + 1) (S.left source.old) (S.left source.new) }
-{
-    if reads {
-        read_all(alloc, source, MOST_BYTES)
-    } else {
-        Ok(Vec::new(alloc))
-    }
-}
-
-// Ends a run whose bytes were not all read.
-fn end_unread<K: Sink>(sink: &mut K, unread: ReadRefusal) -> u8
-    ensures { let sink_at = sink_at ⟦<K as Sink>⟧ in AnswersUnread unread (sink_at sink.old) (sink_at sink.new) result }
-{
-    match unread {
-        ReadRefusal::ReadFault => 3,
-        ReadRefusal::TooLong => refuse(sink, b"refused: bytes\n", 6),
-        ReadRefusal::NoMemory => 7,
-    }
-}
-
-// Ends a run whose bytes are refused.
-fn end_refused<K: Sink>(sink: &mut K, refusal: Refusal) -> u8
-    ensures { let sink_at = sink_at ⟦<K as Sink>⟧ in AnswersRefusal refusal (sink_at sink.old) (sink_at sink.new) result }
-{
-    match refusal {
-        Refusal::Refused { status, line } => refuse(sink, line.as_bytes(), status),
-        Refusal::NoMemory => 7,
-    }
-}
-
-// Writes what a command made: 0, or 4 where the sink fails.
-fn end_made<K: Sink>(sink: &mut K, text: &[u8]) -> u8
-    ensures { let sink_at = sink_at ⟦<K as Sink>⟧ in AnswersText text.now (sink_at sink.old) (sink_at sink.new) result }
-{
-    match write_all(sink, text) {
-        Ok(()) => 0,
-        Err(_) => 4,
-    }
-}
-
-// Writes the line of a refusal, and hands its status on.
-fn refuse<K: Sink>(sink: &mut K, line: &[u8], status: u8) -> u8
-    ensures status { result ≡ status }
-    ensures line { let sink_at = sink_at ⟦<K as Sink>⟧ in
-        WroteLine line.now (sink_at sink.old) (sink_at sink.new) }
-{
-    // A fault of the sink leaves the status as it is.
-    let _ = write_all(sink, line);
-    status
 }

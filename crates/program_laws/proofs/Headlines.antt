@@ -5,6 +5,8 @@ use Rattle.program_laws.specs.Histories.{IsOfDay}
 use Rattle.program_laws.proofs.ReadingBack.{histories_fit, journals_have_one_history, journals_read_back}
 use Rattle.permit_program.specs.Headline.{Headline}
 use Rattle.program_laws.specs.Laws.{HeadlineFits, HeadlineReadsBack, TextHasOneHistory}
+use Rattle.program_laws.specs.Whole.{DayJournalsAreWhole}
+use Rattle.clerk_program.proofs.Written.{written_whole}
 
 of_day : (bytes text : List ℕ) (h : Headline bytes text) → IsOfDay bytes h.history
 of_day bytes text h = record { file = h.file; read = h.read; legal = h.legal; commands = h.commands; callers = h.callers }
@@ -19,3 +21,7 @@ headline_reads_back bytes text h answer is =
 pub text_has_one_history : TextHasOneHistory
 text_has_one_history bytes other text h k =
     journals_have_one_history bytes other h.history k.history (of_day bytes text h) (of_day other text k) (sym h.journal ∙ k.journal)
+
+-- and the journal is called whole
+pub journal_is_whole : DayJournalsAreWhole
+journal_is_whole day journal h sizes = written_whole day journal h (headline_fits day journal h) sizes

@@ -8,3 +8,4 @@ pub use Rattle.analyst_pool.specs.Unfolds
 pub use Rattle.journal_reader.specs.Fits
 pub use Rattle.day_trial.specs.Rerouted
 pub use Rattle.report_text.specs.RecallLines
+pub mod Whole

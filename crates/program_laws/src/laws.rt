@@ -1,6 +1,7 @@
 // Laws of the journals of day files, each on a function without code.
 
 ghost use Rattle.program_laws.specs.Laws.{DayHistoriesFit, DayJournalsHaveOneHistory, DayJournalsReadBack, HeadlineFits, HeadlineReadsBack, TextHasOneHistory};
+ghost use Rattle.program_laws.specs.Whole.{DayJournalsAreWhole};
 
 /// A law, and no code: each number, day and fraction in a history of a day file is within what a journal may hold.
 pub fn day_histories_fit()
@@ -30,4 +31,10 @@ pub fn headlines_read_back()
 /// A law, and no code: a text is written for one history at most, whatever the day files are.
 pub fn texts_have_one_history()
     ensures { TextHasOneHistory }
+{}
+
+/// A law, and no code: what a completed run of `day` writes is called whole by `certify`, with the day file behind it, unless one
+/// of the two has too many bytes.
+pub fn day_journals_are_whole()
+    ensures { DayJournalsAreWhole }
 {}

@@ -9,6 +9,8 @@ mod audits;
 #[cfg(test)]
 mod cases;
 #[cfg(test)]
+mod certificates;
+#[cfg(test)]
 mod days;
 #[cfg(test)]
 mod faults;

@@ -1,7 +1,7 @@
 use Rattle.std.proofs.Common.{◌∙◌, ℕ, map, subst, sym}
 use Rattle.std.specs.String.{string_bytes}
 use Rattle.command_line.specs.Asking.{asked_of}
-use Rattle.permit_program.specs.Runs.{IsRun, desk_at, outside_of}
+use Rattle.permit_program.specs.Runs.{IsRun, desk_at, outside_of, permit_cli}
 use Rattle.permit_program.proofs.Ends.{counts_day, none_counted, of_day}
 use Rattle.permit_program.proofs.runs.run.Goals as goal
 
@@ -11,7 +11,7 @@ returns-in-Status-clause-run g c =
     let outside = outside_of g.S.Source g.K.Sink in
     let before = outside c.args.source.now c.args.sink.now (desk_now c.args.notices.now) in
     let after = outside c.run_alone.new.source c.run_alone.new.sink (desk_now c.args.notices.now) in
-    subst (λ (n : ℕ). IsRun (asked_of (map string_bytes c.args.words.now)) before after n) (sym c.uncounted.ensures.status)
+    subst (λ (n : ℕ). IsRun permit_cli (asked_of (map string_bytes c.args.words.now)) before after n) (sym c.uncounted.ensures.status)
     (c.in-Status.ensures (desk_now c.args.notices.now)).1
 
 pub returns-in-Status-clause-counted : goal.returns-in-Status-clause-counted

@@ -1,6 +1,6 @@
 use Rattle.permit_program.specs.Runs.{sink_at}
 use Rattle.permit_program.proofs.Lines.{written_line}
-use Rattle.permit_program.proofs.runs.refuse.Goals as goal
+use Rattle.permit_program.proofs.endings.refuse.Goals as goal
 
 pub returns-clause-line : goal.returns-clause-line
 returns-clause-line g c =

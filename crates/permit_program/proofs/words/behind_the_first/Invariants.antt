@@ -1,6 +1,6 @@
 use Rattle.std.proofs.Common.{◌≡◌, ◌++◌, drop}
 use Rattle.std.specs.Vec.Iter.{into_iter_items, into_iter_len}
-use Rattle.permit_cli.proofs.behind_the_first.Given as goal
+use Rattle.permit_program.proofs.words.behind_the_first.Given as goal
 
 abbrev pub decreases-rest : goal.decreases-rest
 decreases-rest l = into_iter_len l.words

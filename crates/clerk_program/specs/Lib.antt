@@ -1,0 +1,4 @@
+pub mod Certify
+pub mod Judging
+pub mod Clerk
+pub mod Laws
