@@ -15,6 +15,7 @@ from typing import NoReturn
 HOME = Path(__file__).resolve().parent.parent
 PARTS = ("src", "specs", "proofs", "out/rlib")
 CANNOT = 2
+CLERK = "permit_clerk"
 
 
 def parser(text: str | None) -> argparse.ArgumentParser:
@@ -27,6 +28,13 @@ def whole_path(program: str) -> str:
     if not os.access(program, os.X_OK) or not Path(program).is_file():
         raise OSError(f"{program} is not there, or is no program")
     return str(Path(program).absolute())
+
+
+def clerk_beside(program: str) -> str | None:
+    """The whole path of the clerk in the folder of a program, or where both are built; or None."""
+    own = Path(program)
+    places = (own.with_name(CLERK), *(crates / CLERK / "out" / CLERK for crates in own.parents[2:3]))
+    return next((whole_path(str(place)) for place in places if place.is_file()), None)
 
 
 def ended(main: Callable[[], int]) -> NoReturn:

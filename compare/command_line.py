@@ -11,6 +11,7 @@ from pathlib import Path
 from typing import NoReturn
 
 CANNOT = 2
+CLERK = "permit_clerk"
 
 
 def parser(text: str | None) -> argparse.ArgumentParser:
@@ -23,6 +24,13 @@ def program(word: str) -> str:
     if not os.access(word, os.X_OK) or not Path(word).is_file():
         raise OSError(f"{word} is not there, or is no program")
     return str(Path(word).absolute())
+
+
+def clerk_beside(path: str) -> str | None:
+    """The whole path of the clerk in the folder of a program, or where both are built; or None."""
+    own = Path(path)
+    places = (own.with_name(CLERK), *(crates / CLERK / "out" / CLERK for crates in own.parents[2:3]))
+    return next((program(str(place)) for place in places if place.is_file()), None)
 
 
 def ended(main: Callable[[], int]) -> NoReturn:

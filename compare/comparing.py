@@ -1,17 +1,32 @@
-"""One input given to the program and to the model, and what differs."""
+"""One input given to the program, or to the clerk, and to the model, and what differs."""
 import subprocess
 from dataclasses import dataclass
+from random import Random
+from typing import NamedTuple
 
-from cases.families import Case
+from cases.certifying import of_journal
+from cases.families import Case, certify
 from model.audit import audited
+from model.certify import certified
 from model.files import CheckFile, DayFile, Refused
-from model.journal import Wrong, alone, judge
+from model.journal import Wrong, alone, entries_of, judge
 from model.making import made_day, trial
 from model.report import convoy_report, design_report, report
 from model.reroute import rerouted
-from model.words import USAGE, asked
+from model.words import CERTIFY, CLERK_USAGE, USAGE, asked, asks_to_certify
 
 SECONDS = 120
+
+
+class Programs(NamedTuple):
+    """The paths of the program and of the clerk, where there is one."""
+
+    office: str
+    clerk: str | None = None
+
+    def of(self, case: Case) -> str | None:
+        """The one that a case is for."""
+        return self.clerk if case.is_clerks else self.office
 
 
 @dataclass(frozen=True)
@@ -31,6 +46,8 @@ def ran(program: str, case: Case) -> Ran:
 
 def wanted(case: Case) -> Ran | DayFile:
     """What has to come: a run, or, for a day of several actors, the day file, whose journal has to be judged."""
+    if case.is_clerks:
+        return Ran(*certified(case.data)) if asks_to_certify(case.words) else Ran(2, CLERK_USAGE)
     found = asked(case.words)
     if found is None:
         return Ran(2, USAGE)
@@ -57,11 +74,33 @@ def wanted(case: Case) -> Ran | DayFile:
     return Ran(0, *alone(day))
 
 
-def difference(program: str, case: Case) -> str | None:
-    """What differs between the program and the model on an input, in words, or None."""
-    want, got = wanted(case), ran(program, case)
-    if isinstance(want, DayFile):
-        return judged(want, got)
+def difference(programs: Programs, case: Case) -> str | None:
+    """What differs between the programs and the model on an input, in words, or None."""
+    path = programs.of(case)
+    if path is None:
+        return None
+    want, got = wanted(case), ran(path, case)
+    what = judged(want, got) if isinstance(want, DayFile) else unlike(want, got)
+    is_journal = case.words == ["day"] and got.status == 0
+    return certificates(programs.clerk, case.data, got.written) if is_journal and not what and programs.clerk else what
+
+
+def certificates(clerk: str, day: bytes, journal: str) -> str | None:
+    """What differs on the right journal of a day, which is whole, and on some that lack, have or change something."""
+    itself = Ran(0, f"whole {len(entries_of(journal))}\n")
+    for number, data in enumerate(of_journal(Random(day), journal, day)):
+        case = certify(data)
+        want = wanted(case)
+        if number == 0 and want != itself:
+            return f"{CERTIFY}: the model has {want} for a right journal"
+        what = unlike(want, ran(clerk, case)) if isinstance(want, Ran) else None
+        if what:
+            return f"{CERTIFY}: journal {number} of those that are made of the day's: {what}"
+    return None
+
+
+def unlike(want: Ran, got: Ran) -> str | None:
+    """What differs between two runs, in words, or None."""
     if want == got:
         return None
     for name, mine, its in (("status", want.status, got.status), ("standard error", want.told, got.told)):

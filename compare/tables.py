@@ -13,6 +13,7 @@
   They were written down from memory, and were not held against the printed page.
 - A day with an annual permit on two routes, worked by hand: its journal, and the causes for which three others like it
   are refused. So are audits of that journal beside its day, and of others like it, which are not legal or no journals.
+- Journals to certify, in certificates.py.
 
 Three more things are tried on the model: that no second spacing of HS20-44 from 14 to 30 ft exceeds 14 ft; that no
 place of some trucks, at whole and at half inches, exceeds the peaks; and that no places of two trucks with at least a
@@ -23,13 +24,16 @@ from collections.abc import Iterator, Sequence
 from fractions import Fraction
 from typing import NamedTuple
 
+import certificates
+from comparing import Programs
 from model.audit import audited
 from model.bridges import HS20, closest, design, moment, peak_moment, peak_shear
 from model.files import CheckFile, DayFile, Refused
 from model.journal import alone
 from model.limits import Axles
+from model.office import MOST_ENTRIES
 from model.report import design_report, report
-from model.reroute import MOST_ENTRIES, rerouted
+from model.reroute import rerouted
 
 FORMULA = """
 8+ 38 42
@@ -406,13 +410,15 @@ def wrong_crowded_desk(program: str | None, name: str) -> Iterator[str]:
         yield f"{name}: reroute at {MOST_ENTRIES} entries: {at_most[0]}, {at_most[1][:100]!r}, and then {beyond}"
 
 
-def compared(program: str) -> tuple[int, list[str]]:
+def compared(programs: Programs) -> tuple[int, list[str]]:
     """How many rows were compared, and what is wrong."""
     wrong = [*wrong_spacing(), *wrong_peaks(), *wrong_convoys()]
-    for tried, name in ((program, "program"), (None, "model")):
+    for tried, name in ((programs.office, "program"), (None, "model")):
         wrong += [*wrong_formula(tried, name), *wrong_aashto(tried, name), *wrong_governing(tried, name)]
         wrong += [*wrong_annual(tried, name), *wrong_audit(tried, name), *wrong_reroute(tried, name)]
     # (the model takes too long for a crowded desk)
-    wrong += wrong_crowded_desk(program, "program")
+    wrong += wrong_crowded_desk(programs.office, "program")
+    certified, uncertified = certificates.compared(programs.clerk)
     printed = len(list(formula_rows())) + len(list(aashto_rows(AASHTO + LANE.lstrip())))
-    return printed + 1 + len(ANNUAL_REFUSED) + len(AUDITED) + len(REROUTED) + 2, wrong
+    worked = 1 + len(ANNUAL_REFUSED) + len(AUDITED) + len(REROUTED) + 2 + certified
+    return printed + worked, wrong + uncertified

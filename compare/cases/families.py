@@ -4,10 +4,11 @@ from dataclasses import dataclass
 from random import Random
 
 from model.records import MOST_BYTES
-from model.words import COMMANDS
+from model.words import CERTIFY, COMMANDS
 
 from .annual import annual_file
 from .breaking import ROUTE_WAYS, broken, ends, scratched, set_number, trip
+from .certifying import of_pestered
 from .files import check_file, day_file
 from .forging import broken_part, forged, legal
 from .texts import Field, Record, dressed, full, plain
@@ -20,16 +21,21 @@ WORDS = (
     "check", "day", "make", "trial", "audit", "design", "convoy", "reroute", "--seed", "--size", "--trucks", "--gap",
     "--seed=5", "--size=2", "--trucks=3", "--gap=48", "7", "+5", "007", "-1", "65535", "65536", "0", "40", "41",
     "--help", "-h", "--version", "--seeds", "--", "", "Check", "--seed=", "--size=1.5", "--seed=-0", "\u00e4",
-    "\udcff",
+    "\udcff", "certify",
+)
+CLERK_WORDS = (
+    "certify", "certify", "certify", "--", "", "-", "Certify", "certif", "certify ", "audit", "day", "--certify",
+    "--help", "-h", "-1", "--version", "--seed=1", "--seed", "1", "\u00e4", "\udcff",
 )
 
 
 @dataclass(frozen=True)
 class Case:
-    """The words of a run, and what it reads."""
+    """The words of a run, what it reads, and whether it is the clerk's."""
 
     words: list[str]
     data: bytes = b""
+    is_clerks: bool = False
 
 
 def day_of(records: Sequence[Record]) -> Case:
@@ -265,14 +271,23 @@ def case(seed: int) -> Case:
     return FAMILIES[at](Random(seed))
 
 
+def certify(data: bytes) -> Case:
+    """What the clerk is to certify."""
+    return Case([CERTIFY], data, is_clerks=True)
+
+
 def cases(seed: int) -> list[Case]:
-    """The input of a seed, and a check file or a day file once more with each other word that reads one."""
-    made = case(seed)
+    """The input of a seed, and once more with each other word that reads such a one, those of the clerk among them."""
+    made, rng = case(seed), Random(seed)
     if made.words == ["day"]:
         return [made, Case(["reroute"], made.data)]
+    if made.words == ["audit"]:
+        pestered = of_pestered(rng)
+        return [made, certify(made.data), Case(["audit"], pestered), certify(pestered)]
+    if FAMILIES[seed % len(FAMILIES)] is worded:
+        return [made, Case([rng.choice(CLERK_WORDS) for _ in range(rng.randint(0, 3))], is_clerks=True)]
     if made.words != ["check"]:
         return [made]
-    rng = Random(seed)
     trucks, gap = rng.choice((2, 2, 2, 3, 16)), rng.choice((1, 48, 360, 3000, rng.randint(1, 3000)))
     convoy = ["convoy", "--trucks", str(trucks), "--gap", str(gap)]
     return [Case(words, made.data) for words in (made.words, ["design"], ["convoy"], convoy)]

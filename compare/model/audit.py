@@ -8,12 +8,20 @@ import re
 
 from .files import MOST_ANNUAL_DAYS, DayFile, Posting, Refused, Trip
 from .forms import days_between
-from .office import Office
+from .office import MOST_ENTRIES, Office
 from .reading import BadLine, Entry, Held, Simple, Submit, read
 from .records import MOST_BYTES
 
-NOT_LEGAL = 9
+NOT_SO = 9
 NO_MEMORY = "nomemory"
+
+
+class NotSo(Refused):
+    """A journal that could be read, beside a day file that could, and is not what was asked: the line, and why."""
+
+    def __init__(self, why: str) -> None:
+        super().__init__(NOT_SO, why)
+        self.line = f"{why}\n"
 
 
 def parted(data: bytes) -> tuple[bytes, bytes]:
@@ -89,21 +97,34 @@ class Audit:
 
 
 def first_bad(file: DayFile, entries: list[Entry]) -> int | None:
-    """The place of the first entry that is no step, counted from 1, or None."""
-    audit = Audit(file)
-    return next((number for number, entry in enumerate(entries, 1) if not audit.is_step(entry)), None)
+    """The place of the first entry that is no step, or one for which no office has room, counted from 1; or None."""
+    audit, numbered = Audit(file), enumerate(entries, 1)
+    return next((number for number, entry in numbered if number > MOST_ENTRIES or not audit.is_step(entry)), None)
+
+
+def read_both(journal: bytes, day: bytes) -> tuple[list[Entry], DayFile]:
+    """The entries of a journal, and the day file; or whichever is refused first, the journal or the file."""
+    try:
+        entries = read(journal)
+    except BadLine as bad:
+        raise Refused(5, str(bad)) from bad
+    return entries, DayFile(day)
+
+
+def legal(file: DayFile, entries: list[Entry]) -> None:
+    """Refuses entries that are no history of an office."""
+    bad = first_bad(file, entries)
+    if bad is not None:
+        raise NotSo(f"not legal: entry {bad}")
 
 
 def audited(data: bytes) -> tuple[int, str]:
     """The status of an audit, and the line that is written."""
-    journal, day = parted(data)
     try:
         if len(data) > MOST_BYTES:
             raise Refused(6, "bytes")
-        entries = read(journal)
-        bad = first_bad(DayFile(day), entries)
-    except BadLine as line:
-        return 5, f"refused: line {line.row}\n"
+        entries, file = read_both(*parted(data))
+        legal(file, entries)
     except Refused as refused:
         return refused.status, refused.line
-    return (0, f"legal {len(entries)}\n") if bad is None else (NOT_LEGAL, f"not legal: entry {bad}\n")
+    return 0, f"legal {len(entries)}\n"

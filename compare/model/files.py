@@ -264,7 +264,7 @@ class CheckFile(File):
 class DayFile(File):
     """Roads, trucks and actors, each numbered from 0 in the order of the records, and the commands in their order.
 
-    `values` are the limits of each segment before anything is posted.
+    `values` are the limits of each segment before anything is posted, and `rows` are the rows of the commands' records.
     """
 
     kinds, first = DAY_KINDS, "day"
@@ -277,6 +277,7 @@ class DayFile(File):
         self.trucks: list[Truck] = []
         self.actors = 0
         self.commands: list[Command] = []
+        self.rows: list[int] = []
         super().__init__(data)
 
     def add(self, kind: str, name: str) -> None:
@@ -321,6 +322,7 @@ class DayFile(File):
         """Takes in one more command."""
         self.room("commands", len(self.commands))
         self.commands.append(Command(self.names["actors"][actor], kind, what))
+        self.rows.append(self.row)
 
     def add_apply(self, actor: str, truck: str, start: str, end: str, routes: list[list[str]], first: str,
                   last: str) -> None:

@@ -28,13 +28,17 @@ class Call:
 
 @dataclass
 class Actor:
-    """An actor among its commands: how often its application was out of date, and the version it last saw."""
+    """An actor among its commands: how often its application was out of date, and the version it last saw.
+
+    After so many attempts that were out of date it has the office look itself.
+    """
 
     number: int
     commands: Sequence[Command]
     at: int = 0
     tries: int = 0
     seen: int | None = None
+    attempts: int = ATTEMPTS
 
     def is_done(self) -> bool:
         """Whether no command is left."""
@@ -61,7 +65,7 @@ class Actor:
 
     def apply(self, office: Office, trip: Trip) -> Call:
         """A snapshot, then a submit of what is found in it. After eight that were out of date the office finds it."""
-        if self.seen is None and self.tries < ATTEMPTS:
+        if self.seen is None and self.tries < self.attempts:
             return Call("snapshot", lambda: self.look(office))
         seen = office.roads.version if self.seen is None else self.seen
         found = office.finding(trip, seen)

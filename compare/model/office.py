@@ -10,6 +10,9 @@ from typing import NamedTuple
 from .files import DayFile, Posting, Routes, Trip
 from .roads import Roads
 
+# how many entries the history of an office has at most
+MOST_ENTRIES = 1000000
+
 
 class Found(NamedTuple):
     """What is found for an application: its kind, and the segments or the nodes that are listed with it, or routes.

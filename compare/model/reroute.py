@@ -8,9 +8,8 @@ from collections.abc import Iterator
 
 from .files import DayFile, Refused, Trip
 from .journal import Actor
-from .office import Office
+from .office import MOST_ENTRIES, Office
 
-MOST_ENTRIES = 1000000
 TOO_MANY_ENTRIES = 10
 # how a line says what the office replied. No other reply comes: the day is not past, the truck needs a permit, and its
 # walk is still there

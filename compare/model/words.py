@@ -1,11 +1,16 @@
-"""What the words of the command line ask for, as the crate `clap` reads them: a command, and four options."""
+"""What the words of the command line ask for, as the crate `clap` reads them: a command, and four options.
+
+The clerk's words have a command alone, `certify`.
+"""
 import re
-from collections.abc import Sequence
+from collections.abc import Collection, Sequence
 from dataclasses import dataclass
 
 COMMANDS = ("check", "day", "make", "trial", "audit", "design", "convoy", "reroute")
 RANGES = {"--seed": (0, 65535), "--size": (1, 40), "--trucks": (2, 16), "--gap": (1, 3000)}
 USAGE = f"usage: permit_cli {'|'.join(COMMANDS)} [--seed N] [--size N] [--trucks N] [--gap N]\n"
+CERTIFY = "certify"
+CLERK_USAGE = f"usage: permit_clerk {CERTIFY}\n"
 
 
 @dataclass(frozen=True)
@@ -28,8 +33,8 @@ def number(option: str, word: str | None) -> int | None:
     return spelt if least <= spelt <= most else None
 
 
-def asked(words: Sequence[str]) -> Asked | None:
-    """What the words ask for; or None where they ask for nothing."""
+def taken(words: Sequence[str], options: Collection[str]) -> tuple[list[str], dict[str, int]] | None:
+    """The commands and the numbers of the options among the words; or None where there may be no such words."""
     waiting, commands, found = list(words), [], dict[str, int]()
     while waiting:
         word = waiting.pop(0)
@@ -40,7 +45,7 @@ def asked(words: Sequence[str]) -> Asked | None:
             commands.append(word)
             continue
         option, equals, value = word.partition("=")
-        if option not in RANGES or option in found:
+        if option not in options or option in found:
             return None
         if not equals and waiting and not waiting[0].startswith("-"):
             value = waiting.pop(0)
@@ -48,6 +53,17 @@ def asked(words: Sequence[str]) -> Asked | None:
         if spelt is None:
             return None
         found[option] = spelt
+    return commands, found
+
+
+def asked(words: Sequence[str]) -> Asked | None:
+    """What the words ask for; or None where they ask for nothing."""
+    commands, found = taken(words, RANGES) or ([], {})
     if len(commands) != 1 or commands[0] not in COMMANDS:
         return None
     return Asked(commands[0], **{option.removeprefix("--"): spelt for option, spelt in found.items()})
+
+
+def asks_to_certify(words: Sequence[str]) -> bool:
+    """Whether the words ask the clerk for a certificate."""
+    return taken(words, ()) == ([CERTIFY], {})
