@@ -158,7 +158,7 @@ class Specs:
 
     def type_of(self, name: str) -> str:
         """The type of a definition; of a record its parameters, if it has any."""
-        head = self.heads[name].split(" where", 1)[0]
+        head = re.split(r" where\b", self.heads[name], maxsplit=1)[0]
         if re.match(r"(?:pub )?(?:record|data)\b", head):
             return head.split(f" {name} ", 1)[1].rpartition(":")[0].strip()
         return head.split(" : ", 1)[1].strip()
