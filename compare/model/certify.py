@@ -95,7 +95,7 @@ def whole(file: DayFile, entries: list[Entry]) -> None:
     for actor in range(file.actors):
         own = Own([(number, entry) for number, entry in numbered if entry.caller == actor])
         try:
-            row = read_script(own, [it for it in zip(file.rows, file.commands) if it[1].actor == actor])
+            row = read_script(own, [it for it in zip(file.command_rows, file.commands) if it[1].actor == actor])
         except Strays as at:
             stray.append(at.number)
         else:

@@ -264,7 +264,8 @@ class CheckFile(File):
 class DayFile(File):
     """Roads, trucks and actors, each numbered from 0 in the order of the records, and the commands in their order.
 
-    `values` are the limits of each segment before anything is posted, and `rows` are the rows of the commands' records.
+    `values` are the limits of each segment before anything is posted, and `command_rows` are the rows of the records of
+    the commands.
     """
 
     kinds, first = DAY_KINDS, "day"
@@ -277,7 +278,7 @@ class DayFile(File):
         self.trucks: list[Truck] = []
         self.actors = 0
         self.commands: list[Command] = []
-        self.rows: list[int] = []
+        self.command_rows: list[int] = []
         super().__init__(data)
 
     def add(self, kind: str, name: str) -> None:
@@ -322,7 +323,7 @@ class DayFile(File):
         """Takes in one more command."""
         self.room("commands", len(self.commands))
         self.commands.append(Command(self.names["actors"][actor], kind, what))
-        self.rows.append(self.row)
+        self.command_rows.append(self.row)
 
     def add_apply(self, actor: str, truck: str, start: str, end: str, routes: list[list[str]], first: str,
                   last: str) -> None:
