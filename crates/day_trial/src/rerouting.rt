@@ -33,8 +33,8 @@ const MOST_ENTRIES: u32 = 1000000;
 ///
 /// Its history is legal and keeps every promise. All its entries are those of these commands and of these applications.
 ///
-/// It has room for n times n and 2 times n entries, where n commands are carried out, at least 1 and at most 1,000,000. By
-/// `rerouted_histories_are_short` they make no more.
+/// It has room for n times n and 2 times n entries, where the file has n commands, which make no more by
+/// `rerouted_histories_are_short`; but for at least 1 entry, and for at most 1,000,000.
 ///
 /// Refusals: `TooMany` only where such a history has 1,000,000 entries before all is done, and each one in which all is done
 /// has more; and `NoMemory`, also where a reply says so.

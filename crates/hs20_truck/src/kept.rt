@@ -53,8 +53,8 @@ impl Kept {
         &self.train
     }
 
-    /// Keeps the least rating with which spans of `inches` carry the train, unless it does so already. The first
-    /// length takes the memory for all. Where no memory is found it keeps what it kept.
+    /// May keep, for speed alone, what spans of `inches` ask of the train. Nothing that contracts see changes. The first length takes
+    /// the memory for all.
     pub fn keep(&mut self, alloc: Global, inches: u32) -> Result<(), AllocError>
         requires { IsSpanLength inches }
         ensures { self.new ≡ self.old }
