@@ -207,8 +207,8 @@ class Content(unittest.TestCase):
         self.assertEqual(data["segments"][2], ["SR7-N", 1, 2])
         self.assertEqual(data["postings"], POSTINGS)
         self.assertEqual(len(data["places"] or data["nodes"]), 3)
-        # from DEPOT no further, and from PLANT to CREEK
-        self.assertEqual(data["cuts"], [[0], [1, 2]])
+        # from DEPOT no further, and from PLANT to CREEK; where nothing lays the roads out there is no drawing to show them on
+        self.assertEqual(data["cuts"], [[0], [1, 2]] if data["places"] else [])
 
     def test_a_large_network_is_not_laid_out(self) -> None:
         day = made_day(1, 20)
