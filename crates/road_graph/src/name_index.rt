@@ -66,6 +66,17 @@ impl Names {
         }
     }
 
+    /// The name of a number. Takes no memory.
+    pub fn name(&self, i: u32) -> Name
+        requires { i < length self.now }
+        ensures { slice_get self.now i ≡ Some result }
+    {
+        match self.names.get_index(i as usize) {
+            Some((name, _)) => *name,
+            None => unreachable!(),
+        }
+    }
+
     /// Enters a name that is not there. `AllocError` where no memory was left.
     #[tactic(auto, using(indexmap::proofs::SetLemmas::keys_insert_entry))]
     pub fn enter(&mut self, name: Name) -> Result<(), AllocError>

@@ -255,6 +255,14 @@ impl Network {
         self.nodes.len() as u32
     }
 
+    /// The name of the node of a number. Takes no memory.
+    pub fn node(&self, i: u32) -> Name
+        requires { i < length self.now.nodes }
+        ensures { slice_get self.now.nodes i ≡ Some result }
+    {
+        self.nodes.name(i)
+    }
+
     /// A fact, and no work: the lists of a network are in order. Takes no memory.
     pub fn lists_are_in_order(&self)
         ensures { IsRoads self.now }
