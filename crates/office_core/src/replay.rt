@@ -2,7 +2,8 @@
 
 ghost use Rattle.std.specs.Prelude.{◌≡◌, ◌<◌, length, is_none, IfOk};
 ghost use Rattle.std.specs.Arc.{arc_value};
-ghost use Rattle.office_core.specs.Machine.{HasRoom, IsAnswer, IsFound, MayAsk, may_lack, opened, reply_in, version_of};
+ghost use Rattle.restriction_log.specs.States.{AreOf};
+ghost use Rattle.office_core.specs.Machine.{HasRoom, IsAnswer, IsFound, MayAsk, may_lack, opened, reply_in, state_in, version_of};
 ghost use Rattle.office_core.specs.Replies.{early_reply, is_issue};
 ghost use Rattle.office_core.specs.Registers.{LeavesParts, stored_now};
 
@@ -10,8 +11,9 @@ use crate::register::Register;
 use clearance_rules::Steps;
 use names::NoMemory;
 use office_words::{Call, Reply};
+use permit_book::Permit;
 use permit_days::Day;
-use restriction_log::takes;
+use restriction_log::{State, takes};
 use snapshot_store::Snapshot;
 use std::alloc::Global;
 use std::marker::Model;
@@ -57,6 +59,28 @@ impl Replay {
         ensures { IfOk result (λ snapshot. snapshot ≡ stored_now self.now) }
     {
         self.register.snapshot()
+    }
+
+    /// What is in force on the roads. Takes no memory.
+    pub fn state(&self) -> &State
+        ensures value { result.now ≡ state_in self.now.base self.now.machine }
+        ensures of_base { AreOf self.now.base.roads result.now }
+    {
+        self.register.state()
+    }
+
+    /// The day that it is. Takes no memory.
+    pub fn today(&self) -> Day
+        ensures { result ≡ self.now.machine.day }
+    {
+        self.register.today()
+    }
+
+    /// All permits, in the order of their numbers. Takes no memory.
+    pub fn permits(&self) -> &[Permit]
+        ensures { result.now ≡ self.now.machine.permits }
+    {
+        self.register.permits()
     }
 
     /// Answers a call, as the office does. Where memory was wanting, the answer says so and nothing has changed.
