@@ -1,4 +1,5 @@
 pub mod Naming
+pub mod Named
 pub mod Readings
 pub mod Kept
 pub mod Commanded

@@ -10,6 +10,7 @@ pub mod Days
 pub mod CommandRows
 pub mod CommandSearch
 pub mod Bounds
+pub mod Named
 pub mod Laws
 pub mod Scripts
 pub mod Fields

@@ -50,7 +50,7 @@ pub use command_rows::row_of_command;
 pub use day_file::{DayFile, read_day};
 pub use demands::{has_only, number_in};
 pub use fields::{parse_day, parse_name, parse_number};
-pub use laws::{commands_have_one_row, day_files_are_bounded};
+pub use laws::{commands_have_one_row, day_files_are_bounded, day_files_are_named};
 pub use office_words::Command;
 pub use orders::Order;
 pub use posted::{Posted, parse_posted};
