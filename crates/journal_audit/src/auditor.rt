@@ -57,6 +57,13 @@ impl Auditor {
         })
     }
 
+    /// What the office keeps that was gone through again. Takes no memory.
+    pub(crate) fn into_replay(self) -> Replay
+        ensures { result ≡ self.replay }
+    {
+        self.replay
+    }
+
     /// Whether an entry is a step of the office's machine, from what the entries before it leave. If it is, the auditor is behind
     /// it then.
     pub(crate) fn judge<L: Ledger>(

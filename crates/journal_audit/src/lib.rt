@@ -18,7 +18,7 @@ mod seat;
 mod verdict;
 mod versions;
 
-pub use auditing::audit;
+pub use auditing::{audit, go_through};
 pub use laws::verdicts_are_one;
 pub use sameness::are_same_routes;
-pub use verdict::Verdict;
+pub use verdict::{Audited, Verdict};

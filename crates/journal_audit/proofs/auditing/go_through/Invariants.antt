@@ -1,4 +1,4 @@
-use Rattle.journal_audit.proofs.auditing.audit.Given as goal
+use Rattle.journal_audit.proofs.auditing.go_through.Given as goal
 
 abbrev pub ghosts-judge_all : goal.ghosts-judge_all
 ghosts-judge_all a = record { name = a.blank.name; parts = a.blank.parts }
