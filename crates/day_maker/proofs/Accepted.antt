@@ -9,16 +9,17 @@ use Rattle.day_text.specs.Records.{Row, rows_of, judged}
 use Rattle.day_text.specs.Days.{DayParts, day_of, ended_day, judge_day, fresh_day, opening_of, file_parts_of}
 use Rattle.day_maker.specs.Making.{Maker, ◌>>◌}
 use Rattle.day_maker.specs.Made.{actors, commands, last_record, made_day, made_rows, nodes, segments, spans, trucks}
-use Rattle.day_maker.specs.Texts.{line, row}
+use Rattle.day_writer.specs.Texts.{line, row}
 use Rattle.day_maker.proofs.Fleets.{InTraffic, actors_lead, four_actors, four_trucks, traffic_begins, trucks_lead}
 use Rattle.day_maker.proofs.Grids.{grid_none}
-use Rattle.day_maker.proofs.Judge.{DayProgress, open_day}
-use Rattle.day_maker.proofs.Leading.{Ends, ends_put, ends_then, from_append, from_one, leads_weaker}
+use Rattle.day_writer.proofs.Judge.{DayProgress, open_day}
+use Rattle.day_maker.proofs.Leading.{Ends, ends_put, ends_then, leads_weaker}
+use Rattle.day_writer.proofs.Leading.{from_append, from_one}
 use Rattle.day_maker.proofs.Nodes.{InNodes, nodes_lead}
 use Rattle.day_maker.proofs.Orders.{commands_lead}
 use Rattle.day_maker.proofs.Segments.{InSegments, segments_begin, segments_lead}
 use Rattle.day_maker.proofs.Spans.{InSpans, spans_begin, spans_lead}
-use Rattle.day_maker.proofs.Texts.{IsPlainRow, rows_read}
+use Rattle.day_writer.proofs.Plain.{IsPlainRow, rows_read}
 
 -- the records behind the opening day
 abbrev later : ℕ → Maker

@@ -16,16 +16,18 @@ use Rattle.day_text.specs.Days.{judge_day}
 use Rattle.day_text.specs.Fleets.{actors_of, fleet_of, truck_names}
 use Rattle.day_text.specs.Trucks.{load_of, truck_fields_of}
 use Rattle.day_maker.specs.Making.{◌>>=◌, ◌>>◌, draw, each, put}
-use Rattle.day_maker.specs.Made.{actor, actor_name, actors, axles, axles_text, carrier_name, truck, truck_name, trucks}
-use Rattle.day_maker.specs.Texts.{row}
-use Rattle.day_maker.proofs.Axles.{axles_read, axles_small, axles_some, is_train}
-use Rattle.day_maker.proofs.Judge.{DaySoFar, open_day}
+use Rattle.day_maker.specs.Made.{actor, actor_name, actors, axles, carrier_name, truck, truck_name, trucks}
+use Rattle.day_writer.specs.Texts.{axles_text, row}
+use Rattle.day_maker.proofs.Axles.{axles_small, axles_some, is_train}
+use Rattle.day_writer.proofs.Trains.{IsSmall, axles_plain, axles_read}
+use Rattle.day_writer.proofs.Judge.{DaySoFar, open_day}
 use Rattle.day_maker.proofs.Leading.{Leads, leads_draw, leads_drawn, leads_nothing, leads_put, leads_then}
-use Rattle.day_maker.proofs.Leaves.{number_ok, numbered_ok}
-use Rattle.day_maker.proofs.Plain.{IsSmall, axles_plain, number_plain, numbered_plain}
+use Rattle.day_maker.proofs.Leaves.{numbered_ok}
+use Rattle.day_writer.proofs.Leaves.{number_ok}
+use Rattle.day_maker.proofs.Plain.{numbered_plain}
 use Rattle.day_maker.proofs.Segments.{HasNodes}
 use Rattle.day_maker.proofs.Spans.{HasEast, InSpans}
-use Rattle.day_maker.proofs.Texts.{IsPlain}
+use Rattle.day_writer.proofs.Plain.{IsPlain, number_plain}
 
 -- the roads are there, and these trucks and actors, and at most so many commands
 pub record InTraffic (z : ℕ) (ts names : List (List ℕ)) (n : ℕ) (d : DaySoFar) : Type 0 where

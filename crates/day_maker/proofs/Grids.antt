@@ -5,7 +5,7 @@ use Rattle.std.proofs.lemmas.Bool.{cases_lt}
 use Rattle.road_graph.specs.Roads.{has_name}
 use Rattle.day_maker.specs.Made.{cell}
 use Rattle.day_maker.proofs.Leaves.{cell_injective}
-use Rattle.day_maker.proofs.Named.{IsThere, not_there, there_now, there_still}
+use Rattle.day_writer.proofs.Named.{IsThere, not_there, there_now, there_still}
 
 pub all_map : {A : Type 0} (P Q : A → Type 0) → ((x : A) → P x → Q x) → (xs : List A) → AllByRecursion P xs → AllByRecursion Q xs
 all_map P Q f [] h = tt

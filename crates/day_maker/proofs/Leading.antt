@@ -1,46 +1,17 @@
 -- Where what is made leads the judge of day files, whatever is drawn.
-use Rattle.std.proofs.Common.{◌≡◌, ◌∙◌, ◌<◌, ◌≤◌, ◌+◌, ◌%◌, ◌∷◌, ◌++◌, [], ℕ, zero, suc, List, Result, Ok, Err, Bool, true, false, refl, ap, subst, arith}
+use Rattle.std.proofs.Common.{◌≡◌, ◌<◌, ◌≤◌, ◌+◌, ◌%◌, ℕ, zero, suc, Ok, Bool, true, false, refl, subst, arith}
 use Rattle.std.specs.List.{AllByRecursion}
-use Rattle.day_text.specs.Records.{Row, go_on, judge_record, judged}
-use Rattle.day_text.specs.declared.refusal.Cause.{Cause}
+use Rattle.day_text.specs.Records.{Row}
 use Rattle.day_text.specs.Days.{DayParts, ended_day, judge_day}
 use Rattle.day_maker.specs.Making.{Draws, Maker, ◌>>◌, drawn, each, nothing, put, when}
-use Rattle.day_maker.proofs.Judge.{DayProgress, DaySoFar, open_day}
-use Rattle.day_maker.proofs.Texts.{IsPlainRow, plain_record}
-
--- the records lead from one place to another
-abbrev pub LeadsFrom : DayProgress → List Row → DayProgress → Type 0
-LeadsFrom p rows q = (k : ℕ) → (j : ℕ) × (judged judge_day k p rows ≡ Ok (j, q))
-
-pub from_append : (p q r : DayProgress) (xs ys : List Row) → LeadsFrom p xs q → LeadsFrom q ys r → LeadsFrom p (xs ++ ys) r
-from_append p q r xs ys h i k =
-    let (j, e) = h k in
-    let (l, f) = i j in
-    (l, joined xs k p e ∙ f)
-  where
-    joined : {j : ℕ} (zs : List Row) (k : ℕ) (s : DayProgress) → judged judge_day k s zs ≡ Ok (j, q) → judged judge_day k s (zs ++ ys) ≡ judged judge_day j q ys
-    joined {j} [] k s e =
-        let left : ℕ × DayProgress = (k, s) in
-        let right : ℕ × DayProgress = (j, q) in
-        let same : left ≡ right = cc in
-        ap (λ (x : ℕ × DayProgress). judged judge_day x.0 x.1 ys) same
-    joined {j} (z ∷ zs) k s e = by (judge_record judge_day s z) e (λ next g. joined zs (k + 1) next g)
-      where
-        by : (o : Result DayProgress Cause) → go_on k o (λ next. judged judge_day (k + 1) next zs) ≡ Ok (j, q) → ((next : DayProgress) → judged judge_day (k + 1) next zs ≡ Ok (j, q) → judged judge_day (k + 1) next (zs ++ ys) ≡ judged judge_day j q ys) → go_on k o (λ next. judged judge_day (k + 1) next (zs ++ ys)) ≡ judged judge_day j q ys
-        by (Ok next) g more = more next g
-        by (Err c) g more = absurd (cc g)
-
-pub from_one : (p q : DayProgress) (fields : Row) → IsPlainRow fields → judge_day p fields ≡ Ok q → LeadsFrom p (fields ∷ []) q
-from_one p q fields plain h k = (k + 1, rw (plain_record fields plain, h) refl)
+use Rattle.day_writer.proofs.Judge.{DayProgress, DaySoFar, open_day}
+use Rattle.day_writer.proofs.Leading.{LeadsFrom, from_append, from_one}
+use Rattle.day_writer.proofs.Plain.{IsPlainRow, all_rows}
 
 -- what is made leads from one kind of what stands so far to another, and is of ASCII
 pub record Leads (P : DaySoFar → Type 0) (make : Maker) (Q : DaySoFar → Type 0) : Type 0 where
   pub leads : (x : ℕ) (d : DaySoFar) → P d → (e : DaySoFar) × LeadsFrom (open_day d) (make x).rows (open_day e) × Q e
   pub plain : (x : ℕ) → AllByRecursion IsPlainRow (make x).rows
-
-all_both : (xs ys : List Row) → AllByRecursion IsPlainRow xs → AllByRecursion IsPlainRow ys → AllByRecursion IsPlainRow (xs ++ ys)
-all_both [] ys h k = k
-all_both (x ∷ xs) ys (h, hs) k = (h, all_both xs ys hs k)
 
 -- one record
 pub leads_put : (P Q : DaySoFar → Type 0) (fields : Row) → IsPlainRow fields → ((d : DaySoFar) → P d → (e : DaySoFar) × (judge_day (open_day d) fields ≡ Ok (open_day e)) × Q e) → Leads P (put fields) Q
@@ -56,7 +27,7 @@ leads_then P Q R first second h i = record {
       let (e, one, q) = h.leads x d p in
       let (f, two, r) = i.leads (first x).next e q in
       (f, from_append (open_day d) (open_day e) (open_day f) (first x).rows (second (first x).next).rows one two, r);
-  plain = λ x. all_both (first x).rows (second (first x).next).rows (h.plain x) (i.plain (first x).next);
+  plain = λ x. all_rows (first x).rows (second (first x).next).rows (h.plain x) (i.plain (first x).next);
 }
 
 -- nothing
@@ -119,5 +90,5 @@ ends_then P Q first second h i = record {
       let (e, one, q) = h.leads x d p in
       let (f, two, end) = i.ends (first x).next e q in
       (f, from_append (open_day d) (open_day e) f (first x).rows (second (first x).next).rows one two, end);
-  plain = λ x. all_both (first x).rows (second (first x).next).rows (h.plain x) (i.plain (first x).next);
+  plain = λ x. all_rows (first x).rows (second (first x).next).rows (h.plain x) (i.plain (first x).next);
 }

@@ -1,37 +1,17 @@
 -- Names and numbers that are made, as the fields of a record.
-use Rattle.std.proofs.Common.{◌≡◌, ◌∙◌, ◌<◌, ◌≤◌, ◌^◌, ◌∷◌, ◌++◌, [], ℕ, List, Some, Bool, true, false, eqb, refl, ap, sym, arith, length, lit<, length-append}
-use Rattle.std.specs.Char.{is_ascii_digit}
+use Rattle.std.proofs.Common.{◌≡◌, ◌∙◌, ◌<◌, ◌≤◌, ◌^◌, ◌∷◌, ◌++◌, [], ℕ, Some, true, false, eqb, refl, ap, sym, arith, length, lit<, length-append}
 use Rattle.std.specs.Fmt.{decimal}
 use Rattle.std.specs.List.{All, list_all, slice_split}
-use Rattle.std.specs.Str.Parse.{AllDigits}
 use Rattle.std.proofs.lemmas.Bool.{le-leb, ne_eqb}
-use Rattle.std.proofs.lemmas.Bool.Decides.{nat_tests}
 use Rattle.std.proofs.lemmas.Fmt.{decimal_injective, decimal_is_IsNumeral, length-decimal-le}
 use Rattle.std.proofs.lemmas.List.Elements.{All-from_get_or}
-use Rattle.std.proofs.lemmas.List.Folds.{list_all-append}
 use Rattle.std.proofs.lemmas.List.Splits.{slice_split_at, slice_split_none}
-use Rattle.std.proofs.lemmas.Str.Parse.{digit_at, digit_from_value}
+use Rattle.std.proofs.lemmas.Str.Parse.{digit_at}
 use Rattle.names.specs.Names.{is_name_byte}
-use Rattle.day_text.specs.Fields.{name_field, number_field}
-use Rattle.day_text.proofs.Numbers.{number_read}
+use Rattle.day_text.specs.Fields.{name_field}
 use Rattle.day_maker.specs.Made.{cell, numbered_name}
-
--- what holds of each digit holds of a number's text
-digits_all : (P : ℕ → Bool) → ((b : ℕ) → 48 ≤ b → b ≤ 57 → P b ≡ true) → (ds : List ℕ) → AllDigits 10 ds → list_all P ds ≡ true
-digits_all P p [] h = refl
-digits_all P p (d ∷ ds) (h, hs) = let r = digit_from_value d h in rw (p d r.0 r.1) (digits_all P p ds hs)
-
-pub decimal_all : (P : ℕ → Bool) → ((b : ℕ) → 48 ≤ b → b ≤ 57 → P b ≡ true) → (n : ℕ) → n < 2 ^ 64 → list_all P (decimal n) ≡ true
-decimal_all P p n h = digits_all P p (decimal n) (decimal_is_IsNumeral n h).0.1
-
-pub all_append : (P : ℕ → Bool) (xs ys : List ℕ) → list_all P xs ≡ true → list_all P ys ≡ true → list_all P (xs ++ ys) ≡ true
-all_append P xs ys h k = rw (list_all-append P xs ys, h) k
-
-digit_is_name_byte : (b : ℕ) → 48 ≤ b → b ≤ 57 → is_name_byte b ≡ true
-digit_is_name_byte b h k = rw (le-leb 48 b h, le-leb b 57 k) refl
-
-digit_is_digit : (b : ℕ) → 48 ≤ b → b ≤ 57 → is_ascii_digit b ≡ true
-digit_is_digit b h k = grind (arith, nat_tests)
+use Rattle.day_writer.proofs.Leaves.{digit_is_name_byte}
+use Rattle.day_writer.proofs.Plain.{all_append, decimal_all}
 
 -- the name of a place of the grid
 pub cell_ok : (letter r c : ℕ) → is_name_byte letter ≡ true → r < 100 → c < 100 → name_field (cell letter r c) ≡ Some (cell letter r c)
@@ -67,9 +47,3 @@ cell_injective l r c l' r' c' h k h' k' e =
     let one : decimal r ≡ decimal r' = cc (parts) in
     let two : decimal c ≡ decimal c' = cc (parts) in
     (head, decimal_injective r r' (omega arith) (omega arith) one, decimal_injective c c' (omega arith) (omega arith) two)
-
--- a number below a billion
-pub number_ok : (n : ℕ) → n < 1000000000 → number_field (decimal n) ≡ Some n
-number_ok n h =
-    let d = decimal_is_IsNumeral n (omega arith) in
-    number_read (decimal n) d.0.0 (length-decimal-le 9 n (lit< tt) h (omega arith)) (decimal_all is_ascii_digit digit_is_digit n (omega arith)) ∙ ap Some d.1

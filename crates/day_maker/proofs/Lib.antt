@@ -1,12 +1,9 @@
 pub mod Pages
 pub mod Writing
-pub mod Leaves
-pub mod Named
-pub mod Grids
-pub mod Texts
 pub mod Plain
+pub mod Leaves
+pub mod Grids
 pub mod Axles
-pub mod Judge
 pub mod Leading
 pub mod Nodes
 pub mod Segments

@@ -9,10 +9,10 @@ use Rattle.day_text.specs.Days.{judge_day}
 use Rattle.day_text.specs.Roads.{with_node_of}
 use Rattle.day_maker.specs.Making.{each}
 use Rattle.day_maker.specs.Made.{node, node_name, nodes}
-use Rattle.day_maker.specs.Texts.{row}
+use Rattle.day_writer.specs.Texts.{row}
 use Rattle.std.specs.Prelude.{codes}
 use Rattle.day_maker.proofs.Grids.{Grid, grid_column, grid_fresh, grid_more, grid_row}
-use Rattle.day_maker.proofs.Judge.{DaySoFar, open_day}
+use Rattle.day_writer.proofs.Judge.{DaySoFar, open_day}
 use Rattle.day_maker.proofs.Leading.{Leads, leads_each, leads_put, leads_weaker}
 use Rattle.day_maker.proofs.Leaves.{cell_ok}
 use Rattle.day_maker.proofs.Plain.{cell_plain}

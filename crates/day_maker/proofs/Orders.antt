@@ -14,13 +14,15 @@ use Rattle.day_text.specs.Fleets.{truck_names}
 use Rattle.day_text.specs.declared.orders.Order.{Order}
 use Rattle.day_maker.specs.Making.{◌>>=◌, draw, put}
 use Rattle.day_maker.specs.Made.{actor_name, application, command as made_command, commands, east_name, node_name, posting, truck_name}
-use Rattle.day_maker.specs.Texts.{row}
+use Rattle.day_writer.specs.Texts.{row}
 use Rattle.day_maker.proofs.Fleets.{InTraffic, four_actors, four_trucks}
-use Rattle.day_maker.proofs.Judge.{DaySoFar, open_day}
+use Rattle.day_writer.proofs.Judge.{DaySoFar, open_day}
 use Rattle.day_maker.proofs.Leading.{Leads, leads_draw, leads_each, leads_put}
-use Rattle.day_maker.proofs.Leaves.{cell_injective, cell_ok, number_ok, numbered_ok}
-use Rattle.day_maker.proofs.Named.{IsThere, one_name, there_now, there_still}
-use Rattle.day_maker.proofs.Plain.{cell_plain, number_plain, numbered_plain}
+use Rattle.day_maker.proofs.Leaves.{cell_injective, cell_ok, numbered_ok}
+use Rattle.day_writer.proofs.Leaves.{number_ok}
+use Rattle.day_writer.proofs.Named.{IsThere, one_name, there_now, there_still}
+use Rattle.day_writer.proofs.Plain.{number_plain}
+use Rattle.day_maker.proofs.Plain.{cell_plain, numbered_plain}
 
 -- the engineer is the last actor
 engineer : number_named (codes "eng") four_actors ≡ Some 3

@@ -5,7 +5,8 @@ use Rattle.std.proofs.lemmas.List.{append-nil}
 use Rattle.axle_train.specs.declared.axle.Axle.{Axle}
 use Rattle.day_maker.specs.Making.{Maker, ◌>>◌, ◌>>=◌, draw, drawn, each, nothing}
 use Rattle.day_maker.specs.Made.{more_axles}
-use Rattle.day_maker.specs.Texts.{PageParts, page_after, line}
+use Rattle.day_maker.specs.Texts.{PageParts, page_after}
+use Rattle.day_writer.specs.Texts.{line}
 
 -- nothing more
 pub after_nothing : (p : PageParts) → page_after nothing p ≡ p

@@ -13,15 +13,16 @@ use Rattle.day_text.specs.Days.{judge_day}
 use Rattle.day_text.specs.Roads.{with_segment_of}
 use Rattle.day_maker.specs.Making.{◌>>◌, each, when}
 use Rattle.day_maker.specs.Made.{cell, east_name, eastward, joining_segments, node_name, north_name, segment, segments, south_name, southward, west_name}
-use Rattle.day_maker.specs.Texts.{row}
+use Rattle.day_writer.specs.Texts.{row}
 use Rattle.day_maker.proofs.Grids.{Grid, IsIn, grid_column, grid_fresh, grid_more, grid_none, grid_row, grid_wider}
-use Rattle.day_maker.proofs.Judge.{DaySoFar, open_day}
+use Rattle.day_writer.proofs.Judge.{DaySoFar, open_day}
 use Rattle.day_maker.proofs.Leading.{Leads, leads_draw, leads_each, leads_put, leads_then, leads_weaker, leads_when}
-use Rattle.day_maker.proofs.Leaves.{cell_ok, number_ok}
-use Rattle.day_maker.proofs.Named.{IsThere}
+use Rattle.day_maker.proofs.Leaves.{cell_ok}
+use Rattle.day_writer.proofs.Leaves.{number_ok}
+use Rattle.day_writer.proofs.Named.{IsThere}
 use Rattle.day_maker.proofs.Nodes.{InNodes, few_places}
-use Rattle.day_maker.proofs.Plain.{cell_plain, number_plain}
-use Rattle.day_maker.proofs.Texts.{is_plain}
+use Rattle.day_maker.proofs.Plain.{cell_plain}
+use Rattle.day_writer.proofs.Plain.{is_plain, number_plain}
 
 -- all nodes are there
 abbrev pub HasNodes : ℕ → List (List ℕ) → Type 0

@@ -13,14 +13,16 @@ use Rattle.day_text.specs.Days.{judge_day}
 use Rattle.day_text.specs.Roads.{with_span_of}
 use Rattle.day_maker.specs.Making.{◌>>=◌, draw, each, put}
 use Rattle.day_maker.specs.Made.{east_name, span, span_name, spans}
-use Rattle.day_maker.specs.Texts.{row}
+use Rattle.day_writer.specs.Texts.{row}
 use Rattle.day_maker.proofs.Grids.{Grid, IsMade, all_last, all_map, grid_column, grid_fresh, grid_more, grid_none, grid_row, place_passed, row_passed}
-use Rattle.day_maker.proofs.Judge.{DaySoFar, open_day}
+use Rattle.day_writer.proofs.Judge.{DaySoFar, open_day}
 use Rattle.day_maker.proofs.Leading.{Leads, leads_draw, leads_each, leads_put, leads_weaker}
-use Rattle.day_maker.proofs.Leaves.{cell_injective, cell_ok, number_ok}
-use Rattle.day_maker.proofs.Named.{IsThere, one_name}
+use Rattle.day_maker.proofs.Leaves.{cell_injective, cell_ok}
+use Rattle.day_writer.proofs.Leaves.{number_ok}
+use Rattle.day_writer.proofs.Named.{IsThere, one_name}
 use Rattle.day_maker.proofs.Nodes.{few_places}
-use Rattle.day_maker.proofs.Plain.{cell_plain, number_plain}
+use Rattle.day_writer.proofs.Plain.{number_plain}
+use Rattle.day_maker.proofs.Plain.{cell_plain}
 use Rattle.day_maker.proofs.Segments.{HasNodes, InSegments}
 
 -- all segments to the east are there

@@ -1,7 +1,8 @@
 -- The texts of fields.
 use Rattle.std.specs.Prelude.{ℕ, List}
 use Rattle.std.specs.Fmt.{decimal}
-use Rattle.day_maker.specs.Made.{axles_text, cell, numbered_name}
+use Rattle.day_writer.specs.Texts.{axles_text}
+use Rattle.day_maker.specs.Made.{cell, numbered_name}
 use Rattle.day_maker.specs.declared.field.Field.{Field}
 use Rattle.day_maker.specs.declared.field.Field.TheVariants.{Axles, Cell, Number, Numbered, Word}
 

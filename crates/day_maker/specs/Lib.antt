@@ -1,6 +1,5 @@
 pub mod Making
 pub mod Texts
-pub mod Writers
 pub mod Made
 pub mod Fields
 pub mod Laws

@@ -1,10 +1,10 @@
 -- The day file of a seed and a size z: its records, in their order. Fields are drawn in the order in which they are named.
-use Rattle.std.specs.Prelude.{ℕ, zero, suc, ◌+◌, ◌*◌, ◌%◌, ◌==◌, nat_lt, if◌then◌else◌, List, [], ◌∷◌, ◌++◌, codes, flat_map}
+use Rattle.std.specs.Prelude.{ℕ, zero, suc, ◌+◌, ◌*◌, ◌%◌, ◌==◌, nat_lt, if◌then◌else◌, List, [], ◌∷◌, ◌++◌, codes}
 use Rattle.std.specs.Fmt.{decimal}
 use Rattle.axle_train.specs.declared.axle.Axle.{Axle}
 use Rattle.day_text.specs.Records.{Row}
 use Rattle.day_maker.specs.Making.{Draws, Maker, ◌>>=◌, ◌>>◌, draw, drawn, each, put, when}
-use Rattle.day_maker.specs.Texts.{line, row}
+use Rattle.day_writer.specs.Texts.{axles_text, row, text_of}
 
 -- a letter, a row, `-` and a column: the name of a place of the grid, or of something there
 unfoldable pub cell : ℕ → ℕ → ℕ → List ℕ
@@ -117,15 +117,6 @@ more_axles (suc count) place = λ x.
 unfoldable pub axles : ℕ → Draws (List Axle)
 axles more = λ x. let behind = more_axles more 180 x in (record { place = 0; weight = 12000 } ∷ behind.0, behind.1)
 
--- an axle, as PLACE:WEIGHT
-abbrev pub axle_text : Axle → List ℕ
-axle_text a = decimal a.place ++ (58 ∷ decimal a.weight)
-
--- axles, each as PLACE:WEIGHT, with one space between two of them
-abbrev pub axles_text : List Axle → List ℕ
-axles_text [] = []
-axles_text (a ∷ more) = axle_text a ++ flat_map (λ b. 32 ∷ axle_text b) more
-
 -- a truck of one of two carriers, with a drawn height, a drawn width and five to eight axles
 unfoldable pub truck : ℕ → Maker
 truck t = do
@@ -198,4 +189,4 @@ made_rows seed size = (day_maker size seed).rows
 
 -- the text of the day file that is made of a seed and a size
 unfoldable pub made_day : ℕ → ℕ → List ℕ
-made_day seed size = flat_map line (made_rows seed size)
+made_day seed size = text_of (made_rows seed size)

@@ -2,9 +2,10 @@
 
 ghost use Rattle.std.specs.Prelude.{◌≡◌, ◌++◌, OnOk};
 ghost use Rattle.day_maker.specs.Fields.{field_text};
-ghost use Rattle.day_maker.specs.Made.{axle_text, axles_text};
+ghost use Rattle.day_writer.specs.Texts.{axles_text};
 
 use axle_train::Axle;
+use day_writer::{FieldText, write_axle};
 use office_io::write_number;
 use std::alloc::AllocError;
 
@@ -18,25 +19,26 @@ pub(crate) enum Field<'a> {
     Axles(&'a [Axle]),
 }
 
-/// The text of a field.
-#[tactic(auto, unfolding(crate::specs::Made::cell))]
-pub(crate) fn write_field(out: &mut Vec<u8>, field: &Field) -> Result<(), AllocError>
-    ensures { OnOk result (out.new.items ≡ out.old.items ++ field_text field.now) }
-{
-    match *field {
-        Field::Word(word) => out.extend_from_slice(word.as_bytes()),
-        Field::Number(n) => write_number(out, n),
-        Field::Numbered(letter, n) => {
-            out.push(letter)?;
-            write_number(out, n)
+impl<'a> FieldText for Field<'a> {
+    ghost text = { field_text };
+
+    #[tactic(auto, unfolding(crate::specs::Made::cell))]
+    fn write(&self, out: &mut Vec<u8>) -> Result<(), AllocError> {
+        match *self {
+            Field::Word(word) => out.extend_from_slice(word.as_bytes()),
+            Field::Number(n) => write_number(out, n),
+            Field::Numbered(letter, n) => {
+                out.push(letter)?;
+                write_number(out, n)
+            }
+            Field::Cell(letter, r, c) => {
+                out.push(letter)?;
+                write_number(out, r)?;
+                out.push(b'-')?;
+                write_number(out, c)
+            }
+            Field::Axles(axles) => write_axles(out, axles),
         }
-        Field::Cell(letter, r, c) => {
-            out.push(letter)?;
-            write_number(out, r)?;
-            out.push(b'-')?;
-            write_number(out, c)
-        }
-        Field::Axles(axles) => write_axles(out, axles),
     }
 }
 
@@ -54,13 +56,4 @@ fn write_axles(out: &mut Vec<u8>, axles: &[Axle]) -> Result<(), AllocError>
         write_axle(out, *axle)?;
     }
     Ok(())
-}
-
-// The place and the weight of an axle.
-fn write_axle(out: &mut Vec<u8>, axle: Axle) -> Result<(), AllocError>
-    ensures { OnOk result (out.new.items ≡ out.old.items ++ axle_text axle) }
-{
-    write_number(out, axle.place)?;
-    out.push(b':')?;
-    write_number(out, axle.weight)
 }

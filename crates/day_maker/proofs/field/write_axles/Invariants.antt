@@ -1,6 +1,6 @@
 use Rattle.std.proofs.Common.{◌≡◌, ◌∷◌, ◌++◌, take}
 use Rattle.std.specs.Prelude.{flat_map}
-use Rattle.day_maker.specs.Made.{axle_text}
+use Rattle.day_writer.specs.Texts.{axle_text}
 use Rattle.day_maker.proofs.field.write_axles.Given as goal
 
 abbrev pub invariant-more : goal.invariant-more

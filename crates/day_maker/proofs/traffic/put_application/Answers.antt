@@ -2,7 +2,7 @@ use Rattle.std.proofs.Common.{◌∷◌, ◌+◌, [], ℕ}
 use Rattle.std.specs.Prelude.{codes}
 use Rattle.day_maker.specs.Making.{Maker, ◌>>=◌, draw, put}
 use Rattle.day_maker.specs.Made.{actor_name, application, node_name, truck_name}
-use Rattle.day_maker.specs.Texts.{row}
+use Rattle.day_writer.specs.Texts.{row}
 use Rattle.day_maker.proofs.Pages.{draw_then}
 use Rattle.day_maker.proofs.traffic.put_application.Goals as goal
 

@@ -1,0 +1,17 @@
+pub mod Judge
+pub mod Named
+pub mod Plain
+pub mod Writing
+pub mod SheetRows
+pub mod Leaves
+pub mod Lists
+pub mod Splits
+pub mod Leading
+pub mod RoadsRead
+pub mod LimitsRead
+pub mod SpansRead
+pub mod Trains
+pub mod TrafficRead
+pub mod AskedRead
+pub mod CommandsRead
+pub mod Written

@@ -1,0 +1,9 @@
+pub mod Texts
+pub mod Writers
+pub mod Fields
+pub mod Limits
+pub mod Orders
+pub mod Sheets
+pub mod Rows
+pub mod Writable
+pub mod Laws
