@@ -4,3 +4,5 @@ pub mod Standing
 pub mod Completing
 pub mod Fronts
 pub mod Seating
+pub mod Asking
+pub mod Issuing
