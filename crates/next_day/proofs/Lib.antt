@@ -1,0 +1,15 @@
+pub mod InForce
+pub mod Days
+pub mod Trucks
+pub mod Again
+pub mod Facts
+pub mod Numbers
+pub mod Begins
+pub mod Ordered
+pub mod NextBegins
+pub mod RoadsStay
+pub mod InRange
+pub mod Kept
+pub mod Entries
+pub mod Writable
+pub mod Collecting
