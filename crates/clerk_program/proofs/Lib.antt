@@ -1,6 +1,10 @@
 pub mod Verdicts
 pub mod Served
-pub mod Certificates
+pub mod Wholes
+pub mod Unfit
 pub mod Refusing
+pub mod Certificates
+pub mod Carrying
 pub mod Written
 pub mod Statuses
+pub mod NextSheet

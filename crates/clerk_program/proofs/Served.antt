@@ -1,5 +1,5 @@
 -- A whole history that an office can have serves its day, and one that serves a day can be had by an office.
-use Rattle.std.proofs.Common.{◌≡◌, ◌∙◌, ◌*◌, ◌<◌, ◌≤◌, ℕ, zero, suc, List, Ok, length, refl, ap, sym, arith}
+use Rattle.std.proofs.Common.{◌≡◌, ◌*◌, ◌≤◌, ℕ, zero, suc, List, Ok, length, arith}
 use Rattle.std.proofs.lemmas.List.{length-map}
 use Rattle.office_words.specs.declared.entry.Entry.{Entry}
 use Rattle.office_core.specs.Machine.{IsLegal, entries_by}
@@ -12,7 +12,7 @@ use Rattle.day_text.proofs.Counts.{below, below-le, below-same, count_all, havin
 use Rattle.day_text.proofs.EveryDay.{day_bounded, day_keeps}
 use Rattle.day_run.specs.Served.{IsServed}
 use Rattle.journal_whole.specs.Wholes.{IsWhole}
-use Rattle.clerk_program.specs.Certify.{IsOfficeHistory}
+use Rattle.clerk_program.specs.WholeJournals.{IsOfficeHistory}
 
 module _ (bytes : List ℕ) (file : DayParts) (read : day_of bytes ≡ Ok file) (es : List Entry) where
   pub serves : IsLegal file.base file.day es → IsWhole (length file.actors) file.commands es → IsServed file es

@@ -1,6 +1,5 @@
 -- What is said of a history of any length, by the audit of as many entries as an office can have.
 use Rattle.std.proofs.Common.{◌≡◌, ◌⊎◌, ◌<◌, ◌≤◌, ◌+◌, ℕ, List, length, take, refl, ap, sym, subst, arith, inl, inr}
-use Rattle.std.specs.Prelude.{min}
 use Rattle.std.proofs.lemmas.Bool.{cases_lt}
 use Rattle.std.proofs.lemmas.List.{length-take, take_all, take-take}
 use Rattle.trip_analysis.specs.Bases.{BaseLists}
@@ -9,7 +8,7 @@ use Rattle.journal_audit.specs.declared.verdict.Verdict.{Verdict}
 use Rattle.journal_audit.specs.declared.verdict.Verdict.TheVariants.{Bad, Legal}
 use Rattle.journal_audit.specs.Verdicts.{IsVerdict}
 use Rattle.journal_audit.proofs.Fronts.{front_legal}
-use Rattle.clerk_program.specs.Certify.{IsFirstOutside, IsOfficeHistory, IsOfficeVerdict}
+use Rattle.clerk_program.specs.WholeJournals.{IsFirstOutside, IsOfficeHistory, IsOfficeVerdict}
 
 module _ (base : BaseLists) (day : List ℕ) (es : List Entry) where
   front_kept : (n : ℕ) → IsOfficeHistory base day es → IsOfficeHistory base day (take n es)

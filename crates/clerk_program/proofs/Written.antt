@@ -16,7 +16,8 @@ use Rattle.journal_reader.proofs.Spelled.{entry_again}
 use Rattle.journal_reader.proofs.Whole.{end_is_line, entry_line, header_is_line}
 use Rattle.day_run.specs.Served.{IsServed}
 use Rattle.permit_program.specs.Headline.{Headline}
-use Rattle.clerk_program.specs.Certify.{HasSizes, certify, whole_history_line}
+use Rattle.clerk_program.specs.Certify.{certify, whole_history_line}
+use Rattle.clerk_program.specs.WholeJournals.{HasSizes}
 use Rattle.clerk_program.proofs.Certificates.{taken_where_promised}
 
 -- a line that begins with `end ` is no entry's
@@ -64,15 +65,17 @@ written_whole day journal h fits sizes =
     (taken_where_promised (journal ++ day)).1 (
       whole_history_line (length h.history),
       record {
-        journal = journal;
-        behind = day;
-        cut = subst (λ (j : List ℕ). IsCutBehindEnd (j ++ day) j day) (sym h.journal) (cut_at_end h.history day fits);
-        sizes = sizes;
-        history = h.history;
-        read = read;
-        file = h.file;
-        day_read = h.read;
-        served = served;
+        whole = record {
+          journal = journal;
+          behind = day;
+          cut = subst (λ (j : List ℕ). IsCutBehindEnd (j ++ day) j day) (sym h.journal) (cut_at_end h.history day fits);
+          sizes = sizes;
+          history = h.history;
+          read = read;
+          file = h.file;
+          day_read = h.read;
+          served = served;
+        };
         line = refl;
       },
     )

@@ -1,17 +1,19 @@
-// The judgement of a history by the day file that it is to be of.
+// The judgement of a history by the parts of the day file that it is to be of.
 
-ghost use Rattle.std.specs.Prelude.{◌≡◌, ◌↔◌, ◌<◌, IfErr, IfOk, Ok, OnOk, length, true};
+ghost use Rattle.std.specs.Prelude.{◌≡◌, ◌↔◌, ◌<◌, ◌≤◌, IfErr, IfOk, Ok, OnOk, length, true};
+ghost use Rattle.std.specs.Arc.{arc_value};
 ghost use Rattle.day_text.specs.CommandRows.{HasCommandAt};
-ghost use Rattle.day_text.specs.Days.{day_of};
+ghost use Rattle.day_text.specs.Days.{DayParts, day_of};
 ghost use Rattle.day_text.specs.Records.{rows_of};
-ghost use Rattle.clerk_program.specs.Certify.{HasSizes, IsOfficeVerdict};
-ghost use Rattle.clerk_program.specs.Judging.{IsHistoryRefusal, IsKeptAndWhole};
+ghost use Rattle.journal_whole.specs.Wholes.{IsWhole};
+ghost use Rattle.clerk_program.specs.Judging.{IsEntryRefusal, IsFileOf, IsHad, IsOrderRefusal};
+ghost use Rattle.clerk_program.specs.WholeJournals.{HasSizes};
 
 use crate::refusals::{of_lack, of_stray};
-use day_text::{DayFile, prepare, row_of_command};
-use journal_audit::{Verdict, audit};
+use day_text::{Order, row_of_command};
+use journal_audit::{Audited, go_through};
 use journal_whole::{Wholeness, judge};
-use names::NoMemory;
+use office_core::Replay;
 use office_words::Entry;
 use permit_days::Day;
 use permit_program::Refusal;
@@ -22,7 +24,7 @@ use trip_analysis::Base;
 // How many bytes a journal has at the most, and a day file behind it.
 const MOST_JOURNAL: usize = 268_435_456;
 
-const MOST_DAY: usize = 4_194_304;
+pub(crate) const MOST_DAY: usize = 4_194_304;
 
 // How many entries an office can have.
 const MOST_ENTRIES: usize = 1_000_000;
@@ -34,46 +36,46 @@ pub(crate) fn are_sized(journal: &[u8], behind: &[u8]) -> bool
     journal.len() <= MOST_JOURNAL && behind.len() <= MOST_DAY
 }
 
-/// Judges a history by the day file that these bytes are: whether an office can have it, and whether it is one of all commands of
-/// the file.
-pub(crate) fn judge_history(
+/// What an office of the base keeps that opened on this day, behind a history that it can have. Else the refusal names the first entry
+/// with which it can't.
+pub(crate) fn judge_entries(
     alloc: Global,
-    file: DayFile,
-    bytes: &[u8],
+    base: Arc<Base, Global>,
+    day: Day,
     history: &[Entry],
-) -> Result<(), Refusal>
-    requires read { day_of bytes.now ≡ Ok file }
-    ensures whole { OnOk result (IsKeptAndWhole file history.now) }
-    ensures refused { IfErr result (IsHistoryRefusal (rows_of bytes.now) file history.now) }
+) -> Result<Replay, Refusal>
+    ensures had { IfOk result (IsHad (arc_value base) day history.now) }
+    ensures refused { IfErr result (IsEntryRefusal (arc_value base) day history.now) }
 {
-    let file = prepare(alloc, file)?;
-    let (base, day, actors, commands) = file.into_parts();
-    match judge_entries(alloc, base, day, history)? {
-        Verdict::Legal => {}
-        Verdict::Bad { entry } => return Err(Refusal::of_entry(alloc, entry)),
-    }
-    match judge(alloc, actors.len(), commands.as_slice(), history)? {
-        Wholeness::Whole => Ok(()),
-        Wholeness::Strays { entry } => Err(of_stray(alloc, entry)),
-        Wholeness::Lacks { order } => Err(of_lack(alloc, row_of_command(alloc, bytes, order)?)),
+    let most = history.len().min(MOST_ENTRIES);
+    match go_through(alloc, base, day, &history[..most])? {
+        Audited::Legal(office) => {
+            if history.len() > most {
+                drop(office);
+                return Err(Refusal::of_entry(alloc, most));
+            }
+            Ok(office)
+        }
+        Audited::Bad { entry } => Err(Refusal::of_entry(alloc, entry)),
     }
 }
 
-// Whether the history is one that an office of the base can have which opened on this day, and else the first entry with which it
-// is none.
-fn judge_entries(
+/// Whether a history is one of all these commands of so many actors, which are those of the day file that these bytes are.
+pub(crate) fn judge_orders(
     alloc: Global,
-    base: Base,
-    day: Day,
+    actors: usize,
+    commands: &[Order],
+    bytes: &[u8],
     history: &[Entry],
-) -> Result<Verdict, NoMemory>
-    ensures { IfOk result (IsOfficeVerdict base day history.now) }
+) -> Result<(), Refusal>
+    requires read { IsFileOf bytes.now commands.now }
+    requires few { length history.now ≤ 1000000 }
+    ensures whole { OnOk result (IsWhole actors commands.now history.now) }
+    ensures refused { IfErr result (IsOrderRefusal (rows_of bytes.now) actors commands.now history.now) }
 {
-    let most = history.len().min(MOST_ENTRIES);
-    let verdict = audit(alloc, Arc::new(alloc, base)?, day, &history[..most])?;
-    match verdict {
-        Verdict::Legal if history.len() > most => Ok(Verdict::Bad { entry: most }),
-        Verdict::Legal => Ok(Verdict::Legal),
-        Verdict::Bad { entry } => Ok(Verdict::Bad { entry }),
+    match judge(alloc, actors, commands, history)? {
+        Wholeness::Whole => Ok(()),
+        Wholeness::Strays { entry } => Err(of_stray(alloc, entry)),
+        Wholeness::Lacks { order } => Err(of_lack(alloc, row_of_command(alloc, bytes, order)?)),
     }
 }

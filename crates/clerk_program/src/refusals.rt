@@ -4,7 +4,7 @@ ghost use Rattle.std.specs.Prelude.{◌≡◌, ◌<◌, ◌∷◌, ◌++◌, [],
 ghost use Rattle.std.specs.Fmt.{decimal};
 ghost use Rattle.std.specs.String.{string_bytes};
 ghost use Rattle.permit_program.specs.Command.{IsCommandAnswer};
-ghost use Rattle.clerk_program.specs.Certify.{answer_to_bytes, answer_to_lack, answer_to_stray};
+ghost use Rattle.clerk_program.specs.WholeJournals.{answer_to_bytes, answer_to_lack, answer_to_stray};
 
 use names::NoMemory;
 use permit_program::Refusal;

@@ -44,6 +44,10 @@ pub named_by_text : {A : Type 0} (named : List ℕ → Option A) (f : Found) (o 
     → option_and_then named (option_map (λ s. s.now) o) ≡ option_and_then named (first_of (codes "COMMAND") (rows_of f))
 named_by_text named f o h = ap (option_and_then named) (h ∙ first_value-rows f (codes "COMMAND"))
 
+-- the getter of a text gives the text of an argument
+pub text_read : (f : Found) (id : List ℕ) (o : Option (Bor (List ℕ))) → option_map (λ s. s.now) o ≡ first_value f id → option_map (λ s. s.now) o ≡ first_of id (rows_of f)
+text_read f id o h = h ∙ first_value-rows f id
+
 -- what the getter of a `u32` reads of a text
 abbrev Gives : List ℕ → Result ℕ ParseIntError → Type 0
 Gives text r = ParsesUnsigned 32 10 text r × ExplainsUnsignedError 10 text r × HasUnsignedDigitsIfOk text r

@@ -28,6 +28,8 @@ pub enum Task {
 pub enum ClerkTask {
     /// A journal is certified as that of the whole of its day.
     Certify,
+    /// The next day's file is written: of the trucks, perhaps only those that hold a permit in force.
+    Carry { in_force: bool },
 }
 
 /// The numbers of the options. All are read with every task.

@@ -1,15 +1,15 @@
 // Reading the words of the clerk's command line.
 
-ghost use Rattle.std.specs.Prelude.{◌≡◌, IfErr, IfOk, None, Some, map};
+ghost use Rattle.std.specs.Prelude.{◌≡◌, IfErr, IfOk, None, Some, false, map};
 ghost use Rattle.std.specs.String.{string_bytes};
-ghost use Rattle.clap.specs.Words.{FailsBy, app_of, fault_of, found_of, matches_of, rows_of};
-ghost use Rattle.command_line.specs.Clerk.{clerk, clerk_asked_of, clerk_task_at, clerk_task_named};
+ghost use Rattle.clap.specs.Words.{FailsBy, app_of, fault_of, found_of, matches_of, rows_of, rule_of};
+ghost use Rattle.command_line.specs.Clerk.{clerk, clerk_asked_of, clerk_task_at, clerk_task_named, in_force_rule, is_flagged};
 ghost use Rattle.command_line.specs.declared.asked.WordsRefusal.TheVariants.{Usage};
 
 use crate::asked::{ClerkTask, WordsRefusal};
 use crate::office::command_word;
 use clap::error::ErrorKind;
-use clap::{ArgMatches, Command, Error};
+use clap::{Arg, ArgAction, ArgMatches, Command, Error};
 use std::alloc::{AllocError, Global};
 
 /// What the words after the clerk's name ask for: `Usage` exactly where they ask for nothing, but that want of memory may come in the
@@ -28,13 +28,24 @@ pub fn read_clerk_words(alloc: Global, words: &[String]) -> Result<ClerkTask, Wo
     }
 }
 
+// The flag `--in-force`.
+fn in_force<'a>(alloc: Global) -> Arg<'a>
+    ensures rule { rule_of result ≡ in_force_rule }
+    ensures local { result.global ≡ false }
+{
+    Arg::new(alloc, "in-force")
+        .long("in-force")
+        .action(ArgAction::SetTrue)
+}
+
 // The clerk's command line.
 fn clerk<'a>(alloc: Global) -> Result<Command<'a>, AllocError>
     ensures { IfOk result (λ c. app_of c ≡ clerk) }
 {
     Command::new(alloc, "permit_clerk")
         .no_binary_name(true)
-        .arg(command_word(alloc))
+        .arg(command_word(alloc))?
+        .arg(in_force(alloc))
 }
 
 // The matches of the words, where the command line takes them.
@@ -50,15 +61,26 @@ fn match_words<'a>(alloc: Global, words: &'a [String]) -> Result<ArgMatches<'a>,
 fn clerk_task_at(matches: &ArgMatches<'_>) -> Option<ClerkTask>
     ensures { result ≡ clerk_task_at (rows_of (found_of matches.now)) }
 {
-    clerk_task_named(matches.get_str("COMMAND")?)
+    clerk_task_named(matches.get_str("COMMAND")?, is_flagged(matches))
 }
 
-// The task that a word names.
-fn clerk_task_named(word: &str) -> Option<ClerkTask>
-    ensures { result ≡ clerk_task_named word.now }
+// Whether `--in-force` is given. The text of a flag is `true` or `false`.
+fn is_flagged(matches: &ArgMatches<'_>) -> bool
+    ensures { result ≡ is_flagged (rows_of (found_of matches.now)) }
+{
+    match matches.get_str("in-force") {
+        Some(text) => text == "true",
+        None => false,
+    }
+}
+
+// The task that a word names, with the flag.
+fn clerk_task_named(word: &str, in_force: bool) -> Option<ClerkTask>
+    ensures { result ≡ clerk_task_named in_force word.now }
 {
     match word {
         "certify" => Some(ClerkTask::Certify),
+        "carry" => Some(ClerkTask::Carry { in_force }),
         _ => None,
     }
 }

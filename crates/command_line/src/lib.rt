@@ -4,7 +4,7 @@
 //! options `--seed`, `--size`, `--trucks` and `--gap` with a whole number each. To the crate above it promises that words are
 //! accepted exactly where that command takes them and COMMAND is the word of a task, and what they ask for then. A call for
 //! help is refused as any other mistake is, since the program has no help text but its usage line. The clerk's program has a
-//! command line of its own, with a COMMAND alone.
+//! command line of its own, with a COMMAND and a flag.
 #![tactic(auto)]
 
 mod asked;

@@ -74,15 +74,32 @@ fn run_words(
     reads: &[u32],
     writes: &[u32],
 ) -> Ran {
+    let (ran, told) = run_telling(rt, words, input, reads, writes, &[]);
+    drop(told);
+    ran
+}
+
+// The same with what the other sink was told, of which some writes fail too.
+pub(crate) fn run_telling(
+    rt: &(impl Abort + AllocGlobal),
+    words: &str,
+    input: &[u8],
+    reads: &[u32],
+    writes: &[u32],
+    tells: &[u32],
+) -> (Ran, Vec<u8>) {
     let words = list_of(rt, rt.alloc(), words);
     let mut source = source_of(rt, rt.alloc(), input, reads);
     let mut sink = sink_of(rt, rt.alloc(), writes);
-    let status = run_clerk(rt, words.as_slice(), &mut source, &mut sink);
+    let mut told = sink_of(rt, rt.alloc(), tells);
+    let status = run_clerk(rt, words.as_slice(), &mut source, &mut sink, &mut told);
     drop(words);
     drop(source);
     let text = bytes_of(rt, rt.alloc(), &sink);
+    let lines = bytes_of(rt, rt.alloc(), &told);
     drop(sink);
-    Ran { status, text }
+    drop(told);
+    (Ran { status, text }, lines)
 }
 
 // A run over an input ends with this status and writes this text.
@@ -107,8 +124,15 @@ fn certifies_whole_journals_alone(rt: HostRuntime) {
 
 #[test]
 fn answers_what_the_clerk_is_not_asked(rt: HostRuntime) {
-    let usage = "usage: permit_clerk certify\n";
-    for words in ["", "audit", "certify|certify", "certify|--seed|1", "--help"] {
+    let usage = "usage: permit_clerk certify|carry [--in-force]\n";
+    for words in [
+        "",
+        "audit",
+        "certify|certify",
+        "certify|--seed|1",
+        "carry|--in-force|--in-force",
+        "--help",
+    ] {
         ends(&rt, words, "", 2, usage);
     }
     ends(&rt, "certify", "", 5, "refused: line 1\n");

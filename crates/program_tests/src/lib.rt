@@ -7,6 +7,8 @@
 #[cfg(test)]
 mod audits;
 #[cfg(test)]
+mod carried_days;
+#[cfg(test)]
 mod cases;
 #[cfg(test)]
 mod certificates;

@@ -5,4 +5,4 @@ use Rattle.command_line.proofs.laws.clerk_words_ask.Goals as goal
 
 pub returns : goal.returns
 unfolding clap_on_literals clerk_asked_of
-returns c = record { certify = refl; none = refl; help = refl }
+returns c = record { certify = refl; carry = refl; in_force = refl; none = refl; help = refl }
