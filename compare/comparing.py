@@ -4,16 +4,18 @@ from dataclasses import dataclass
 from random import Random
 from typing import NamedTuple
 
+from beginning import broken
 from cases.certifying import of_journal
-from cases.families import Case, certify
+from cases.families import Case, carry, certify
 from model.audit import audited
+from model.carry import carried
 from model.certify import certified
 from model.files import CheckFile, DayFile, Refused
 from model.journal import Wrong, alone, entries_of, judge
 from model.making import made_day, trial
 from model.report import convoy_report, design_report, report
 from model.reroute import rerouted
-from model.words import CERTIFY, CLERK_USAGE, USAGE, asked, asks_to_certify
+from model.words import CARRY, CERTIFY, CLERK_USAGE, IN_FORCE, USAGE, asked, clerk_asked
 
 SECONDS = 120
 
@@ -47,7 +49,7 @@ def ran(program: str, case: Case) -> Ran:
 def wanted(case: Case) -> Ran | DayFile:
     """What has to come: a run, or, for a day of several actors, the day file, whose journal has to be judged."""
     if case.is_clerks:
-        return Ran(*certified(case.data)) if asks_to_certify(case.words) else Ran(2, CLERK_USAGE)
+        return wanted_of_clerk(case)
     found = asked(case.words)
     if found is None:
         return Ran(2, USAGE)
@@ -74,28 +76,49 @@ def wanted(case: Case) -> Ran | DayFile:
     return Ran(0, *alone(day))
 
 
+def wanted_of_clerk(case: Case) -> Ran:
+    """What the clerk has to say."""
+    found = clerk_asked(case.words)
+    if found is None:
+        return Ran(2, CLERK_USAGE)
+    if found.command == CARRY:
+        return Ran(*carried(case.data, found.is_in_force))
+    return Ran(*certified(case.data))
+
+
 def difference(programs: Programs, case: Case) -> str | None:
     """What differs between the programs and the model on an input, in words, or None."""
     path = programs.of(case)
     if path is None:
         return None
+    if case.is_clerks:
+        return clerks_difference(path, case)
     want, got = wanted(case), ran(path, case)
     what = judged(want, got) if isinstance(want, DayFile) else unlike(want, got)
     is_journal = case.words == ["day"] and got.status == 0
     return certificates(programs.clerk, case.data, got.written) if is_journal and not what and programs.clerk else what
 
 
+def clerks_difference(clerk: str, case: Case) -> str | None:
+    """What differs between the clerk and the model, or what the model's next day does not keep, or None."""
+    want = wanted_of_clerk(case)
+    if case.words[:1] == [CARRY] and want.status == 0:
+        what = broken(case.data, IN_FORCE in case.words, want.written, want.told)
+        if what:
+            return f"the model's own next day: {what}"
+    return unlike(want, ran(clerk, case))
+
+
 def certificates(clerk: str, day: bytes, journal: str) -> str | None:
     """What differs on the right journal of a day, which is whole, and on some that lack, have or change something."""
     itself = Ran(0, f"whole {len(entries_of(journal))}\n")
     for number, data in enumerate(of_journal(Random(day), journal, day)):
-        case = certify(data)
-        want = wanted(case)
-        if number == 0 and want != itself:
-            return f"{CERTIFY}: the model has {want} for a right journal"
-        what = unlike(want, ran(clerk, case)) if isinstance(want, Ran) else None
-        if what:
-            return f"{CERTIFY}: journal {number} of those that are made of the day's: {what}"
+        if number == 0 and wanted_of_clerk(certify(data)) != itself:
+            return f"{CERTIFY}: the model does not say {itself} for a right journal"
+        for case in (certify(data), *carry(data)):
+            what = clerks_difference(clerk, case)
+            if what:
+                return f"{' '.join(case.words)}: journal {number} of those that are made of the day's: {what}"
     return None
 
 

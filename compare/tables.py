@@ -13,7 +13,7 @@
   They were written down from memory, and were not held against the printed page.
 - A day with an annual permit on two routes, worked by hand: its journal, and the causes for which three others like it
   are refused. So are audits of that journal beside its day, and of others like it, which are not legal or no journals.
-- Journals to certify, in certificates.py.
+- Journals to certify, in certificates.py, and to carry on to the next day, in next_days.py.
 
 Three more things are tried on the model: that no second spacing of HS20-44 from 14 to 30 ft exceeds 14 ft; that no
 place of some trucks, at whole and at half inches, exceeds the peaks; and that no places of two trucks with at least a
@@ -25,6 +25,7 @@ from fractions import Fraction
 from typing import NamedTuple
 
 import certificates
+import next_days
 from comparing import Programs
 from model.audit import audited
 from model.bridges import HS20, closest, design, moment, peak_moment, peak_shear
@@ -419,6 +420,7 @@ def compared(programs: Programs) -> tuple[int, list[str]]:
     # (the model takes too long for a crowded desk)
     wrong += wrong_crowded_desk(programs.office, "program")
     certified, uncertified = certificates.compared(programs.clerk)
+    carried, not_carried = next_days.compared(programs.clerk)
     printed = len(list(formula_rows())) + len(list(aashto_rows(AASHTO + LANE.lstrip())))
-    worked = 1 + len(ANNUAL_REFUSED) + len(AUDITED) + len(REROUTED) + 2 + certified
-    return printed + worked, wrong + uncertified
+    worked = 1 + len(ANNUAL_REFUSED) + len(AUDITED) + len(REROUTED) + 2 + certified + carried
+    return printed + worked, wrong + uncertified + not_carried

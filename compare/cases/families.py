@@ -4,7 +4,7 @@ from dataclasses import dataclass
 from random import Random
 
 from model.records import MOST_BYTES
-from model.words import CERTIFY, COMMANDS
+from model.words import CARRY, CERTIFY, COMMANDS, IN_FORCE
 
 from .annual import annual_file
 from .breaking import ROUTE_WAYS, broken, ends, scratched, set_number, trip
@@ -21,11 +21,12 @@ WORDS = (
     "check", "day", "make", "trial", "audit", "design", "convoy", "reroute", "--seed", "--size", "--trucks", "--gap",
     "--seed=5", "--size=2", "--trucks=3", "--gap=48", "7", "+5", "007", "-1", "65535", "65536", "0", "40", "41",
     "--help", "-h", "--version", "--seeds", "--", "", "Check", "--seed=", "--size=1.5", "--seed=-0", "\u00e4",
-    "\udcff", "certify",
+    "\udcff", "certify", "carry", "--in-force",
 )
 CLERK_WORDS = (
-    "certify", "certify", "certify", "--", "", "-", "Certify", "certif", "certify ", "audit", "day", "--certify",
-    "--help", "-h", "-1", "--version", "--seed=1", "--seed", "1", "\u00e4", "\udcff",
+    "certify", "certify", "certify", "carry", "carry", "carry", "--in-force", "--in-force", "--", "", "-", "Certify",
+    "certif", "certify ", "carry ", "--in-force=1", "--in-forc", "audit", "day", "--certify", "--carry", "--help", "-h",
+    "-1", "--version", "--seed=1", "--seed", "1", "\u00e4", "\udcff",
 )
 
 
@@ -276,6 +277,11 @@ def certify(data: bytes) -> Case:
     return Case([CERTIFY], data, is_clerks=True)
 
 
+def carry(data: bytes) -> list[Case]:
+    """What the clerk is to carry, with all trucks and with those in force."""
+    return [Case([CARRY, *more], data, is_clerks=True) for more in ([], [IN_FORCE])]
+
+
 def cases(seed: int) -> list[Case]:
     """The input of a seed, and once more with each other word that reads such a one, those of the clerk among them."""
     made, rng = case(seed), Random(seed)
@@ -283,7 +289,8 @@ def cases(seed: int) -> list[Case]:
         return [made, Case(["reroute"], made.data)]
     if made.words == ["audit"]:
         pestered = of_pestered(rng)
-        return [made, certify(made.data), Case(["audit"], pestered), certify(pestered)]
+        return [made, certify(made.data), *carry(made.data), Case(["audit"], pestered), certify(pestered),
+                *carry(pestered)]
     if FAMILIES[seed % len(FAMILIES)] is worded:
         return [made, Case([rng.choice(CLERK_WORDS) for _ in range(rng.randint(0, 3))], is_clerks=True)]
     if made.words != ["check"]:

@@ -16,6 +16,7 @@ standard library. Read it in this order:
 - `reading`  a journal of any of its formats, read back, or its first bad line;
 - `audit`    whether each entry of a journal is a step of the office of one thread;
 - `certify`  whether a journal that is legal has each command of its day file, and nothing else;
+- `carry`    the file with which the office of a whole day goes on the next day;
 - `reroute`  what comes of an application once more for each permit that was recalled;
 - `making`   the made day, and what `trial` writes of it;
 - `words`    what the words of the command line ask for.

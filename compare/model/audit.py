@@ -96,12 +96,6 @@ class Audit:
         return reply
 
 
-def first_bad(file: DayFile, entries: list[Entry]) -> int | None:
-    """The place of the first entry that is no step, or one for which no office has room, counted from 1; or None."""
-    audit, numbered = Audit(file), enumerate(entries, 1)
-    return next((number for number, entry in numbered if number > MOST_ENTRIES or not audit.is_step(entry)), None)
-
-
 def read_both(journal: bytes, day: bytes) -> tuple[list[Entry], DayFile]:
     """The entries of a journal, and the day file; or whichever is refused first, the journal or the file."""
     try:
@@ -111,11 +105,13 @@ def read_both(journal: bytes, day: bytes) -> tuple[list[Entry], DayFile]:
     return entries, DayFile(day)
 
 
-def legal(file: DayFile, entries: list[Entry]) -> None:
-    """Refuses entries that are no history of an office."""
-    bad = first_bad(file, entries)
-    if bad is not None:
-        raise NotSo(f"not legal: entry {bad}")
+def legal(file: DayFile, entries: list[Entry]) -> Office:
+    """The office that a history leaves. Refuses entries that are none, or for which no office has room."""
+    audit = Audit(file)
+    for number, entry in enumerate(entries, 1):
+        if number > MOST_ENTRIES or not audit.is_step(entry):
+            raise NotSo(f"not legal: entry {number}")
+    return audit.office
 
 
 def audited(data: bytes) -> tuple[int, str]:

@@ -10,10 +10,13 @@ entries. So the first entry that fits nowhere is the least of those that the rea
 that is not finished is the least of those at which they come to an end.
 """
 from collections.abc import Callable
+from functools import lru_cache
+from typing import NamedTuple
 
 from .audit import NO_MEMORY, NotSo, legal, parted, read_both
 from .files import Command, DayFile, Posting, Refused, Trip
 from .journal import ATTEMPTS
+from .office import Office
 from .reading import Entry, Held, Simple, Submit
 from .records import MOST_BYTES
 
@@ -106,15 +109,35 @@ def whole(file: DayFile, entries: list[Entry]) -> None:
         raise NotSo(f"not whole: record {min(lacking)}")
 
 
+class WholeDay(NamedTuple):
+    """The journal of the whole of a day: its entries, the day file, and the office that they leave."""
+
+    entries: list[Entry]
+    file: DayFile
+    office: Office
+
+
+def read_whole(data: bytes) -> WholeDay:
+    """Reads a journal with its day file behind it. Refuses what is not that of the whole day."""
+    journal, day = parted(data)
+    if len(journal) > MOST_OF_JOURNAL or len(day) > MOST_BYTES:
+        raise Refused(6, "bytes")
+    entries, file = read_both(journal, day)
+    office = legal(file, entries)
+    whole(file, entries)
+    return WholeDay(entries, file, office)
+
+
+@lru_cache(maxsize=1)
+def whole_day(data: bytes) -> WholeDay | Refused:
+    """The whole day, or its refusal. It is kept, since a certificate and two next days are made of the same bytes."""
+    try:
+        return read_whole(data)
+    except Refused as refused:
+        return refused
+
+
 def certified(data: bytes) -> tuple[int, str]:
     """The status of a certificate, and the line that is written."""
-    journal, day = parted(data)
-    try:
-        if len(journal) > MOST_OF_JOURNAL or len(day) > MOST_BYTES:
-            raise Refused(6, "bytes")
-        entries, file = read_both(journal, day)
-        legal(file, entries)
-        whole(file, entries)
-    except Refused as refused:
-        return refused.status, refused.line
-    return 0, f"whole {len(entries)}\n"
+    day = whole_day(data)
+    return (day.status, day.line) if isinstance(day, Refused) else (0, f"whole {len(day.entries)}\n")

@@ -1,6 +1,6 @@
 """What the words of the command line ask for, as the crate `clap` reads them: a command, and four options.
 
-The clerk's words have a command alone, `certify`.
+The clerk's words have a command, and with `carry` one option that takes no value.
 """
 import re
 from collections.abc import Collection, Sequence
@@ -9,8 +9,8 @@ from dataclasses import dataclass
 COMMANDS = ("check", "day", "make", "trial", "audit", "design", "convoy", "reroute")
 RANGES = {"--seed": (0, 65535), "--size": (1, 40), "--trucks": (2, 16), "--gap": (1, 3000)}
 USAGE = f"usage: permit_cli {'|'.join(COMMANDS)} [--seed N] [--size N] [--trucks N] [--gap N]\n"
-CERTIFY = "certify"
-CLERK_USAGE = f"usage: permit_clerk {CERTIFY}\n"
+CERTIFY, CARRY, IN_FORCE = "certify", "carry", "--in-force"
+CLERK_USAGE = f"usage: permit_clerk {CERTIFY}|{CARRY} [{IN_FORCE}]\n"
 
 
 @dataclass(frozen=True)
@@ -33,8 +33,12 @@ def number(option: str, word: str | None) -> int | None:
     return spelt if least <= spelt <= most else None
 
 
-def taken(words: Sequence[str], options: Collection[str]) -> tuple[list[str], dict[str, int]] | None:
-    """The commands and the numbers of the options among the words; or None where there may be no such words."""
+def taken(words: Sequence[str], options: Collection[str],
+          flags: Collection[str] = ()) -> tuple[list[str], dict[str, int]] | None:
+    """The commands and the numbers of the options among the words; or None where there may be no such words.
+
+    A flag is an option without a value. Its number is 1.
+    """
     waiting, commands, found = list(words), [], dict[str, int]()
     while waiting:
         word = waiting.pop(0)
@@ -43,6 +47,9 @@ def taken(words: Sequence[str], options: Collection[str]) -> tuple[list[str], di
             break
         if not word.startswith("-") or word == "-":
             commands.append(word)
+            continue
+        if word in flags and word not in found:
+            found[word] = 1
             continue
         option, equals, value = word.partition("=")
         if option not in options or option in found:
@@ -64,6 +71,17 @@ def asked(words: Sequence[str]) -> Asked | None:
     return Asked(commands[0], **{option.removeprefix("--"): spelt for option, spelt in found.items()})
 
 
-def asks_to_certify(words: Sequence[str]) -> bool:
-    """Whether the words ask the clerk for a certificate."""
-    return taken(words, ()) == ([CERTIFY], {})
+@dataclass(frozen=True)
+class ClerkAsked:
+    """What the clerk is asked for, and whether only trucks with a permit in force are to be carried."""
+
+    command: str
+    is_in_force: bool = False
+
+
+def clerk_asked(words: Sequence[str]) -> ClerkAsked | None:
+    """What the words ask the clerk for; or None where they ask for nothing."""
+    commands, found = taken(words, (), (IN_FORCE,)) or ([], {})
+    if len(commands) != 1 or commands[0] not in (CERTIFY, CARRY) or (found and commands[0] != CARRY):
+        return None
+    return ClerkAsked(commands[0], IN_FORCE in found)

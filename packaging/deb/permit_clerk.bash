@@ -1,8 +1,11 @@
-# Completions of bash for permit_clerk: its command, and the names of files behind <.
+# Completions of bash for permit_clerk: its commands, the option of one, and the names of files behind <.
 _permit_clerk() {
     local word=${COMP_WORDS[COMP_CWORD]}
     COMPREPLY=()
-    [ "$COMP_CWORD" -ne 1 ] || COMPREPLY=($(compgen -W 'certify' -- "$word"))
+    case $COMP_CWORD-${COMP_WORDS[1]}-$word in
+        1-*) COMPREPLY=($(compgen -W 'certify carry' -- "$word")) ;;
+        2-carry--*) COMPREPLY=($(compgen -W '--in-force' -- "$word")) ;;
+    esac
 }
 # Where the function offers nothing, names of files are.
 complete -o default -F _permit_clerk permit_clerk
