@@ -235,7 +235,7 @@ CARRIED_LOOKED = rows_of(
     "apply,ann,T1,A,B,S1,2026-03-02,2026-03-06", "end")
 # what asks for nothing, and what asks for the same
 NO_WORDS: Lists = (
-    [], [CARRY, CARRY], ["certify", CARRY], ["certify", IN_FORCE], [IN_FORCE, "certify"], [IN_FORCE],
+    [], [CARRY, CARRY], ["certify", CARRY], ["certify", IN_FORCE, IN_FORCE], [IN_FORCE],
     [CARRY, IN_FORCE, IN_FORCE], [IN_FORCE, CARRY, IN_FORCE], [CARRY, "--in-force="], [CARRY, "--in-force=1"],
     [CARRY, "--in-force", "1"], [CARRY, "--in-forc"], [CARRY, "-in-force"], [CARRY, "--", IN_FORCE], [CARRY, "--help"],
     [CARRY, ""], [CARRY, "-"], ["Carry"], ["carry "], ["carr"],

@@ -82,6 +82,6 @@ class ClerkAsked:
 def clerk_asked(words: Sequence[str]) -> ClerkAsked | None:
     """What the words ask the clerk for; or None where they ask for nothing."""
     commands, found = taken(words, (), (IN_FORCE,)) or ([], {})
-    if len(commands) != 1 or commands[0] not in (CERTIFY, CARRY) or (found and commands[0] != CARRY):
+    if len(commands) != 1 or commands[0] not in (CERTIFY, CARRY):
         return None
     return ClerkAsked(commands[0], IN_FORCE in found)
