@@ -11,3 +11,4 @@ pub mod Staying
 pub mod Heights
 pub mod Regions
 pub mod Tables
+pub mod Trips

@@ -45,9 +45,11 @@ impl Region {
     pub fn tell(&self, from: u32, to: u32) -> Result<Option<Shortest>, NoMemory>
         requires from { from < length self.now.leading_in.items }
         requires to { to < length self.now.leading_in.items }
-        ensures told { (roads : Roads) (passable : List Bool) (root : ℕ) → IsRegion roads passable root self.now
+        ensures told { (roads : Roads) (passable : List Bool) (root : ℕ)
+            → IsRegion roads passable root self.now
             → IfOk result (IsToldOfTrip roads passable from to) }
-        ensures all { (roads : Roads) (passable : List Bool) (root : ℕ) → IsRegion roads passable root self.now
+        ensures all { (roads : Roads) (passable : List Bool) (root : ℕ)
+            → IsRegion roads passable root self.now
             → IfOk result (IsToldAll roads passable root from to) }
     {
         if self.is_cut_off(from, to) {
@@ -62,7 +64,8 @@ impl Region {
     /// The answer is one more owner of the list of nodes. `NoMemory` where it cannot be had.
     pub fn why(&self, to: u32) -> Result<Shortest, NoMemory>
         requires to { to < length self.now.leading_in.items }
-        ensures { (roads : Roads) (passable : List Bool) (root from : ℕ) → IsRegion roads passable root self.now
+        ensures { (roads : Roads) (passable : List Bool) (root from : ℕ)
+            → IsRegion roads passable root self.now
             → IsCutOff roads passable root from to → IfOk result (IsShortest roads passable from to) }
     {
         if self.any.marks[to as usize] {

@@ -1,9 +1,9 @@
 // The search from one node to another.
 
 ghost use Rattle.std.specs.Prelude.{◌≡◌, ◌<◌, length, IfOk};
-ghost use Rattle.route_search.specs.Walks.{CanReach, flagged};
-ghost use Rattle.route_search.specs.Founds.{AreNearOver, ArePotentialsOver, IsFoundBetween, IsRouteOrNone, IsShortest};
+ghost use Rattle.route_search.specs.Founds.{ArePotentialsOver, IsFoundBetween};
 ghost use Rattle.route_search.specs.Heights.{AreHeights};
+ghost use Rattle.route_search.specs.Trips.{CanMake, IsRouteOrNoneFor, IsShortestFor, LeadFromStart, LeadToEnd};
 
 use crate::around::reach_from;
 use crate::follow::follow;
@@ -73,7 +73,7 @@ pub fn shortest_walk(
     heights: &Heights,
 ) -> Result<Shortest, NoMemory>
     requires { AreHeights trip.now.roads.network.now.segments heights.now }
-    ensures { IfOk result (IsShortest trip.now.roads.network.now trip.now.roads.flags.now trip.now.from trip.now.to) }
+    ensures { IfOk result (IsShortestFor trip.now) }
 {
     let mut table = Table::new(alloc);
     let found = shortest_route(alloc, trip, heights, &mut table)?;
@@ -89,7 +89,7 @@ pub fn shortest_route(
     table: &mut Table,
 ) -> Result<Option<Shortest>, NoMemory>
     requires { AreHeights trip.now.roads.network.now.segments heights.now }
-    ensures { IfOk result (IsRouteOrNone trip.now.roads.network.now trip.now.roads.flags.now trip.now.from trip.now.to) }
+    ensures { IfOk result (IsRouteOrNoneFor trip.now) }
 {
     let query = Query {
         roads: trip.roads,
@@ -107,8 +107,8 @@ pub fn shortest_route_by(
     trip: &TripEnds,
     potentials: &Potentials,
 ) -> Result<Option<Shortest>, NoMemory>
-    requires { ArePotentialsOver trip.now.roads.network.now trip.now.roads.flags.now trip.now.to potentials.now }
-    ensures { IfOk result (IsRouteOrNone trip.now.roads.network.now trip.now.roads.flags.now trip.now.from trip.now.to) }
+    requires { LeadToEnd trip.now potentials.now }
+    ensures { IfOk result (IsRouteOrNoneFor trip.now) }
 {
     Ok(route_shown(alloc, trip, potentials.as_slice())?)
 }
@@ -119,8 +119,8 @@ fn route_shown(
     trip: &TripEnds,
     potentials: &[Option<u64>],
 ) -> Result<Option<Shortest>, AllocError>
-    requires { AreNearOver trip.now.roads.network.now trip.now.roads.flags.now trip.now.from trip.now.to potentials.now }
-    ensures { IfOk result (IsRouteOrNone trip.now.roads.network.now trip.now.roads.flags.now trip.now.from trip.now.to) }
+    requires { LeadFromStart trip.now potentials.now }
+    ensures { IfOk result (IsRouteOrNoneFor trip.now) }
 {
     let nearest = potentials[trip.from as usize];
     match nearest {
@@ -137,8 +137,8 @@ fn route_shown(
 
 // What was found, or why nothing was.
 fn or_why(alloc: Global, trip: &TripEnds, found: Option<Shortest>) -> Result<Shortest, AllocError>
-    requires { IsRouteOrNone trip.now.roads.network.now trip.now.roads.flags.now trip.now.from trip.now.to found }
-    ensures { IfOk result (IsShortest trip.now.roads.network.now trip.now.roads.flags.now trip.now.from trip.now.to) }
+    requires { IsRouteOrNoneFor trip.now found }
+    ensures { IfOk result (IsShortestFor trip.now) }
 {
     match found {
         Some(route) => Ok(route),
@@ -148,8 +148,8 @@ fn or_why(alloc: Global, trip: &TripEnds, found: Option<Shortest>) -> Result<Sho
 
 // Why there is no passable walk.
 fn no_route(alloc: Global, trip: &TripEnds) -> Result<Shortest, AllocError>
-    requires { CanReach trip.now.roads.network.now.segments (flagged trip.now.roads.flags.now) trip.now.from trip.now.to → ⊥ }
-    ensures { IfOk result (IsShortest trip.now.roads.network.now trip.now.roads.flags.now trip.now.from trip.now.to) }
+    requires { CanMake trip.now → ⊥ }
+    ensures { IfOk result (IsShortestFor trip.now) }
 {
     let network = trip.roads.network;
     let open = vec![in alloc; true; network.segments() as usize]?;

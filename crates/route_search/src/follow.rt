@@ -1,8 +1,7 @@
 // The walk that the potentials show.
 ghost use Rattle.std.specs.Prelude.{◌≡◌, ◌↔◌, ℕ, ◌+◌, ◌<◌, ◌≤◌, length, IfOk, IfSome, IfNone, IsTrue, slice_get, Some, None};
-ghost use Rattle.route_search.specs.Walks.{IsRoute, flagged};
-ghost use Rattle.route_search.specs.Founds.{AreNearOver};
 ghost use Rattle.route_search.specs.Following.{IsFirstTightOver, IsNoneTightOver, IsTightOver};
+ghost use Rattle.route_search.specs.Trips.{IsRouteFor, LeadFromStart};
 
 use crate::passable::Passable;
 use crate::settle::is_known;
@@ -14,7 +13,8 @@ use std::alloc::{AllocError, Global};
 fn is_tight(roads: &Passable, potentials: &[Option<u64>], near: Waiting, i: u32) -> bool
     requires potentials { length potentials.now ≡ length roads.now.network.now.nodes }
     requires there { i < length roads.now.network.now.segments }
-    ensures { IsTrue result ↔ IsTightOver roads.now.network.now roads.now.flags.now potentials.now near.node near.length i }
+    ensures { IsTrue result
+        ↔ IsTightOver roads.now.network.now roads.now.flags.now potentials.now near.node near.length i }
 {
     let segment = roads.network.segment(i);
     let feet = u64::from(segment.feet);
@@ -49,10 +49,9 @@ pub(crate) fn follow(
     potentials: &[Option<u64>],
     feet: u64,
 ) -> Result<Vec<u32>, AllocError>
-    requires potentials { AreNearOver trip.now.roads.network.now trip.now.roads.flags.now trip.now.from trip.now.to potentials.now }
+    requires potentials { LeadFromStart trip.now potentials.now }
     requires start { slice_get potentials.now trip.now.from ≡ Some (Some feet) }
-    ensures { IfOk result
-        (λ r. IsRoute trip.now.roads.network.now.segments (flagged trip.now.roads.flags.now) trip.now.from trip.now.to r.items) }
+    ensures { IfOk result (λ r. IsRouteFor trip.now r.items) }
 {
     let mut route = Vec::new(alloc);
     let mut near = Waiting {

@@ -104,7 +104,8 @@ pub(crate) fn reach(alloc: Global, walks: &Walks) -> Result<Vec<bool>, AllocErro
 
 // The numbers of the nodes that are marked, rising.
 pub(crate) fn listed(alloc: Global, walks: &Walks, marked: &[bool]) -> Result<Vec<u32>, AllocError>
-    requires { AreMarked Forth walks.now.roads.network.now (flagged walks.now.roads.flags.now) walks.now.root marked.now }
+    requires { AreMarked Forth walks.now.roads.network.now
+        (flagged walks.now.roads.flags.now) walks.now.root marked.now }
     ensures { IfOk result
         (λ r. AreReached walks.now.roads.network.now.segments (flagged walks.now.roads.flags.now) walks.now.root r.items) }
 {
