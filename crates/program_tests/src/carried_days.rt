@@ -8,12 +8,12 @@ use std::process::Abort;
 // The next day behind one on which the permit of the higher of two loads was recalled: the other's goes on, under the height that was
 // posted. Each row has the words, and the trucks that are written.
 const GOES_ON: [(&str, &str); 3] = [
-    ("carry", T1),
+    ("carry", HIGHER_TRUCK),
     ("carry|--in-force", ""),
     ("--in-force|carry", ""),
 ];
 
-const T1: &str = "truck,T1,ACME,168,102,720,0:12000 180:17000 228:17000,\n";
+const HIGHER_TRUCK: &str = "truck,T1,ACME,168,102,720,0:12000 180:17000 228:17000,\n";
 
 const ROADS: &str = "\
 day,2026-03-02,,,,,,
@@ -64,7 +64,7 @@ fn carries_on_what_stands(rt: HostRuntime) {
 #[test]
 fn carries_no_permit_that_was_given_back(rt: HostRuntime) {
     let input = input_of(&rt, GIVEN_BACK_JOURNAL, GIVEN_BACK);
-    let roads = joined(&rt, rt.alloc(), ROADS, T1);
+    let roads = joined(&rt, rt.alloc(), ROADS, HIGHER_TRUCK);
     let text = joined(&rt, rt.alloc(), roads.as_str(), NOTHING_STANDS);
     let (ran, told) = run_telling(&rt, "carry", input.as_bytes(), &[], &[], &[]);
     same(&rt, &ran, 0, text.as_str(), "given back");
