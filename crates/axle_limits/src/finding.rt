@@ -43,7 +43,8 @@ pub fn findings(alloc: Global, train: &Train) -> Result<Vec<Finding>, NoMemory>
 fn add_group(train: &Train, i: usize, j: usize, list: &mut Vec<Finding>) -> Result<(), NoMemory>
     requires ordered { i ≤ j }
     requires within { j < length train.now }
-    ensures { OnOk result (AddsFindings train.now (group_at train.now i j ∷ []) list.old.items list.new.items) }
+    ensures { OnOk result (AddsFindings train.now
+        (group_at train.now i j ∷ []) list.old.items list.new.items) }
 {
     let weight = train.group_weight(i, j);
     let limit = group_limit(train, i, j);

@@ -54,7 +54,8 @@ impl<E: SpanStudy> Crossing<'_, E> {
     /// The first limit of the segment that fails the load.
     fn first_limit(&self) -> Option<Limit>
         requires { IsTrain self.now.load.now.train }
-        ensures { result ≡ limit_of self.now.network.now self.now.state.now self.now.load.now self.now.segment }
+        ensures { result
+            ≡ limit_of self.now.network.now self.now.state.now self.now.load.now self.now.segment }
     {
         let values = self.state.segment(self.segment);
         if let Some(limit) = posted_limit(&values, self.load, self.segment) {

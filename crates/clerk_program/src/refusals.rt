@@ -37,7 +37,8 @@ pub(crate) fn of_lack(alloc: Global, row: u64) -> Refusal
 
 // The refusal of a history that is not whole, with this line.
 fn not_whole(line: Result<String, NoMemory>) -> Refusal
-    ensures line { IfOk line (λ text. IsCommandAnswer (record { status = 9; line = string_bytes text }) result) }
+    ensures line { IfOk line (λ text. IsCommandAnswer
+        (record { status = 9; line = string_bytes text }) result) }
     ensures none { IfErr line (λ e. result ≡ Refusal.NoMemory) }
 {
     match line {
@@ -48,7 +49,8 @@ fn not_whole(line: Result<String, NoMemory>) -> Refusal
 
 // The line that a history is not whole, by what and by its number.
 fn numbered_line(alloc: Global, what: &str, number: u64) -> Result<String, NoMemory>
-    ensures { IfOk result (λ text. string_bytes text ≡ codes "not whole: " ++ what.now ++ (32 ∷ (decimal number ++ (10 ∷ [])))) }
+    ensures { IfOk result (λ text. string_bytes text ≡ codes "not whole: " ++ what.now
+        ++ (32 ∷ (decimal number ++ (10 ∷ [])))) }
 {
     let mut text = String::new(alloc);
     write!(text, "not whole: {what} {number}\n")?;

@@ -51,7 +51,8 @@ fn clerk<'a>(alloc: Global) -> Result<Command<'a>, AllocError>
 // The matches of the words, where the command line takes them.
 fn match_words<'a>(alloc: Global, words: &'a [String]) -> Result<ArgMatches<'a>, Error>
     ensures fails { FailsBy (fault_of clerk (map string_bytes words.entry.now)) result }
-    ensures rows { IfOk result (λ m. rows_of (found_of m) ≡ matches_of clerk (map string_bytes words.entry.now)) }
+    ensures rows { IfOk result (λ m. rows_of (found_of m)
+        ≡ matches_of clerk (map string_bytes words.entry.now)) }
 {
     let clerk = clerk(alloc)?;
     clerk.try_get_matches_from(words)

@@ -58,7 +58,8 @@ impl Page {
     /// One record of these fields, with empty ones behind them to make eight.
     pub(crate) fn put(&mut self, kind: &str, fields: &[Field]) -> Result<(), AllocError>
         requires { length fields.now ≤ 7 }
-        ensures { OnOk result (self.new ≡ page_after (put (row (kind.now ∷ map field_text fields.now))) self.old) }
+        ensures { OnOk result (self.new ≡ page_after
+            (put (row (kind.now ∷ map field_text fields.now))) self.old) }
     {
         self.records.put(kind, fields)
     }

@@ -85,7 +85,8 @@ fn find_route(alloc: Global, network: &Network, text: &str) -> Result<Option<Num
 
 // The segment whose name a text is, if there is one.
 fn segment_of(network: &Network, text: &str) -> Option<u32>
-    ensures { result ≡ option_and_then (λ name. number_of name (segment_names network.now.segments)) (name_field text.now) }
+    ensures { result ≡ option_and_then (λ name. number_of name (segment_names network.now.segments))
+        (name_field text.now) }
 {
     let name = parse_name(text)?;
     network.segment_named(&name)

@@ -65,7 +65,8 @@ impl DayFile {
 
     /// The day file of these parts. Takes no memory.
     pub fn of_parts(base: Base, day: Day, actors: Vec<Name>, commands: Vec<Order>) -> DayFile
-        ensures { result ≡ record { base = base; day = day; actors = actors.items; commands = commands.items } }
+        ensures { result
+            ≡ record { base = base; day = day; actors = actors.items; commands = commands.items } }
     {
         DayFile {
             base,

@@ -95,7 +95,8 @@ fn carry_out_all<F: Ledger, O: Ledger>(
     requires few { length orders.now ≤ 4096 }
     requires new { lone.old.history ≡ [] }
     ensures served { OnOk result (HasRerouted lone.old lone.new caller orders.now) }
-    ensures stopped { IfErr result (λ refusal. refusal ≡ TooMany → HasStopped lone.old lone.new caller orders.now) }
+    ensures stopped { IfErr result (λ refusal. refusal ≡ TooMany
+        → HasStopped lone.old lone.new caller orders.now) }
     ensures refused { IfErr result (λ refusal. refusal ≡ TooMany
         → AreLong lone.old.base lone.old.opening lone.old.most caller orders.now) }
 {
@@ -128,8 +129,10 @@ fn carry_out_one<F: Ledger, O: Ledger>(
     ensures carried { OnOk result (HasReroutedOne lone.old desk.old.caller order.now lone.new) }
     ensures caught_up { OnOk result (IsCaughtUp desk.new lone.new) }
     ensures caller { OnOk result (desk.new.caller ≡ desk.old.caller) }
-    ensures stopped { IfErr result (λ refusal. refusal ≡ TooMany → WasCutShort lone.old desk.old.caller order.now lone.new) }
-    ensures refused { IfErr result (λ refusal. refusal ≡ TooMany → IsLongWith lone.old desk.old.caller order.now) }
+    ensures stopped { IfErr result (λ refusal. refusal ≡ TooMany
+        → WasCutShort lone.old desk.old.caller order.now lone.new) }
+    ensures refused { IfErr result (λ refusal. refusal ≡ TooMany
+        → IsLongWith lone.old desk.old.caller order.now) }
 {
     // the entries of a command are determined, and the desk keeps up with the office after each entry of others
     runs_are_one();

@@ -163,7 +163,8 @@ impl Auditor {
 
 // Seats at which nothing is known yet.
 fn empty_seats(alloc: Global, base: &Base) -> Result<Vec<Seat>, NoMemory>
-    ensures seats { (versions : Versions) → IfOk result (λ seats. All (IsSeat base.now versions) seats.items) }
+    ensures seats { (versions : Versions)
+        → IfOk result (λ seats. All (IsSeat base.now versions) seats.items) }
     ensures many { IfOk result (λ seats. length seats.items ≡ 16) }
 {
     let mut seats = Vec::new(alloc);

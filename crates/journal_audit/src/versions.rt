@@ -65,7 +65,8 @@ impl Versions {
     // The snapshot of the current version, which is the next one, if it is named.
     fn next(&self, replay: &Replay) -> Result<Option<Snapshot>, NoMemory>
         ensures snapshot { IfOk result (λ next. IfSome next (λ s. s ≡ stored_now replay.now)) }
-        ensures named { IfOk result (λ next. IsMarkedVersion self.now.named.items (length self.now.kept.items) → is_some next ≡ true) }
+        ensures named { IfOk result (λ next. IsMarkedVersion self.now.named.items (length self.now.kept.items)
+            → is_some next ≡ true) }
     {
         let version = self.kept.len();
         if version < self.named.len() && self.named[version] {

@@ -118,7 +118,8 @@ impl Subscribers {
     /// object that failed it grew by a front of the next line too.
     pub fn deliver(&mut self, recalls: &[Recall]) -> Result<(), NoticeFault>
         requires { AreWithinRecalls recalls.now (standings list self.old) }
-        ensures done { OnOk result (Delivered (standings list self.old) recalls.now (standings list self.new)) }
+        ensures done { OnOk result (Delivered (standings list self.old) recalls.now
+            (standings list self.new)) }
         ensures stands { OnOk result (fault_counts faults self.new ≡ fault_counts faults self.old) }
         ensures stopped { IfErr result
             (λ e. StoppedAt e.at (standings list self.old) recalls.now (standings list self.new)) }
@@ -171,7 +172,8 @@ fn serve(subscriber: &mut Subscriber, recalls: &[Recall]) -> Result<(), Failed>
     ensures cause { HasCause (faults subscriber.old.notice) (faults subscriber.new.notice) result }
     ensures wrote { OnOk result (Appends (text subscriber.old.notice) (text subscriber.new.notice)
         (lines_for recalls.now (standing_of list subscriber.old))) }
-    ensures part { OnErr result (WroteUntil recalls.now (standing_of list subscriber.old) (standing_of list subscriber.new)
+    ensures part { OnErr result (WroteUntil recalls.now (standing_of list subscriber.old)
+        (standing_of list subscriber.new)
         (text subscriber.old.notice) (text subscriber.new.notice)) }
 {
     let rest = &recalls[subscriber.passed..];

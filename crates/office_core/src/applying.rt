@@ -39,10 +39,12 @@ impl Register {
         requires room { HasRoom self.old.machine }
         ensures base { self.new.base ≡ self.old.base }
         ensures given { IfOk result (Gives self.old caller (Submit application.now proposal.now)) }
-        ensures after { IfOk result (LeavesParts self.old caller (Submit application.now proposal.now) self.new) }
+        ensures after { IfOk result (LeavesParts self.old caller
+            (Submit application.now proposal.now) self.new) }
         ensures unchanged { OnErr result (self.new ≡ self.old) }
         ensures lack { OnErr result (MayLack self.old (Submit application.now proposal.now)) }
-        ensures early { EarlyTestsNone self.old.base self.old.machine.day application.now steps.old steps.new }
+        ensures early { EarlyTestsNone self.old.base self.old.machine.day application.now
+            steps.old steps.new }
         ensures cost { IsRetested self.old proposal.now.seen proposal.now.what steps.old steps.new }
     {
         match self.early_answer(application) {
@@ -65,7 +67,8 @@ impl Register {
         ensures after { IfOk result (LeavesParts self.old caller (Held application.now) self.new) }
         ensures unchanged { OnErr result (self.new ≡ self.old) }
         ensures lack { OnErr result (MayLack self.old (Held application.now)) }
-        ensures early { EarlyTestsNone self.old.base self.old.machine.day application.now steps.old steps.new }
+        ensures early { EarlyTestsNone self.old.base self.old.machine.day application.now
+            steps.old steps.new }
         ensures cost { steps.new ≤ steps.old + tests_held self.old.base application.now }
     {
         match self.early_answer(application) {
@@ -212,7 +215,8 @@ impl Register {
         requires segment { segment < length self.now.base.roads.segments }
         ensures value { result ≡ (leaves self.now.base.roads nodes.now segment
             && is_passable self.now.base (register_state_now self.now) truck segment) }
-        ensures steps { steps.new ≡ steps.old + (if leaves self.now.base.roads nodes.now segment then 1 else 0) }
+        ensures steps { steps.new ≡ steps.old +
+            (if leaves self.now.base.roads nodes.now segment then 1 else 0) }
     {
         let (base, state) = (self.base(), self.state());
         let on = TruckOn { base, state, truck };
@@ -264,7 +268,8 @@ impl Register {
     ) -> Result<Answer, NoMemory>
         requires truck { application.now.truck < length self.old.base.fleet }
         requires segments { All (λ s. s < length self.old.base.roads.segments) (concat routes.now) }
-        requires meets { first_in self.old.base (register_state_now self.old) application.now.truck (concat routes.now) ≡ None }
+        requires meets { first_in self.old.base (register_state_now self.old) application.now.truck
+            (concat routes.now) ≡ None }
         requires room { HasRoom self.old.machine }
         ensures base { self.new.base ≡ self.old.base }
         ensures given { IfOk result (λ given. given ≡ next_issue self.old routes.now) }

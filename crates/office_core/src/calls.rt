@@ -45,7 +45,8 @@ pub trait OfficeCalls {
 
     /// Asks for a permit, for what was found for the application at an earlier version, which the caller has seen.
     fn submit(&mut self, application: Application, proposal: Proposal) -> Reply
-        requires { MayAsk (view self.old).who.base (machine_seen (view self.old)) (call.Submit application proposal) }
+        requires { MayAsk (view self.old).who.base (machine_seen (view self.old))
+            (call.Submit application proposal) }
         ensures { Answered (view self.old) (call.Submit application proposal) result (view self.new) }
     {
         self.ask(Call::Submit {

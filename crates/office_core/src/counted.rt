@@ -105,7 +105,8 @@ impl<L: Ledger> CountedOffice<L> {
         ensures full { IsFull self.old.office → result ≡ reply.Full self.old.office.most }
         ensures unchanged { IsFull self.old.office → self.new ≡ self.old }
         ensures not_full { HasPlace self.old.office → is_full result ≡ false }
-        ensures grown { HasPlace self.old.office → self.new.office ≡ grown self.old.office (entry caller call result) }
+        ensures grown { HasPlace self.old.office → self.new.office
+            ≡ grown self.old.office (entry caller call result) }
         ensures legal { IsLegal self.new.office.base self.new.office.opening self.new.office.history }
         ensures cost { TestsFor self.old call self.new }
     {

@@ -245,7 +245,8 @@ impl Register {
     pub(crate) fn enter_permit(&mut self, trip: Trip, seen: u32) -> Result<(), NoMemory>
         requires truck { trip.truck < length self.old.base.fleet }
         requires segments { All (λ s. s < length self.old.base.roads.segments) (concat trip.routes) }
-        requires meets { first_in self.old.base (register_state_now self.old) trip.truck (concat trip.routes) ≡ None }
+        requires meets { first_in self.old.base (register_state_now self.old) trip.truck (concat trip.routes)
+            ≡ None }
         requires room { HasRoom self.old.machine }
         ensures base { self.new.base ≡ self.old.base }
         ensures after { OnOk result (Enters self.old trip seen self.new) }
@@ -271,7 +272,8 @@ impl Register {
         requires next { IsNextState self.old next }
         requires recalled { recalled.now ≡ recalls_of self.old next.state }
         ensures base { self.new.base ≡ self.old.base }
-        ensures after { OnOk result (Posts self.old next.change self.new (posting_reply self.old next.change)) }
+        ensures after { OnOk result (Posts self.old next.change self.new
+            (posting_reply self.old next.change)) }
         ensures unchanged { OnErr result (self.new ≡ self.old) }
     {
         let version = self.store.commit(self.base.network(), next)?;

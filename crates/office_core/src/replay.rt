@@ -121,7 +121,8 @@ impl Replay {
         steps: &mut Steps<L>,
     ) -> bool
         requires { IsFound self.now.base self.now.machine application.now proposal.now }
-        ensures { result ≡ is_issue (reply_in self.now.base self.now.machine application.now proposal.now.what) }
+        ensures { result
+            ≡ is_issue (reply_in self.now.base self.now.machine application.now proposal.now.what) }
     {
         if self.register.early_answer(application).is_some() {
             return false;

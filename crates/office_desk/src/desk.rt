@@ -108,7 +108,8 @@ impl<L: Ledger> Desk<L> {
         ensures seen { StartsWith result.0.history root.seen }
 
         // The history has the entries of those that were admitted and no others, as their receipts tell.
-        ensures own { All (λ receipt. entries_by receipt.number result.0.history ≡ receipt.own) root.receipts }
+        ensures own { All (λ receipt. entries_by receipt.number result.0.history
+            ≡ receipt.own) root.receipts }
         ensures callers { All (λ e. e.caller < root.admitted) result.0.history }
         ensures others { All (λ e. HasReceipt root.receipts e.caller) result.0.history }
 

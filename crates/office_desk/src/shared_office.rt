@@ -46,7 +46,8 @@ impl<L: Ledger> SharedOffice<L> {
         requires asked { MayAsk self.old.counted.office.base (machine_in self.old.counted.office) call }
         ensures not_full { is_full result ≡ false }
         ensures grown { self.new.counted.office ≡ grown self.old.counted.office (entry caller call result) }
-        ensures legal { IsLegal self.new.counted.office.base self.new.counted.office.opening self.new.counted.office.history }
+        ensures legal { IsLegal self.new.counted.office.base self.new.counted.office.opening
+            self.new.counted.office.history }
         ensures cost { CountsTurn self.old.counted call self.new.counted }
     {
         self.counted.step(caller, call)
@@ -59,7 +60,8 @@ impl<L: Ledger> SharedOffice<L> {
         ensures out { HandsOut result self.new.counted.office }
         ensures grown { self.new.counted.office ≡ grown self.old.counted.office
             (entry caller calls.Snapshot (reply.SnapshotAt (version_of (machine_in self.new.counted.office)))) }
-        ensures legal { IsLegal self.new.counted.office.base self.new.counted.office.opening self.new.counted.office.history }
+        ensures legal { IsLegal self.new.counted.office.base self.new.counted.office.opening
+            self.new.counted.office.history }
         ensures cost { CountsTurn self.old.counted calls.Snapshot self.new.counted }
     {
         drop(self.step(caller, Call::Snapshot));

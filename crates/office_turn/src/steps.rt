@@ -76,7 +76,8 @@ fn sleep<V: Storied, R: Wait>(
     seat: &mut Seat<Option<V>, View<V::Entry, V::Terms>>,
 )
     requires lock { (seat.old.table_id ≡ shared.now.table_id) × (shared.now.table_id.words ≡ 10) }
-    ensures same { (seat.new.table_id ≡ seat.old.table_id) × (seat.new.id ≡ seat.old.id) × (seat.new.me ≡ seat.old.me) }
+    ensures same { (seat.new.table_id ≡ seat.old.table_id) × (seat.new.id ≡ seat.old.id)
+        × (seat.new.me ≡ seat.old.me) }
 {
     shared.fetch_add::<Ring>(seat, SLEEPERS, 1);
     // Of a word the kernel compares the low half.

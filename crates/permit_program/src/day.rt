@@ -44,7 +44,8 @@ pub(crate) fn make_journal<
     L: Ledger + Send + Sync,
 >(rt: &R, bytes: &[u8], gate: &G, blank: Blank) -> Result<DayOutput<L>, Refusal>
     requires counter { IsBlankOf L.name L.parts blank }
-    ensures made { IfOk result (λ output. MakesAndTells day bytes.now output.journal.items output.recalls.items) }
+    ensures made { IfOk result
+        (λ output. MakesAndTells day bytes.now output.journal.items output.recalls.items) }
     ensures counted { IfOk result (λ output. CountedHeadline output.readings bytes.now output.journal.items) }
     ensures refused { IfErr result (IsRefusalOf day bytes.now) }
 {
@@ -77,7 +78,8 @@ struct Told {
 // The journal of an office's history, and all its recalls, in order.
 fn tell(alloc: Global, office: &Office) -> Result<Told, NoMemory>
     ensures journal { IfOk result (λ told. told.journal.items ≡ journal_of office.now.history) }
-    ensures recalls { IfOk result (λ told. told.recalls.items ≡ recalls_in office.now.base office.now.history) }
+    ensures recalls { IfOk result (λ told. told.recalls.items
+        ≡ recalls_in office.now.base office.now.history) }
 {
     let journal = print(alloc, office.history())?;
     let recalls = recalls(alloc, office.base(), office.history())?;

@@ -33,7 +33,8 @@ pub fn take_bytes<S: Source>(
 
 /// Ends a run whose bytes were not all read.
 pub fn end_unread<K: Sink>(sink: &mut K, unread: ReadRefusal) -> u8
-    ensures { let sink_at = sink_at ⟦<K as Sink>⟧ in AnswersUnread unread (sink_at sink.old) (sink_at sink.new) result }
+    ensures { let sink_at = sink_at ⟦<K as Sink>⟧ in AnswersUnread unread (sink_at sink.old)
+        (sink_at sink.new) result }
 {
     match unread {
         ReadRefusal::ReadFault => 3,
@@ -44,7 +45,8 @@ pub fn end_unread<K: Sink>(sink: &mut K, unread: ReadRefusal) -> u8
 
 /// Ends a run whose bytes are refused.
 pub fn end_refused<K: Sink>(sink: &mut K, refusal: Refusal) -> u8
-    ensures { let sink_at = sink_at ⟦<K as Sink>⟧ in AnswersRefusal refusal (sink_at sink.old) (sink_at sink.new) result }
+    ensures { let sink_at = sink_at ⟦<K as Sink>⟧ in AnswersRefusal refusal (sink_at sink.old)
+        (sink_at sink.new) result }
 {
     match refusal {
         Refusal::Refused { status, line } => refuse(sink, line.as_bytes(), status),
@@ -54,7 +56,8 @@ pub fn end_refused<K: Sink>(sink: &mut K, refusal: Refusal) -> u8
 
 /// Writes what a command made: 0, or 4 where the sink fails.
 pub fn end_made<K: Sink>(sink: &mut K, text: &[u8]) -> u8
-    ensures { let sink_at = sink_at ⟦<K as Sink>⟧ in AnswersText text.now (sink_at sink.old) (sink_at sink.new) result }
+    ensures { let sink_at = sink_at ⟦<K as Sink>⟧ in AnswersText text.now (sink_at sink.old)
+        (sink_at sink.new) result }
 {
     match write_all(sink, text) {
         Ok(()) => 0,

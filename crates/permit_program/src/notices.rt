@@ -65,8 +65,10 @@ impl<K: Sink + Drop> Notice for LineNotice<K> {
 pub fn add_listener(notices: &mut Subscribers, notice: Box<dyn Notice>) -> bool
     requires { AreNew (standings list notices.old) }
     ensures new { AreNew (standings list notices.new) }
-    ensures added { OnTrue result (standings list notices.new ≡ standings list notices.old ++ new_standing whom.All (list notice) ∷ []) }
-    ensures count { OnTrue result (fault_counts faults notices.new ≡ fault_counts faults notices.old ++ faults notice ∷ []) }
+    ensures added { OnTrue result (standings list notices.new ≡ standings list notices.old
+        ++ new_standing whom.All (list notice) ∷ []) }
+    ensures count { OnTrue result (fault_counts faults notices.new ≡ fault_counts faults notices.old
+        ++ faults notice ∷ []) }
     ensures text { OnTrue result (texts text notices.new ≡ texts text notices.old ++ text notice ∷ []) }
     ensures same { OnFalse result (standings list notices.new ≡ standings list notices.old) }
     ensures counts { OnFalse result (fault_counts faults notices.new ≡ fault_counts faults notices.old) }

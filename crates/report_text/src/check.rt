@@ -97,7 +97,8 @@ fn rule_name(rule: Rule) -> &'static str
 // The truck on one probe: the span and the truck's peaks on it, those of the HS20-44 truck, and the judgement by the rating.
 fn add_probe(text: &mut String, train: &Train, probe: &Probe) -> Result<(), AllocError>
     requires { IsProbeSpan probe.now }
-    ensures { OnOk result (AddsOne (IsProbeText train.now probe.now) (string_bytes text.old) (string_bytes text.new)) }
+    ensures { OnOk result (AddsOne (IsProbeText train.now probe.now) (string_bytes text.old)
+        (string_bytes text.new)) }
 {
     let moment = moment_peak::peak(train, probe.inches);
     let shear = shear_peak::peak(train, probe.inches);

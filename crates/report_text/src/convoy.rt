@@ -48,7 +48,8 @@ pub fn convoy_refusal_line(alloc: Global, refusal: ConvoyRefusal) -> Result<Stri
 // The convoy on one probe: the span, the convoy's peaks on it, and the judgement by the rating.
 fn add_probe(text: &mut String, convoy: &Convoy, probe: &Probe) -> Result<(), AllocError>
     requires { IsProbeSpan probe.now }
-    ensures { OnOk result (AddsOne (IsConvoyText convoy.now probe.now) (string_bytes text.old) (string_bytes text.new)) }
+    ensures { OnOk result (AddsOne (IsConvoyText convoy.now probe.now) (string_bytes text.old)
+        (string_bytes text.new)) }
 {
     let moment = convoy.moment(probe.inches);
     let shear = convoy.shear(probe.inches);

@@ -33,7 +33,8 @@ pub fn design_report(alloc: Global, file: &CheckFile) -> Result<String, NoMemory
 // judgement by the rating.
 fn add_probe(text: &mut String, train: &Train, probe: &Probe) -> Result<(), AllocError>
     requires { IsProbeSpan probe.now }
-    ensures { OnOk result (AddsOne (IsDesignText train.now probe.now) (string_bytes text.old) (string_bytes text.new)) }
+    ensures { OnOk result (AddsOne (IsDesignText train.now probe.now) (string_bytes text.old)
+        (string_bytes text.new)) }
 {
     let truck = effects_of(train, probe.inches);
     let design = greatest(probe.inches);

@@ -98,7 +98,8 @@ type Search = (
 
 // Whether a route has the potentials of a row.
 fn has_potentials(trip: &TripEnds, found: &Found, wanted: &[u64]) -> bool
-    requires { IsFoundBetween trip.now.roads.network.now trip.now.roads.flags.now trip.now.from trip.now.to found.now }
+    requires { IsFoundBetween trip.now.roads.network.now trip.now.roads.flags.now
+        trip.now.from trip.now.to found.now }
 {
     match found {
         Found::Route { potential, .. } => are_potentials(trip.roads.network, potential, wanted),

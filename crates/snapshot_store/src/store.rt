@@ -101,7 +101,8 @@ impl Store {
     /// is one. Takes no memory, and passes over each page of segments that no such posting names.
     #[tactic(auto, using(crate::proofs::Changed::changed_above, crate::proofs::Changed::kept_below))]
     pub fn next_changed(&self, after: u32, from: u32) -> Option<u32>
-        ensures changed { IfSome result (λ s. is_touched self.now.roads s (drop after self.now.postings) ≡ true) }
+        ensures changed { IfSome result (λ s. is_touched self.now.roads s (drop after self.now.postings)
+            ≡ true) }
         ensures within { IfSome result (λ s. (from ≤ s) × (s < length self.now.roads.segments)) }
         ensures first { IfSome result (λ s. AreKept self.now after from s) }
         ensures none { IfNone result (AreKept self.now after from (length self.now.roads.segments)) }
@@ -150,7 +151,8 @@ impl Store {
     ) -> Result<Arc<Stamps, Global>, NoMemory>
         requires network { network.now ≡ self.now.roads }
         requires takes { takes self.now.roads change.now ≡ true }
-        ensures { IfOk result (λ stamps. HasStamps self.now.roads (with_change self.now change.now).postings (arc_value stamps)) }
+        ensures { IfOk result (λ stamps. HasStamps self.now.roads (with_change self.now change.now).postings
+            (arc_value stamps)) }
     {
         let segment = touched(network, change);
         let stamps = self

@@ -218,7 +218,8 @@ fn try_asked(
     requires { AreAskedThere network.now asked.now }
     ensures routes { OnOk result (AreAskedRoutes asked.now) }
     ensures taken { OnOk result (asked_refusal network.now.segments from to asked.now ≡ None) }
-    ensures refused { IfErr result (IsApplicationCause (asked_refusal network.now.segments from to asked.now)) }
+    ensures refused { IfErr result (IsApplicationCause
+        (asked_refusal network.now.segments from to asked.now)) }
 {
     let Some(routes) = asked else {
         return Ok(());

@@ -81,7 +81,8 @@ impl Follower {
         ensures seen { IfOk result (λ proposal. proposal.seen ≡ store_version_of snapshot) }
         ensures found { IfOk result (λ proposal. IsFoundAt base.now snapshot application.now proposal.what) }
         ensures known { self.new ≡ followed base.now snapshot }
-        ensures steps { TestsAtMost (tests_to_go_on base.now + tests_for base.now application.now.asked) steps.old steps.new }
+        ensures steps { TestsAtMost (tests_to_go_on base.now + tests_for base.now application.now.asked)
+            steps.old steps.new }
     {
         go_on(base, &mut self.analyst, &self.last, &snapshot, steps);
         let found = self

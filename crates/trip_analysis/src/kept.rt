@@ -48,7 +48,8 @@ impl Kept {
     ) -> Result<Shortest, NoMemory>
         requires kept { IsKeptOver trip.now.roads.network.now trip.now.roads.flags.now self.old }
         requires heights { AreHeights trip.now.roads.network.now.segments tables.old.heights }
-        ensures found { IfOk result (IsShortest trip.now.roads.network.now trip.now.roads.flags.now trip.now.from trip.now.to) }
+        ensures found { IfOk result
+            (IsShortest trip.now.roads.network.now trip.now.roads.flags.now trip.now.from trip.now.to) }
         ensures kept { IsKeptOver trip.now.roads.network.now trip.now.roads.flags.now self.new }
         ensures heights { AreHeights trip.now.roads.network.now.segments tables.new.heights }
     {

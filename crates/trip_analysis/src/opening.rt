@@ -46,7 +46,8 @@ pub(crate) fn keep(
     openings: &mut Option<Vec<Opening>>,
     opening: Opening,
 ) -> Result<(), NoMemory>
-    ensures { (base : BaseLists) → AreOpenings base openings.old → IsOpening base opening → AreOpenings base openings.new }
+    ensures { (base : BaseLists) → AreOpenings base openings.old → IsOpening base opening
+        → AreOpenings base openings.new }
 {
     match openings {
         Some(openings) => openings.push(opening)?,
