@@ -10,7 +10,6 @@ use Rattle.day_writer.specs.Sheets.{IsSheet, parts_of_sheet, roads_in_force}
 use Rattle.day_writer.specs.Writable.{IsWritable}
 use Rattle.day_writer.specs.declared.write.Sheet.{Sheet}
 use Rattle.next_day.specs.Laws.{IsNextDay}
-use Rattle.next_day.specs.Next.{IsNext}
 use Rattle.next_day.specs.NextDay.{next_day, order_for, trucks_kept}
 use Rattle.next_day.specs.Standing.{standing_in}
 use Rattle.next_day.specs.declared.going_on.NextDay.{NextDay}
@@ -18,7 +17,7 @@ use Rattle.next_day.specs.declared.standing.Standing.{Standing}
 use Rattle.next_day.proofs.Kept.{kept_there}
 use Rattle.next_day.proofs.Writable.{next_days}
 use Rattle.clerk_program.specs.declared.whole_day.WholeDay.{WholeDay}
-use Rattle.clerk_program.specs.Carrying.{IsReadyToCarry}
+use Rattle.clerk_program.specs.Carrying.{GoesOn, IsReadyToCarry}
 use Rattle.clerk_program.specs.Judging.{file_of}
 
 module _ (in_force : Bool) (d : WholeDay) (ready : IsReadyToCarry d) where
@@ -38,13 +37,12 @@ module _ (in_force : Bool) (d : WholeDay) (ready : IsReadyToCarry d) where
   few_standing = omega (arith, again.writable.kept.few_commands, length-map There (order_for Kept Left.day))
 
   -- what was found to go on
-  module _ (trucks : ℕ) (all : trucks ≡ length (arc_value d.base).fleet) (next : NextDay) (found : IsNext in_force trucks d.office.machine d.history.items next) where
+  module _ (next : NextDay) (found : GoesOn in_force d next) where
     pub standing_is : next.standing.items ≡ There
     standing_is = found.standing ∙ ap (λ (m : Machine). standing_in m d.history.items) ready.left.machine
 
     trucks_are : next.trucks.items ≡ Kept
-    trucks_are = found.kept ∙ (ap (λ (n : ℕ). trucks_kept in_force n next.standing.items) all
-        ∙ ap (trucks_kept in_force (length (arc_value d.base).fleet)) standing_is)
+    trucks_are = found.kept ∙ ap (trucks_kept in_force (length (arc_value d.base).fleet)) standing_is
 
     commands_are : next.commands.items ≡ map (order_for Kept Left.day) There
     commands_are = found.commands ∙ (ap (λ (ts : List ℕ). map (order_for ts d.office.machine.day) next.standing.items) trucks_are

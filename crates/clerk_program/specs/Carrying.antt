@@ -7,7 +7,9 @@ use Rattle.journal_whole.specs.Wholes.{IsWhole}
 use Rattle.day_writer.specs.Rows.{day_text_of}
 use Rattle.day_writer.specs.Writable.{IsWritable}
 use Rattle.next_day.specs.Laws.{numbers_standing}
+use Rattle.next_day.specs.Next.{IsNext}
 use Rattle.next_day.specs.NextDay.{next_day}
+use Rattle.next_day.specs.declared.going_on.NextDay.{NextDay}
 use Rattle.clerk_program.specs.declared.carry.Carried.{Carried}
 use Rattle.clerk_program.specs.declared.whole_day.WholeDay.{WholeDay}
 use Rattle.clerk_program.specs.Carry.{carried_lines}
@@ -19,6 +21,10 @@ pub record IsReadyToCarry (d : WholeDay) : Type 0 where
   pub legal : IsLegal (arc_value d.base) d.day d.history.items
   pub whole : IsWhole (length d.actors.items) d.commands.items d.history.items
   pub left : IsLeftBy (arc_value d.base) d.day d.history.items d.office
+
+-- what goes on behind what its office keeps and its history
+abbrev pub GoesOn : Bool → WholeDay → NextDay → Type 0
+GoesOn in_force d next = IsNext in_force (length (arc_value d.base).fleet) d.office.machine d.history.items next
 
 -- the text is that of the next day behind it, and the lines are those of the permits that go on
 pub record IsCarriedDay (in_force : Bool) (d : WholeDay) (carried : Carried) : Type 0 where

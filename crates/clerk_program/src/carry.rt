@@ -4,14 +4,14 @@ ghost use Rattle.std.specs.Prelude.{◌≡◌, ◌≤◌, ◌++◌, IfErr, IfOk,
 ghost use Rattle.permit_program.specs.Command.{IsRefusalOf, Makes};
 ghost use Rattle.clerk_program.specs.Carry.{AreCarriedLines, carried_line, carried_lines, carry};
 ghost use Rattle.clerk_program.specs.Judging.{IsWholeDay};
-ghost use Rattle.clerk_program.specs.Carrying.{IsCarriedDay, IsReadyToCarry};
+ghost use Rattle.clerk_program.specs.Carrying.{GoesOn, IsCarriedDay, IsReadyToCarry};
 
 use crate::judging::MOST_DAY;
 use crate::refusals::of_bytes;
 use crate::whole_day::{WholeDay, read_whole};
 use day_writer::{Sheet, write_day};
 use names::NoMemory;
-use next_day::{Standing, next_day};
+use next_day::{NextDay, Standing, next_day};
 use office_io::write_number;
 use permit_program::Refusal;
 use std::alloc::{AllocError, Global};
@@ -46,9 +46,7 @@ fn carry_day(alloc: Global, day: &WholeDay, in_force: bool) -> Result<Carried, N
     requires { IsReadyToCarry day.now }
     ensures { IfOk result (IsCarriedDay in_force day.now) }
 {
-    let trucks = day.base.fleet().len() as u32;
-    let history = day.history.as_slice();
-    let next = next_day(alloc, in_force, trucks, &day.office, history)?;
+    let next = what_goes_on(alloc, day, in_force)?;
     let sheet = Sheet {
         base: &day.base,
         state: day.office.state(),
@@ -60,6 +58,14 @@ fn carry_day(alloc: Global, day: &WholeDay, in_force: bool) -> Result<Carried, N
     let text = write_day(alloc, &sheet)?;
     let lines = lines_of(alloc, next.standing.as_slice())?;
     Ok(Carried { text, lines })
+}
+
+// What goes on behind a day.
+fn what_goes_on(alloc: Global, day: &WholeDay, in_force: bool) -> Result<NextDay, NoMemory>
+    ensures { IfOk result (GoesOn in_force day.now) }
+{
+    let trucks = day.base.fleet().len() as u32;
+    next_day(alloc, in_force, trucks, &day.office, day.history.as_slice())
 }
 
 // The lines of these permits, which are numbered anew.

@@ -1,11 +1,6 @@
 use Rattle.std.proofs.Common.{◌≡◌, ◌∙◌, ◌≤◌, List, length, map, ap, subst, sym}
-use Rattle.std.specs.Arc.{arc_value}
-use Rattle.trip_analysis.specs.Bases.{BaseLists}
-use Rattle.trip_analysis.specs.declared.base.Truck.{Truck}
-use Rattle.office_words.specs.declared.entry.Entry.{Entry}
 use Rattle.day_writer.specs.Rows.{day_text_of}
 use Rattle.day_writer.specs.declared.write.Sheet.{Sheet}
-use Rattle.next_day.specs.Next.{IsNext}
 use Rattle.next_day.specs.declared.standing.Standing.{Standing}
 use Rattle.clerk_program.specs.Carry.{carried_lines}
 use Rattle.clerk_program.proofs.NextSheet.{few_standing, parts_are, sheet_there, sheet_writable, standing_is}
@@ -13,40 +8,28 @@ use Rattle.clerk_program.proofs.carry.carry_day.Goals as goal
 
 pub write_day-requires-clause-there : goal.write_day-requires-clause-there
 write_day-requires-clause-there c =
-    let d = c.args.day.now in
-    let all : length c.fleet.result.now ≡ length (arc_value d.base).fleet = ap (λ (l : List Truck). length l) (c.fleet.ensures.value ∙ ap (λ (b : BaseLists). b.fleet) c.deref.ensures) in
-    let found = subst (λ (es : List Entry). IsNext c.args.in_force (length c.fleet.result.now) d.office.machine es c.in_ok-next.next) c.as_slice-history.ensures.value c.in_ok-next.ensures in
-    let s : Sheet = record { base = c.deref-2.result; state = c.state.result; trucks = c.as_slice.result; day = c.today.result; actors = c.as_slice-2.result; commands = c.as_slice-3.result } in
-    sheet_there c.args.in_force d c.requires (length c.fleet.result.now) all c.in_ok-next.next found s c.deref-2.ensures c.state.ensures.value c.as_slice.ensures.value c.today.ensures
+    let s : Sheet = record { base = c.deref.result; state = c.state.result; trucks = c.as_slice.result; day = c.today.result; actors = c.as_slice-2.result; commands = c.as_slice-3.result } in
+    sheet_there c.args.in_force c.args.day.now c.requires c.in_ok-next.next c.in_ok-next.ensures s c.deref.ensures c.state.ensures.value c.as_slice.ensures.value c.today.ensures
     c.as_slice-2.ensures.value c.as_slice-3.ensures.value c.state.ensures.of_base
 
 pub write_day-requires-clause-writable : goal.write_day-requires-clause-writable
 write_day-requires-clause-writable c =
-    let d = c.args.day.now in
-    let all : length c.fleet.result.now ≡ length (arc_value d.base).fleet = ap (λ (l : List Truck). length l) (c.fleet.ensures.value ∙ ap (λ (b : BaseLists). b.fleet) c.deref.ensures) in
-    let found = subst (λ (es : List Entry). IsNext c.args.in_force (length c.fleet.result.now) d.office.machine es c.in_ok-next.next) c.as_slice-history.ensures.value c.in_ok-next.ensures in
-    let s : Sheet = record { base = c.deref-2.result; state = c.state.result; trucks = c.as_slice.result; day = c.today.result; actors = c.as_slice-2.result; commands = c.as_slice-3.result } in
-    sheet_writable c.args.in_force d c.requires (length c.fleet.result.now) all c.in_ok-next.next found s c.deref-2.ensures c.state.ensures.value c.as_slice.ensures.value c.today.ensures
+    let s : Sheet = record { base = c.deref.result; state = c.state.result; trucks = c.as_slice.result; day = c.today.result; actors = c.as_slice-2.result; commands = c.as_slice-3.result } in
+    sheet_writable c.args.in_force c.args.day.now c.requires c.in_ok-next.next c.in_ok-next.ensures s c.deref.ensures c.state.ensures.value c.as_slice.ensures.value c.today.ensures
     c.as_slice-2.ensures.value c.as_slice-3.ensures.value
 
 pub lines_of-requires : goal.lines_of-requires
 lines_of-requires c =
-    let d = c.args.day.now in
-    let all : length c.fleet.result.now ≡ length (arc_value d.base).fleet = ap (λ (l : List Truck). length l) (c.fleet.ensures.value ∙ ap (λ (b : BaseLists). b.fleet) c.deref.ensures) in
-    let found = subst (λ (es : List Entry). IsNext c.args.in_force (length c.fleet.result.now) d.office.machine es c.in_ok-next.next) c.as_slice-history.ensures.value c.in_ok-next.ensures in
-    let stood = c.as_slice-4.ensures.value ∙ standing_is c.args.in_force d c.requires (length c.fleet.result.now) all c.in_ok-next.next found in
-    subst (λ (l : List Standing). length l ≤ 1000000) (sym stood) (few_standing c.args.in_force d c.requires)
+    let stood = c.as_slice-4.ensures.value ∙ standing_is c.args.in_force c.args.day.now c.requires c.in_ok-next.next c.in_ok-next.ensures in
+    subst (λ (l : List Standing). length l ≤ 1000000) (sym stood) (few_standing c.args.in_force c.args.day.now c.requires)
 
 pub returns : goal.returns
 returns c =
-    let d = c.args.day.now in
-    let all : length c.fleet.result.now ≡ length (arc_value d.base).fleet = ap (λ (l : List Truck). length l) (c.fleet.ensures.value ∙ ap (λ (b : BaseLists). b.fleet) c.deref.ensures) in
-    let found = subst (λ (es : List Entry). IsNext c.args.in_force (length c.fleet.result.now) d.office.machine es c.in_ok-next.next) c.as_slice-history.ensures.value c.in_ok-next.ensures in
-    let s : Sheet = record { base = c.deref-2.result; state = c.state.result; trucks = c.as_slice.result; day = c.today.result; actors = c.as_slice-2.result; commands = c.as_slice-3.result } in
-    let stood = c.as_slice-4.ensures.value ∙ standing_is c.args.in_force d c.requires (length c.fleet.result.now) all c.in_ok-next.next found in
+    let s : Sheet = record { base = c.deref.result; state = c.state.result; trucks = c.as_slice.result; day = c.today.result; actors = c.as_slice-2.result; commands = c.as_slice-3.result } in
+    let stood = c.as_slice-4.ensures.value ∙ standing_is c.args.in_force c.args.day.now c.requires c.in_ok-next.next c.in_ok-next.ensures in
     record {
       text = c.in_ok-text.ensures.text
-          ∙ ap day_text_of (parts_are c.args.in_force d c.requires (length c.fleet.result.now) all c.in_ok-next.next found s c.deref-2.ensures c.state.ensures.value c.as_slice.ensures.value
+          ∙ ap day_text_of (parts_are c.args.in_force c.args.day.now c.requires c.in_ok-next.next c.in_ok-next.ensures s c.deref.ensures c.state.ensures.value c.as_slice.ensures.value
           c.today.ensures c.as_slice-2.ensures.value c.as_slice-3.ensures.value);
       lines = c.in_ok-lines.ensures ∙ ap (λ (l : List Standing). carried_lines 0 (map (λ (p : Standing). p.number) l)) stood;
     }
