@@ -1,28 +1,68 @@
 -- A page that grows record by record, and a text that grows part by part.
-use Rattle.std.proofs.Common.{◌≡◌, ◌≢◌, ◌∙◌, ◌<◌, ◌≤◌, ◌+◌, ◌-◌, ◌∷◌, ◌++◌, [], ℕ, zero, suc, List, Option, Some, false, get_or, length, map, replicate, take, ap, subst, sym, arith, append_assoc}
+use Rattle.std.proofs.Common.{◌≡◌, ◌≢◌, ◌==◌, ◌^◌, ◌∙◌, ◌<◌, ◌≤◌, ◌+◌, ◌-◌, ◌∷◌, ◌++◌, [], ℕ, zero, suc, List, Some, true, false, not, min, refl, get_or, length, length-append, map, replicate, take, ap, sym, arith, append_assoc}
 use Rattle.std.specs.Prelude.{Vec, codes, flat_map}
 use Rattle.std.specs.Fmt.{decimal}
 use Rattle.std.specs.Global.{Global}
 use Rattle.std.specs.Io.KnownBytes.{Appends}
-use Rattle.csv.specs.Writing.{default_writer, fields_written, has_written, row_text, text_written, writer_setup}
+use Rattle.csv.proofs.WriteFacts.{blank-more, row-final, row-more}
+use Rattle.csv.specs.Writing.{default_writer, field_text, fields_written, has_written, is_blank, next_sep, row_body, tail_text, text_written, writer_setup}
 use Rattle.csv.specs.declared.writer.QuoteStyle.TheVariants as style
 use Rattle.csv.specs.declared.writer.Writer.{Writer}
 use Rattle.csv.specs.declared.writer.WriterBuilder.{WriterBuilder}
 use Rattle.std.proofs.lemmas.Grind.{flat_map-append}
-use Rattle.std.proofs.lemmas.List.{append-nil, take_all, take_more}
+use Rattle.std.proofs.lemmas.List.{append-nil, length-map, length-take-le, map-append, take_all, take_more}
 use Rattle.day_text.specs.Records.{Row}
 use Rattle.road_graph.specs.Roads.{Roads}
 use Rattle.road_graph.specs.declared.segment.Segment.{Segment}
 use Rattle.day_writer.specs.Orders.{name_at}
 use Rattle.day_writer.specs.Rows.{segment_row}
 use Rattle.day_writer.specs.Texts.{joined, line, row, text_of}
-use Rattle.day_writer.specs.Writers.{IsBetweenRecords, given_text}
+use Rattle.day_writer.specs.Writers.{GoesOn, IsBehind, IsBetweenRecords, given_text}
 
-text_grows : (o : Option (Writer (Vec ℕ Global))) (old new : Writer (Vec ℕ Global)) (made fields : Row) → o ≡ Some old → IsBetweenRecords old → made ≡ fields
-    → Appends (text_written (λ v. Some v.items) old) (text_written (λ v. Some v.items) new) (row_text (writer_setup old) made) → given_text (Some new) ≡ given_text o ++ line fields
+-- before a record, the writer is behind none of its fields
+pub starts : (w : Writer (Vec ℕ Global)) → IsBetweenRecords w → IsBehind (given_text (Some w)) [] w
+unfolding is_blank
+starts w ready = record { setup = ready.setup; given = sym (append-nil (given_text (Some w))); count = ready.fields; blank = rw ready.blank refl }
+
+-- the style of the default writer quotes as needed
+is_plain : (w : Writer (Vec ℕ Global)) → writer_setup w ≡ default_writer → (writer_setup w).style ≢ style.NonNumeric
+is_plain w setup e = absurd (cc (ap (λ (s : WriterBuilder). s.style) setup))
+
+-- behind one field more
+pub goes_on : (old new : Writer (Vec ℕ Global)) (text field : List ℕ) (fields : Row) → length fields < 100 → IsBehind text fields old
+    → (((writer_setup old).style ≢ style.NonNumeric) → Appends (text_written (λ v. Some v.items) old) (text_written (λ v. Some v.items) new) (next_sep (writer_setup old) (fields_written old) ++ field_text (writer_setup old) field))
+    → writer_setup new ≡ writer_setup old → fields_written new ≡ min (fields_written old + 1) (2 ^ 64 - 1)
+    → (has_written old ≡ false → ((writer_setup old).style ≢ style.NonNumeric) → has_written new ≡ not (length (field_text (writer_setup old) field) == 0))
+    → (has_written old ≡ true → has_written new ≡ true)
+    → IsBehind text (fields ++ (field ∷ [])) new
+goes_on old new text field fields few behind wrote same counted shows stays =
+    let plain = is_plain old behind.setup in
+    let size = length-append fields (field ∷ []) in
+    let more : List ℕ = next_sep default_writer (length fields) ++ field_text default_writer field in
+    let adds : given_text (Some new) ≡ given_text (Some old) ++ more = rw (behind.setup, behind.count) at (wrote plain) in record {
+      setup = same ∙ behind.setup;
+      given = adds ∙ (ap (λ (t : List ℕ). t ++ more) behind.given ∙ (append_assoc text (row_body default_writer fields) more ∙ ap (λ (t : List ℕ). text ++ t) (sym (row-more default_writer fields field))));
+      count = counted ∙ rw behind.count (omega (arith, size, few));
+      blank = rw size (blank-more default_writer fields field (has_written old) (has_written new) behind.blank (λ w. rw behind.setup at (shows w plain)) stays);
+    }
+
+-- behind a record that has ended
+pub row_ends : (old new : Writer (Vec ℕ Global)) (text : List ℕ) (fields : Row) → IsBehind text fields old
+    → Appends (text_written (λ v. Some v.items) old) (text_written (λ v. Some v.items) new) (tail_text (writer_setup old) (has_written old) (fields_written old))
+    → given_text (Some new) ≡ text ++ line fields
 unfolding line
-text_grows o old new made fields there ready same wrote =
-    rw there (wrote ∙ ap (λ (t : List ℕ). given_text (Some old) ++ t) (ap (λ (s : WriterBuilder). row_text s made) ready.setup ∙ ap (row_text default_writer) same))
+row_ends old new text fields behind ends =
+    row-final (Some text) (text_written (λ v. Some v.items) old) (text_written (λ v. Some v.items) new) default_writer fields (has_written old) (fields_written old) behind.given
+    (rw (← behind.count) at behind.blank) (rw behind.setup at ends)
+
+-- behind the next of some things, by its text
+pub fields_more : {A : Type 0} (make : A → List ℕ) (xs : List A) (i : ℕ) (d : A) (text kind item : List ℕ) (old new : Writer (Vec ℕ Global)) → i < length xs → length xs ≤ 7 → item ≡ make (get_or xs i d)
+    → IsBehind text (kind ∷ map make (take i xs)) old → GoesOn old item new → IsBehind text (kind ∷ map make (take (i + 1) xs)) new
+fields_more {A} make xs i d text kind item old new low few is behind goes =
+    let size = length-map (take i xs) make in
+    let front = length-take-le i xs (omega (arith, low)) in
+    let more : map make (take (i + 1) xs) ≡ map make (take i xs) ++ (item ∷ []) = rw (take_more xs i d low, is) (map-append make (take i xs) (get_or xs i d ∷ [])) in
+    rw more (goes text (kind ∷ map make (take i xs)) (omega (arith, size, front, low, few)) behind)
 
 -- one field more, of those that are left
 pub blanks_more : (fields new all : Row) (i n : ℕ) → i < n → fields ++ replicate (n - i) [] ≡ all → new ≡ fields ++ ([] ∷ []) → new ++ replicate (n - (i + 1)) [] ≡ all
@@ -30,12 +70,9 @@ blanks_more fields new all i n h same is =
     let e : n - i ≡ suc (n - (i + 1)) = omega arith in
     rw is (append_assoc fields ([] ∷ []) (replicate (n - (i + 1)) []) ∙ (rw e at same))
 
--- the page after a record was written
-pub page_grows : (page : List ℕ) (o : Option (Writer (Vec ℕ Global))) (old new : Writer (Vec ℕ Global)) (made fields : Row) → given_text o ≡ page → o ≡ Some old → IsBetweenRecords old → made ≡ fields
-    → (fields_written old ≡ 0 → has_written old ≡ false → ((writer_setup old).style ≢ style.NonNumeric) → Appends (text_written (λ v. Some v.items) old) (text_written (λ v. Some v.items) new) (row_text (writer_setup old) made))
-    → given_text (Some new) ≡ page ++ line fields
-page_grows page o old new made fields is there ready same wrote =
-    subst (λ (p : List ℕ). given_text (Some new) ≡ p ++ line fields) is (text_grows o old new made fields there ready same (wrote ready.fields ready.blank (λ e. absurd (cc (ap (λ (s : WriterBuilder). s.style) ready.setup)))))
+-- and none is left
+pub blanks_end : (fields all : Row) (i n : ℕ) → n ≤ i → fields ++ replicate (n - i) [] ≡ all → fields ≡ all
+blanks_end fields all i n h same = let e : n - i ≡ 0 = omega arith in sym (append-nil fields) ∙ (rw e at same)
 
 -- one part more behind a byte
 joined_last : {A : Type 0} (between : ℕ) (text : A → List ℕ) (x : A) (xs : List A) (last : A) → joined between text ((x ∷ xs) ++ (last ∷ [])) ≡ joined between text (x ∷ xs) ++ (between ∷ text last)

@@ -1,11 +1,11 @@
 // A page to which records are added.
 
-ghost use Rattle.std.specs.Prelude.{◌≡◌, ◌≤◌, ◌∷◌, ◌++◌, None, length, map, OnOk, IfOk};
-ghost use Rattle.csv.specs.Records.{fields_of};
+ghost use Rattle.std.specs.Prelude.{◌≡◌, ◌≤◌, ◌∷◌, ◌++◌, None, Some, length, map, OnOk, IfOk};
 ghost use Rattle.day_writer.specs.Texts.{line, row};
+ghost use Rattle.day_writer.specs.Writers.{GoesOn, IsBetweenRecords, given_text};
 
 use crate::field::FieldText;
-use csv::{ByteRecord, Writer};
+use csv::Writer;
 use std::alloc::{AllocError, Global};
 use std::marker::Model;
 
@@ -14,6 +14,8 @@ use std::marker::Model;
 pub struct Page {
     alloc: Global,
     writer: Option<Writer<Vec<u8>>>,
+    // Where the text of each field is made, so that only the first ones take memory.
+    field: Vec<u8>,
 }
 
 impl Model for Page {
@@ -38,6 +40,7 @@ impl Page {
         Page {
             alloc,
             writer: Some(Writer::from_writer(Vec::new(alloc))),
+            field: Vec::new(alloc),
         }
     }
 
@@ -51,11 +54,10 @@ impl Page {
         requires { length fields.now ≤ 7 }
         ensures { OnOk result (self.new ≡ self.old ++ line (row (kind.now ∷ map F.text fields.now))) }
     {
-        let record = record_of(self.alloc, kind, fields)?;
         let Some(writer) = &mut self.writer else {
             return Err(AllocError);
         };
-        match writer.write_byte_record(&record) {
+        match write_row(writer, &mut self.field, kind, fields) {
             Ok(()) => Ok(()),
             Err(_) => {
                 let_go(&mut self.writer);
@@ -68,7 +70,8 @@ impl Page {
     pub fn into_text(self) -> Result<Vec<u8>, AllocError>
         ensures { IfOk result (λ text. text.items ≡ self) }
     {
-        match self.writer {
+        let Page { writer, .. } = self;
+        match writer {
             Some(writer) => writer.into_inner().map_err(|_| AllocError),
             None => Err(AllocError),
         }
@@ -84,28 +87,40 @@ fn let_go(writer: &mut Option<Writer<Vec<u8>>>)
     *writer = None;
 }
 
-// How many bytes there is room for in a record at first: most have fewer.
-const BYTES: usize = 64;
-
-// The record of these fields, with empty ones behind them to make eight.
-fn record_of<F: FieldText>(
-    alloc: Global,
+// Writes the record of these fields, with empty ones behind them to make eight. The text of each is made in `text`.
+fn write_row<F: FieldText>(
+    writer: &mut Writer<Vec<u8>>,
+    text: &mut Vec<u8>,
     kind: &str,
     fields: &[F],
-) -> Result<ByteRecord, AllocError>
-    requires { length fields.now ≤ 7 }
-    ensures { IfOk result (λ made. fields_of made ≡ row (kind.now ∷ map F.text fields.now)) }
+) -> Result<(), AllocError>
+    requires few { length fields.now ≤ 7 }
+    requires ready { IsBetweenRecords writer.old }
+    ensures ready { OnOk result (IsBetweenRecords writer.new) }
+    ensures text { let fields = row (kind.now ∷ map F.text fields.now) in
+        OnOk result (given_text (Some writer.new) ≡ given_text (Some writer.old) ++ line fields) }
 {
-    let mut made = ByteRecord::with_capacity(alloc, BYTES, 8)?;
-    made.push_field(kind.as_bytes())?;
-    let mut text = Vec::with_capacity(alloc, BYTES)?;
+    write_field(writer, kind.as_bytes())?;
     'fields: for field in fields {
         text.clear();
-        field.write(&mut text)?;
-        made.push_field(text.as_slice())?;
+        field.write(text)?;
+        write_field(writer, text.as_slice())?;
     }
     'blanks: for _ in fields.len()..7 {
-        made.push_field(b"")?;
+        write_field(writer, b"")?;
     }
-    Ok(made)
+    match writer.end_record() {
+        Ok(()) => Ok(()),
+        Err(_) => Err(AllocError),
+    }
+}
+
+// Writes one field more of a record.
+fn write_field(writer: &mut Writer<Vec<u8>>, field: &[u8]) -> Result<(), AllocError>
+    ensures { OnOk result (GoesOn writer.old field.now writer.new) }
+{
+    match writer.write_field(field) {
+        Ok(()) => Ok(()),
+        Err(_) => Err(AllocError),
+    }
 }
