@@ -1,5 +1,5 @@
 -- The rows of roads as they are in force, and of some of the trucks.
-use Rattle.std.proofs.Common.{◌≡◌, ◌∙◌, ◌<◌, ◌≤◌, ◌+◌, ◌∷◌, [], ℕ, List, Option, Some, None, Bool, true, All, get_or, length, map, refl, ap, sym, subst, arith, inl, inr, ◌++◌}
+use Rattle.std.proofs.Common.{◌≡◌, ◌∙◌, ◌<◌, ◌+◌, ◌∷◌, [], ℕ, List, Option, Some, None, true, All, get_or, length, map, refl, ap, sym, subst, arith, inl, inr, ◌++◌}
 use Rattle.std.specs.Prelude.{codes, nat_lt, ◌&&◌}
 use Rattle.std.specs.Fmt.{decimal}
 use Rattle.std.specs.List.{concat, enumerate_from}
@@ -13,7 +13,7 @@ use Rattle.road_graph.specs.Words.{what_word}
 use Rattle.road_graph.specs.declared.segment.Segment.{Segment}
 use Rattle.road_graph.specs.declared.segment.Span.{Span}
 use Rattle.restriction_log.specs.Changes.{takes_replaced}
-use Rattle.restriction_log.specs.States.{InForce, rating_at, values_at}
+use Rattle.restriction_log.specs.States.{InForce}
 use Rattle.restriction_log.specs.declared.change.Replaced.{Replaced}
 use Rattle.restriction_log.specs.declared.change.Replaced.TheVariants as replaced
 use Rattle.trip_analysis.specs.Applications.{AreAskedThere}

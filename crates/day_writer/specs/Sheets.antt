@@ -1,5 +1,5 @@
 -- What a day file is written of: roads with what is in force on them, some of the trucks, the day, the actors and the commands.
-use Rattle.std.specs.Prelude.{◌≡◌, ◌<◌, ℕ, List, All, length, map}
+use Rattle.std.specs.Prelude.{◌<◌, ℕ, List, All, length, map}
 use Rattle.std.specs.List.{enumerate_from}
 use Rattle.road_graph.specs.Roads.{Roads}
 use Rattle.road_graph.specs.declared.segment.Segment.{Segment}

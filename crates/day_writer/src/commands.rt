@@ -46,7 +46,8 @@ fn put_command(
     requires trucks { AreTrucksThere sheet.now }
     requires sound { MayCarryOut (parts_of_sheet sheet.now).base command.now }
     requires within { IsCommandWithin (parts_of_sheet sheet.now).base.roads command.now }
-    ensures { OnOk result (page.new ≡ page.old ++ line (command_row (parts_of_sheet sheet.now).base actor command.now)) }
+    ensures { let base = (parts_of_sheet sheet.now).base in
+        OnOk result (page.new ≡ page.old ++ line (command_row base actor command.now)) }
 {
     match command {
         Command::Apply(application) => put_application(page, sheet, actor, application),
@@ -68,7 +69,8 @@ fn put_application(
 ) -> Result<(), AllocError>
     requires trucks { AreTrucksThere sheet.now }
     requires sound { Sound (parts_of_sheet sheet.now).base application.now }
-    ensures { OnOk result (page.new ≡ page.old ++ line (application_row (parts_of_sheet sheet.now).base actor application.now)) }
+    ensures { let base = (parts_of_sheet sheet.now).base in
+        OnOk result (page.new ≡ page.old ++ line (application_row base actor application.now)) }
 {
     let network = sheet.base.network();
     let number = sheet.trucks[application.truck() as usize];

@@ -27,7 +27,8 @@ pub(crate) fn put_nodes(page: &mut Page, network: &Network) -> Result<(), AllocE
 
 /// The segments, each without its limits.
 pub(crate) fn put_segments(page: &mut Page, network: &Network) -> Result<(), AllocError>
-    ensures { OnOk result (page.new ≡ page.old ++ text_of (map (segment_row network.now) network.now.segments)) }
+    ensures { let roads = network.now in
+        OnOk result (page.new ≡ page.old ++ text_of (map (segment_row roads) roads.segments)) }
 {
     'segments: for i in 0..network.segments() {
         let segment = network.segment(i);
@@ -53,7 +54,8 @@ pub(crate) fn put_limits(
     state: &State,
 ) -> Result<(), AllocError>
     requires { AreOf network.now state.now }
-    ensures { OnOk result (page.new ≡ page.old ++ text_of (flat_map limit_rows (roads_in_force network.now state.now).segments)) }
+    ensures { let segments = (roads_in_force network.now state.now).segments in
+        OnOk result (page.new ≡ page.old ++ text_of (flat_map limit_rows segments)) }
 {
     'segments: for i in 0..network.segments() {
         put_limits_of(page, &segment_in_force(network, state, i))?;
@@ -64,7 +66,8 @@ pub(crate) fn put_limits(
 /// The spans, each with its rating in force.
 pub(crate) fn put_spans(page: &mut Page, network: &Network, state: &State) -> Result<(), AllocError>
     requires { AreOf network.now state.now }
-    ensures { OnOk result (page.new ≡ page.old ++ text_of (map (span_row network.now) (roads_in_force network.now state.now).spans)) }
+    ensures { let spans = (roads_in_force network.now state.now).spans in
+        OnOk result (page.new ≡ page.old ++ text_of (map (span_row network.now) spans)) }
 {
     'spans: for i in 0..network.spans() {
         let span = span_in_force(network, state, i);

@@ -18,7 +18,8 @@ pub(crate) fn write_asked(
     asked: Option<&SharedRoutes>,
 ) -> Result<(), AllocError>
     requires { AreAskedThere network.now (option_map (λ n. n.now) asked) }
-    ensures { OnOk result (out.new.items ≡ out.old.items ++ routes_text network.now (option_map (λ n. n.now) asked.entry)) }
+    ensures { let routes = option_map (λ n. n.now) asked.entry in
+        OnOk result (out.new.items ≡ out.old.items ++ routes_text network.now routes) }
 {
     match asked {
         Some(routes) => write_routes(out, network, routes),

@@ -1,7 +1,6 @@
-use Rattle.std.proofs.Common.{◌∙◌, ◌≡◌, ◌++◌, List, ℕ, ap, subst, sym, true}
+use Rattle.std.proofs.Common.{◌∙◌, ◌≡◌, ◌++◌, ap, subst, sym, true}
 use Rattle.std.specs.Prelude.{OnOk}
 use Rattle.restriction_log.specs.Changes.{replaced_by, takes}
-use Rattle.office_words.specs.declared.entry.Command.{Command}
 use Rattle.day_text.specs.Bounds.{IsCommandWithin}
 use Rattle.day_text.specs.Records.{Row}
 use Rattle.day_writer.specs.Orders.{command_row, posting_row}
