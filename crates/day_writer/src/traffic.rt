@@ -14,7 +14,8 @@ use trip_analysis::{Base, Truck};
 /// The trucks of these numbers.
 pub(crate) fn put_trucks(page: &mut Page, base: &Base, trucks: &[u32]) -> Result<(), AllocError>
     requires { All (λ t. t < length base.now.fleet) trucks.now }
-    ensures { OnOk result (page.new ≡ page.old ++ text_of (map truck_row (map (truck_of base.now) trucks.now))) }
+    ensures { OnOk result (page.new ≡ page.old
+        ++ text_of (map truck_row (map (truck_of base.now) trucks.now))) }
 {
     'trucks: for i in 0..trucks.len() {
         put_truck(page, &base.fleet()[trucks[i] as usize])?;

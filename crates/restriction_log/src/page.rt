@@ -72,7 +72,8 @@ pub(crate) fn parts_with<T: Drop>(
     part: ArcSlice<T, Global>,
 ) -> Result<ArcSlice<ArcSlice<T, Global>, Global>, AllocError>
     requires { at < length parts.now }
-    ensures { IfOk result (λ copy. map arc_slice_items (arc_slice_items copy) ≡ slice_set (map arc_slice_items parts.now) at (arc_slice_items part)) }
+    ensures { IfOk result (λ copy. map arc_slice_items (arc_slice_items copy)
+        ≡ slice_set (map arc_slice_items parts.now) at (arc_slice_items part)) }
 {
     let mut copy = Vec::from_clones(alloc, parts)?;
     copy[at] = part;

@@ -68,7 +68,8 @@ impl Stamps {
     pub fn next_above(&self, number: u32, from: u32) -> Option<u32>
         ensures above { IfSome result (λ s. number < slice_index_or self.now s 0) }
         ensures within { IfSome result (λ s. (from ≤ s) × (s < length self.now)) }
-        ensures first { IfSome result (λ s. (i : ℕ) → from ≤ i → i < s → slice_index_or self.now i 0 ≤ number) }
+        ensures first { IfSome result (λ s. (i : ℕ) → from ≤ i → i < s
+            → slice_index_or self.now i 0 ≤ number) }
         ensures none { IfNone result ((i : ℕ) → from ≤ i → slice_index_or self.now i 0 ≤ number) }
     {
         let mut segment = from as usize;
